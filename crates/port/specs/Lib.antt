@@ -1,0 +1,9 @@
+pub mod Calm
+pub mod Faults
+pub mod Files
+pub mod Mem
+pub mod Moves
+pub mod Pieces
+pub mod Plan
+pub mod Stream
+pub mod Told
