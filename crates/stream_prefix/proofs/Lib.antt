@@ -1,0 +1,10 @@
+-- The lemmas.
+pub mod Derivations
+pub mod Increments
+pub mod Joins
+pub mod MaximalPrefixes
+pub mod Parts
+pub mod PrefixLaws
+pub mod Rows
+mod Examples
+mod Follow
