@@ -1,0 +1,9 @@
+pub mod StreamEvent
+pub mod Events
+pub mod Returns
+pub mod Admits
+pub mod EventFault
+pub mod Word
+pub mod Canon
+pub mod Steps
+pub mod Laws
