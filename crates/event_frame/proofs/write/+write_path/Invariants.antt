@@ -1,0 +1,6 @@
+-- The recursion goes down the slice.
+use Rattle.std.proofs.Common.{length}
+use Rattle.event_frame.proofs.write.+write_path.Given as goal
+
+abbrev pub decreases-write_path : goal.decreases-write_path
+decreases-write_path l = length l.path.now
