@@ -1,0 +1,5 @@
+pub mod Lines
+pub mod Reading
+pub mod Words
+pub mod Spells
+pub mod Laws

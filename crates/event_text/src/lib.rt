@@ -1,0 +1,13 @@
+//! Event lines: an event as a line of words, written and read.
+#![tactic(auto)]
+
+mod fault;
+pub mod laws;
+mod read;
+#[cfg(test)]
+mod tests;
+mod write;
+
+pub use fault::LineFault;
+pub use read::read_line;
+pub use write::write_line;
