@@ -1,0 +1,7 @@
+-- The lemmas.
+pub mod NameLists
+pub mod Tables
+pub mod Growth
+pub mod TableReads
+pub mod Bunches
+mod Examples
