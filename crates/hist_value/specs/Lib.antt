@@ -1,0 +1,11 @@
+-- What the contracts cite.
+pub mod HistType
+pub mod HistValue
+pub mod Wholes
+pub mod HistExpr
+pub mod Environment
+pub mod Evaluate
+pub mod Scope
+pub mod Typing
+pub mod FreeNames
+pub mod Laws

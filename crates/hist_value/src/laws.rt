@@ -1,0 +1,46 @@
+//! The laws of historical values and expressions, each the contract of a function with nothing in it.
+
+ghost use Rattle.hist_value.specs.Laws.{ValueHasPast, FullIsPrefix, FullIsMaximal, ValueOfFull, FullOfValue, ValueHasType, ValueOfFreeNames};
+
+/// The value of a whole stream is of the type of the stream's past.
+#[tactic(auto, using(crate::proofs::WholeLaws::value_has_past))]
+pub fn value_has_past()
+    ensures { ValueHasPast }
+{}
+
+/// The whole stream with a value is a prefix of the stream's type.
+#[tactic(auto, using(crate::proofs::WholeLaws::full_is_prefix))]
+pub fn full_is_prefix()
+    ensures { FullIsPrefix }
+{}
+
+/// The whole stream with a value is maximal.
+#[tactic(auto, using(crate::proofs::WholeLaws::full_is_maximal))]
+pub fn full_is_maximal()
+    ensures { FullIsMaximal }
+{}
+
+/// The whole stream that is made of a value has that value.
+#[tactic(auto, using(crate::proofs::WholeLaws::value_of_full))]
+pub fn value_of_full()
+    ensures { ValueOfFull }
+{}
+
+/// A maximal prefix is the whole stream that is made of its value.
+#[tactic(auto, using(crate::proofs::WholeLaws::full_of_value))]
+pub fn full_of_value()
+    ensures { FullOfValue }
+{}
+
+/// Where at each name that has a type stands a value of it, an expression that the rules give a type
+/// has a value of it.
+#[tactic(auto, using(crate::proofs::TypedValues::value_has_type))]
+pub fn value_has_type()
+    ensures { ValueHasType }
+{}
+
+/// The value of an expression depends on what stands at its free names alone.
+#[tactic(auto, using(crate::proofs::FreeValues::value_of_free_names))]
+pub fn value_of_free_names()
+    ensures { ValueOfFreeNames }
+{}

@@ -1,0 +1,23 @@
+//! Historical values: what whole streams were, as values that expressions reckon with.
+#![tactic(auto)]
+
+mod copying;
+mod evaluating;
+mod expr;
+mod hist_type;
+mod history;
+mod judging;
+pub mod laws;
+mod reckoning;
+mod scope;
+#[cfg(test)]
+mod tests;
+mod wholes;
+
+pub use copying::{copy_expr, copy_type, copy_value};
+pub use evaluating::value;
+pub use expr::{Expr, Op};
+pub use hist_type::HTy;
+pub use history::Value;
+pub use judging::{has_type, past};
+pub use wholes::{full, value_of};
