@@ -1,0 +1,42 @@
+use Rattle.delta_run.proofs.Returning.{status_is, status_rose, status_still, note_whole}
+use Rattle.delta_run.proofs.TextRuns.{text_prompt, text_within, text_return, text_complete, two_is_usage, usage_is_two}
+use Rattle.delta_run.proofs.text_run.run_words.Goals as goal
+
+pub returns-clause-usage : goal.returns-clause-usage
+returns-clause-usage g c two = c.run_command-end.ensures.usage (two_is_usage _ _ _ _ (status_is _ _ _ _ _ c.answer.ensures c.note-said.ensures.cause) two)
+
+pub returns-clause-command : goal.returns-clause-command
+returns-clause-command g c never = usage_is_two _ _ _ _ (status_is _ _ _ _ _ c.answer.ensures c.note-said.ensures.cause) (c.run_command-end.ensures.command never).0
+
+pub returns-clause-untouched : goal.returns-clause-untouched
+returns-clause-untouched g c never = (c.run_command-end.ensures.command never).1
+
+pub returns-clause-prompt : goal.returns-clause-prompt
+returns-clause-prompt g c file is files tells = text_prompt _ _ _ _ _ _ c.run_command-end.result (c.run_command-end.ensures.ran file is files tells)
+
+pub returns-clause-limit : goal.returns-clause-limit
+returns-clause-limit g c file is files tells = text_within _ _ _ _ _ _ c.run_command-end.result (c.run_command-end.ensures.ran file is files tells)
+
+pub returns-clause-answer : goal.returns-clause-answer
+returns-clause-answer g c = (
+  c.run_command-end.result,
+  status_is _ _ _ _ _ c.answer.ensures c.note-said.ensures.cause,
+  λ file is files tells. text_return _ _ _ _ _ _ c.run_command-end.result (c.run_command-end.ensures.ran file is files tells),
+  c.run_command-end.ensures.file,
+  c.run_command-end.ensures.read,
+  c.run_command-end.ensures.write,
+  note_whole _ _ _ _ _ _ _ _ c.answer.ensures c.note-said.ensures.cause c.note-said.ensures.said,
+)
+
+pub returns-clause-outside : goal.returns-clause-outside
+returns-clause-outside g c seven =
+    status_rose _ _ _ _ _ _ _ _ _ _ (status_is _ _ _ _ _ c.answer.ensures c.note-said.ensures.cause) seven c.run_command-end.ensures.file c.run_command-end.ensures.read c.run_command-end.ensures.write
+
+pub returns-clause-still : goal.returns-clause-still
+returns-clause-still g c =
+    status_still _ _ _ _ _ _ _ _ _ _ (status_is _ _ _ _ _ c.answer.ensures c.note-said.ensures.cause) c.run_command-end.ensures.file c.run_command-end.ensures.read c.run_command-end.ensures.write
+
+pub returns-clause-complete : goal.returns-clause-complete
+returns-clause-complete g c file is files tells file_still read write note =
+    text_complete _ _ _ _ _ _ _ _ _ _ _ _ _ _ file_still read write note _ _ c.note-said.ensures.cause c.run_command-end.result (c.run_command-end.ensures.ran file is files tells)
+    c.run_command-end.ensures.file c.run_command-end.ensures.read c.run_command-end.ensures.write c.answer.ensures

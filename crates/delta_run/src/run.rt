@@ -1,0 +1,67 @@
+//! The top call: from the words to the exit status.
+
+ghost use Rattle.std.specs.Prelude.{◌≡◌, ◌≢◌, ◌⊎◌, [], List, ℕ};
+ghost use Rattle.port.specs.Faults.{Rose};
+ghost use Rattle.delta_run.specs.declared.end.End.{End};
+ghost use Rattle.delta_run.specs.Answer.{Adds, IsStatus, IsStill, IsComplete, IsWithinLimit};
+ghost use Rattle.delta_run.specs.CommandLine.{IsRunOf};
+ghost use Rattle.delta_run.specs.End.{FileCause, ReadCause, WriteCause};
+ghost use Rattle.delta_run.specs.FirstMeaning.{IsMeant, MayRefuse};
+ghost use Rattle.delta_run.specs.Meaning.{Meaning};
+ghost use Rattle.delta_run.specs.Note.{note_of, Says};
+ghost use Rattle.delta_run.specs.Output.{due};
+ghost use Rattle.delta_run.specs.Prompt.{IsPrompt};
+ghost use Rattle.delta_run.specs.Text.{OfFile, RunsText, IsUntouched};
+
+use crate::machine::FirstMachine;
+use crate::text_run::run_words;
+use port::{Link, Shelf, Sink};
+use std::alloc::Global;
+
+/// Runs the command line that the words are, over what is outside, and answers the exit status:
+/// 0 where the input ended and its type is finished, 2 where the words are no command line, 3 where
+/// the program is refused, 4 where the input is, 6 where its type awaits more at its end, 7 at a fault
+/// outside, 8 for want of memory, and 9 for more than 2^40 input bytes. The words are those after the
+/// program's name. The last thing that is written is the note, a line to the sink that says how the run
+/// ended (`note_of` of `specs/Note.antt`).
+pub fn delta<S: Shelf, L: Link, N: Sink>(
+    alloc: Global,
+    words: &[String],
+    shelf: &mut S,
+    link: &mut L,
+    notes: &mut N,
+) -> u8
+    // Status 2 comes exactly where the words aren't `run FILE`, but for want of memory, and nothing is read or written then.
+    ensures usage { result ≡ 2 → (file : List ℕ) → IsRunOf words.now file → ⊥ }
+    ensures command { ((file : List ℕ) → IsRunOf words.now file → ⊥) → (result ≡ 2) ⊎ (result ≡ 8) }
+    ensures untouched { ((file : List ℕ) → IsRunOf words.now file → ⊥) → IsUntouched (L.log link.old) (L.log link.new) (L.left link.old) (L.left link.new) }
+    // Before each read, what was written are the header and the frames of the successive increments of the
+    // program's one-shot meaning on the accepted events of the whole frames in what was read.
+    ensures prompt { (file : List ℕ) → IsRunOf words.now file
+        → OfFile (S.holds shelf.old) file (λ text. Adds (L.log link.old) (L.log link.new) (λ moves. (moves ≡ []) ⊎ ((P : Meaning) × IsMeant P × IsPrompt (due P) moves))) }
+    // At most 2^40 bytes are read, and one more.
+    ensures limit { (file : List ℕ) → IsRunOf words.now file → OfFile (S.holds shelf.old) file (λ _. Adds (L.log link.old) (L.log link.new) IsWithinLimit) }
+    // The status is that of an end, and the end is shown by the bytes, the counts and the note.
+    ensures answer { (end : End) × IsStatus end result (N.faults notes.old) (N.faults notes.new)
+        × ((file : List ℕ) → IsRunOf words.now file → OfFile (S.holds shelf.old) file (λ text. Adds (L.log link.old) (L.log link.new) (RunsText IsMeant (MayRefuse text) end)))
+        × FileCause end (S.faults shelf.old) (S.faults shelf.new)
+        × ReadCause end (L.read_faults link.old) (L.read_faults link.new)
+        × WriteCause end (L.write_faults link.old) (L.write_faults link.new)
+        × Says (N.told notes.old) (N.told notes.new) (note_of end) ((result ≢ 8) × IsStill (N.faults notes.old) (N.faults notes.new)) }
+    // Status 7 comes only where the count of failed calls of the shelf, of the link's reads or writes, or of the sink rose.
+    ensures outside { result ≡ 7 → Rose (S.faults shelf.old) (S.faults shelf.new) ⊎ Rose (L.read_faults link.old) (L.read_faults link.new)
+        ⊎ Rose (L.write_faults link.old) (L.write_faults link.new) ⊎ Rose (N.faults notes.old) (N.faults notes.new) }
+    // Where the count of the shelf, or of the link's reads or writes, rose, the status is 7 or 8.
+    ensures still { (result ≡ 7) ⊎ (result ≡ 8) ⊎ ((S.faults shelf.new ≡ S.faults shelf.old)
+        × (L.read_faults link.new ≡ L.read_faults link.old) × (L.write_faults link.new ≡ L.write_faults link.old)) }
+    // Over an input that is good in whole, with no fault counted: done or open with all written, or want of memory,
+    // or the program was refused.
+    ensures complete { (file : List ℕ) → IsRunOf words.now file → OfFile (S.holds shelf.old) file (λ text.
+        IsStill (S.faults shelf.old) (S.faults shelf.new) → IsStill (L.read_faults link.old) (L.read_faults link.new)
+        → IsStill (L.write_faults link.old) (L.write_faults link.new) → IsStill (N.faults notes.old) (N.faults notes.new)
+        → (result ≡ 8) ⊎ ((result ≡ 3) × MayRefuse text) ⊎ ((P : Meaning) × IsMeant P × IsComplete P (L.left link.old) (L.log link.old) (L.log link.new) result)) }
+    // What the shelf holds stays.
+    ensures held { S.holds shelf.new ≡ S.holds shelf.old }
+{
+    run_words::<FirstMachine, S, L, N>(alloc, words, shelf, link, notes)
+}

@@ -1,0 +1,249 @@
+//! Whole runs over a shelf, a link and a sink in memory.
+
+use crate::delta;
+use port::{MemLink, MemShelf, MemSink, Move};
+use std::alloc::Global;
+use std::process::Abort;
+use std::test::Fail;
+
+const ONE: &[u8] = b"main(x : Int) : Int = x\n";
+
+const SWAP: &[u8] = b"main(x : Int, y : Int) : Int || Int = (y, x)\n";
+
+const TWICE: &[u8] = b"main(x : Int) : Int || Int = (x, x)\n";
+
+const LET: &[u8] = b"main(z : (Int || Int)) : Int || Int = let (a, b) = z in (b, (a))\n";
+
+const SEVEN: &[u8] = b"DEV1\0\x11\0\0\0\0\0\0\0\x07";
+
+const LEFT_THEN_RIGHT: &[u8] = b"DEV1\x01\x01\x11\0\0\0\0\0\0\0\x01\x01\x02\x11\0\0\0\0\0\0\0\x02";
+
+const RIGHT_THEN_LEFT: &[u8] = b"DEV1\x01\x02\x11\0\0\0\0\0\0\0\x02\x01\x01\x11\0\0\0\0\0\0\0\x01";
+
+/// What a run is given, and what it must write and answer.
+#[derive(Clone, Copy)]
+struct Row {
+    /// The text of the file `program`.
+    text: &'static [u8],
+    /// The input, and the size of its pieces.
+    input: &'static [u8],
+    piece: usize,
+    /// The calls that fail, by their numbers from 0.
+    fail_reads: &'static [u64],
+    fail_writes: &'static [u64],
+    fail_notes: &'static [u64],
+    /// How many bytes one write takes at most.
+    most: u64,
+    output: &'static [u8],
+    note: &'static [u8],
+    status: u8,
+}
+
+const ROW: Row = Row {
+    text: ONE,
+    input: SEVEN,
+    piece: 4096,
+    fail_reads: &[],
+    fail_writes: &[],
+    fail_notes: &[],
+    most: 4096,
+    output: b"DEV1",
+    note: b"",
+    status: 0,
+};
+
+/// Runs the words over the file `program`, and compares.
+fn check(rt: &impl Abort, alloc: Global, words: &[&str], row: Row) -> Result<(), Fail> {
+    let mut given = Vec::new(alloc);
+    for word in words {
+        given.push(String::from_str(alloc, *word)?)?;
+    }
+    let mut files = Vec::new(alloc);
+    files.push((String::from_str(alloc, "program")?, row.text.to_vec(alloc)?))?;
+    let mut pieces = Vec::new(alloc);
+    for piece in row.input.chunks(row.piece.max(1)) {
+        pieces.push(piece.to_vec(alloc)?)?;
+    }
+    let fail_reads = row.fail_reads.to_vec(alloc)?;
+    let fail_writes = row.fail_writes.to_vec(alloc)?;
+    let mut shelf = MemShelf::new(alloc, files, Vec::new(alloc));
+    let mut link = MemLink::new(alloc, pieces, fail_reads, fail_writes, row.most.max(1));
+    let mut notes = MemSink::new(alloc, row.fail_notes.to_vec(alloc)?);
+    let status = delta(alloc, &given, &mut shelf, &mut link, &mut notes);
+    let mut written = Vec::new(alloc);
+    for step in link.log() {
+        if let Move::Out(bytes) = step {
+            written.extend_from_slice(bytes.as_slice())?;
+        }
+    }
+    assert_eq!(rt; written.as_slice(), row.output);
+    assert_eq!(rt; notes.bytes(), row.note);
+    assert_eq!(rt; status, row.status);
+    Ok(())
+}
+
+#[test]
+fn programs_run(rt: HostRuntime) -> Result<(), Fail> {
+    let rows = [
+        Row {
+            output: SEVEN,
+            ..ROW
+        },
+        Row {
+            text: SWAP,
+            input: LEFT_THEN_RIGHT,
+            output: b"DEV1\x01\x02\x11\0\0\0\0\0\0\0\x01\x01\x01\x11\0\0\0\0\0\0\0\x02",
+            ..ROW
+        },
+        Row {
+            text: SWAP,
+            input: RIGHT_THEN_LEFT,
+            output: b"DEV1\x01\x01\x11\0\0\0\0\0\0\0\x02\x01\x02\x11\0\0\0\0\0\0\0\x01",
+            ..ROW
+        },
+        Row {
+            text: LET,
+            input: RIGHT_THEN_LEFT,
+            output: b"DEV1\x01\x01\x11\0\0\0\0\0\0\0\x02\x01\x02\x11\0\0\0\0\0\0\0\x01",
+            ..ROW
+        },
+        Row {
+            text: TWICE,
+            input: SEVEN,
+            output: b"DEV1\x01\x01\x11\0\0\0\0\0\0\0\x07\x01\x02\x11\0\0\0\0\0\0\0\x07",
+            ..ROW
+        },
+        Row {
+            input: b"DEV2",
+            note: b"delta: input open\n",
+            status: 6,
+            ..ROW
+        },
+        Row {
+            input: b"DEV1",
+            note: b"delta: input open\n",
+            status: 6,
+            ..ROW
+        },
+    ];
+    for row in rows {
+        check(&rt, rt.alloc(), &["run", "program"], row)?;
+        check(
+            &rt,
+            rt.alloc(),
+            &["run", "program"],
+            Row {
+                piece: 1,
+                most: 1,
+                ..row
+            },
+        )?;
+    }
+    Ok(())
+}
+
+#[test]
+fn inputs_are_refused(rt: HostRuntime) -> Result<(), Fail> {
+    let rows = [
+        Row {
+            input: b"",
+            note: b"delta: input refused: Truncated at 0\n",
+            ..ROW
+        },
+        Row {
+            input: b"DEV1\0\x11\0\0\0\0\0\0\0",
+            note: b"delta: input refused: Truncated at 13\n",
+            ..ROW
+        },
+        Row {
+            input: b"DEV1\x01\x01\x11\0\0\0\0\0\0\0\x07",
+            note: b"delta: input refused: WrongStep at 4\n",
+            ..ROW
+        },
+        Row {
+            input: b"DEV1\0\x11\0\0\0\0\0\0\0\x07\0\x11\0\0\0\0\0\0\0\x07",
+            output: SEVEN,
+            note: b"delta: input refused: Ended at 14\n",
+            ..ROW
+        },
+        Row {
+            input: b"DEV3",
+            note: b"delta: input refused: BadMagic at 3\n",
+            ..ROW
+        },
+        Row {
+            input: b"DEV1\x20",
+            note: b"delta: input refused: LongPath at 4\n",
+            ..ROW
+        },
+        Row {
+            input: b"DEV1\x01\x07",
+            note: b"delta: input refused: BadStep at 5\n",
+            ..ROW
+        },
+        Row {
+            input: b"DEV1\0\x20",
+            note: b"delta: input refused: BadLeaf at 5\n",
+            ..ROW
+        },
+    ];
+    for row in rows {
+        check(
+            &rt,
+            rt.alloc(),
+            &["run", "program"],
+            Row { status: 4, ..row },
+        )?;
+    }
+    Ok(())
+}
+
+#[test]
+fn faults_are_told(rt: HostRuntime) -> Result<(), Fail> {
+    let none = Row { output: b"", ..ROW };
+    let usage = Row {
+        note: b"delta: usage\n",
+        status: 2,
+        ..none
+    };
+    let gone = Row {
+        note: b"delta: outside fault: file\n",
+        status: 7,
+        ..none
+    };
+    let refused = Row {
+        text: b"main(x : Int, y : 1) : Int || Int = (y, x)\n",
+        note: b"delta: program refused\n",
+        status: 3,
+        ..none
+    };
+    let read = Row {
+        piece: 7,
+        fail_reads: &[1],
+        note: b"delta: outside fault: input\n",
+        status: 7,
+        ..ROW
+    };
+    let write = Row {
+        most: 4,
+        fail_writes: &[2],
+        output: b"DEV1\0\x11\0\0",
+        note: b"delta: outside fault: output\n",
+        status: 7,
+        ..ROW
+    };
+    let note = Row {
+        input: b"DEV1",
+        fail_notes: &[0],
+        status: 7,
+        ..ROW
+    };
+    check(&rt, rt.alloc(), &[], usage)?;
+    check(&rt, rt.alloc(), &["run"], usage)?;
+    check(&rt, rt.alloc(), &["run", "program", "program"], usage)?;
+    check(&rt, rt.alloc(), &["run", "gone"], gone)?;
+    for row in [refused, read, write, note] {
+        check(&rt, rt.alloc(), &["run", "program"], row)?;
+    }
+    Ok(())
+}
