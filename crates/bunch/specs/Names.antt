@@ -1,4 +1,4 @@
--- Names as numbers, and lists of names: which they hold, and what stands beside each of them.
+-- Names as numbers, lists of names and what stands beside each of them, and what stands at each name.
 use Rattle.std.specs.Prelude.{ℕ, suc, ◌==◌, Bool, false, ◌||◌, List, [], ◌∷◌, if◌then◌else◌, map}
 use Rattle.bunch.specs.declared.name.Name.{Name}
 
@@ -25,3 +25,7 @@ abbrev pub value_at : {A : Type 0} → A → List ℕ → List A → ℕ → A
 value_at d [] vs x = d
 value_at d (y ∷ ys) [] x = d
 value_at d (y ∷ ys) (v ∷ vs) x = if x == y then v else value_at d ys vs x
+
+-- a at the name x, and at each other name what g has there; what g has at x is hidden
+abbrev pub put : {A : Type 0} → ℕ → A → (ℕ → A) → ℕ → A
+put x a g y = if y == x then a else g y

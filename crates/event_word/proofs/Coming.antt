@@ -4,11 +4,11 @@ use Rattle.std.proofs.lemmas.List.{drop_more}
 use Rattle.stream_type.specs.StreamType.{StreamType}
 use Rattle.stream_prefix.specs.StreamPrefix.{StreamPrefix, emp, der, join, IsPrefix, Follows, follows}
 use Rattle.stream_prefix.proofs.Derivations.{derives, is_prefix}
-use Rattle.stream_prefix.proofs.Joins.{emp_is_prefix, join-emp, der-join, join_is_prefix, join_assoc}
+use Rattle.stream_prefix.proofs.Joins.{emp_is_prefix, join-emp, der-join, join_is_prefix, join_assoc, der-emp, join-emp-der}
 use Rattle.event_word.specs.StreamEvent.{StreamEvent}
 use Rattle.event_word.specs.Admits.{Admits}
 use Rattle.event_word.specs.Word.{one_of, after, IsWord, pre}
-use Rattle.event_word.proofs.Words.{der-emp, join-emp_right, one_of_derives, one_of_is_prefix, word_derives}
+use Rattle.event_word.proofs.Words.{one_of_derives, one_of_is_prefix, word_derives}
 
 -- of a word so much came, and the rest is a word of what that left
 pub record Comes (s : StreamType) (came : StreamPrefix) (rest word : List StreamEvent) : Type 0 where
@@ -36,7 +36,7 @@ comes_next s came x rest word h =
     }
 
 pub comes_last : (s : StreamType) (came : StreamPrefix) (word : List StreamEvent) → Comes s came [] word → came ≡ pre s word
-comes_last s came word h = sym (join-emp_right (derives s came h.came_is_prefix)) ∙ h.whole
+comes_last s came word h = sym (join-emp-der (derives s came h.came_is_prefix)) ∙ h.whole
 
 -- the next event is a prefix of what is left
 pub comes_after : (s : StreamType) (came : StreamPrefix) (x : StreamEvent) (rest word : List StreamEvent) → Comes s came (x ∷ rest) word → Follows came (one_of x (der came s))

@@ -4,14 +4,14 @@ use Rattle.std.specs.Prelude.{IsTrue}
 use Rattle.stream_type.specs.StreamType.{StreamType, eps, one, int, cat, par, sum, star}
 use Rattle.stream_prefix.specs.StreamPrefix.{StreamPrefix, par_both, cat_fst, cat_both, emp, is_maximal, der, join, IsPrefix}
 use Rattle.stream_prefix.proofs.Derivations.{Derives, derives, eps_has_emp, one_has_emp, one_has_full, int_has_emp, int_has_full, par_has_both, cat_has_fst, cat_has_both, sum_has_emp, sum_has_left, sum_has_right, star_has_emp, star_has_done, star_has_first, star_has_rest}
-use Rattle.stream_prefix.proofs.Joins.{emp_is_prefix, join-emp, null_of-der}
+use Rattle.stream_prefix.proofs.Joins.{emp_is_prefix, join-emp, null_of-der, der-emp, join-emp-der}
 use Rattle.event_word.specs.declared.event.Step.TheVariants.{Left, Right, First}
 use Rattle.event_word.specs.declared.event.Leaf.TheVariants.{Inl, Inr, Cut, Item}
 use Rattle.event_word.specs.StreamEvent.{StreamEvent, under, leaf_of}
 use Rattle.event_word.specs.Admits.{Admits}
 use Rattle.event_word.specs.Word.{one_of, after, IsWord, pre}
 use Rattle.event_word.specs.Canon.{canon}
-use Rattle.event_word.proofs.Words.{der-emp, join-emp_right, word_join, pre-append}
+use Rattle.event_word.proofs.Words.{word_join, pre-append}
 
 -- events on one side of a pair, or in the first part of a sequence
 left_word : (s t : StreamType) (w : List StreamEvent) → IsWord s w → IsWord (par s t) (map (under Left) w)
@@ -63,7 +63,7 @@ spells_both {s = s} {t = t} {p = p} {q = q} v w h m k a b =
     record { word = first_word s t v a.word; means = first_pre s t v a.word ∙ ap cat_fst a.means } in
     let back = spells_more (cat (der p s) t) t (leaf_of Cut) w q (null_of-der h ∙ m) (der-emp t) b in
     let whole = spells_append (cat s t) (cat (der p s) t) _ _ _ _ front refl back in
-    rw (join-emp_right h, join-emp k) at whole
+    rw (join-emp-der h, join-emp k) at whole
 
 -- the canonical word is a word and stands for its prefix
 canon_spells : {s : StreamType} {p : StreamPrefix} → Derives s p → Spells s (canon p) p
@@ -80,7 +80,7 @@ canon_spells (par_has_both {s = s} {t = t} {p = p} {q = q} h k) =
     let back : Spells (par (der p s) t) (map (under Right) (canon q)) (par_both (emp (der p s)) q) =
     record { word = right_word (der p s) t (canon q) b.word; means = right_pre (der p s) t (canon q) b.word ∙ ap (par_both (emp (der p s))) b.means } in
     let whole = spells_append (par s t) (par (der p s) t) _ _ _ _ front (ap (par (der p s)) (der-emp t)) back in
-    rw (join-emp_right h, join-emp k) at whole
+    rw (join-emp-der h, join-emp k) at whole
 canon_spells (cat_has_fst {s = s} {t = t} {p = p} h) =
     let a = canon_spells h in
     record { word = first_word s t (canon p) a.word; means = first_pre s t (canon p) a.word ∙ ap cat_fst a.means }

@@ -4,41 +4,13 @@ use Rattle.std.specs.Prelude.{IsTrue}
 use Rattle.stream_type.specs.StreamType.{StreamType, eps, one, int, cat, par, sum, star, null_of, reach_of}
 use Rattle.stream_prefix.specs.StreamPrefix.{StreamPrefix, emp, is_maximal, der, join, IsPrefix}
 use Rattle.stream_prefix.proofs.Derivations.{Derives, is_prefix, eps_has_emp, one_has_emp, one_has_full, int_has_emp, int_has_full, par_has_both, cat_has_fst, cat_has_both, sum_has_emp, sum_has_left, sum_has_right, star_has_emp, star_has_done, star_has_first, star_has_rest}
-use Rattle.stream_prefix.proofs.Joins.{emp_is_prefix, join-emp, der-join, join_is_prefix, join_assoc, null_of-der, reach_of-der}
+use Rattle.stream_prefix.proofs.Joins.{emp_is_prefix, der-emp, join-emp, join-emp-der, der-join, join_is_prefix, join_assoc, null_of-der, reach_of-der}
 use Rattle.event_word.specs.declared.event.Step.{Step}
 use Rattle.event_word.specs.declared.event.Leaf.{Leaf}
 use Rattle.event_word.specs.StreamEvent.{StreamEvent}
 use Rattle.event_word.specs.Admits.{Admits}
 use Rattle.event_word.specs.Word.{one_at, one_of, after, after_word, IsWord, pre}
 use Rattle.event_word.proofs.Standing.{Stands, stands, at_left, at_right, at_first, at_cut, at_one, at_int, at_inl, at_inr, at_item, at_end}
-
--- nothing has come, so all is left
-pub der-emp : (s : StreamType) → der (emp s) s ≡ s
-der-emp eps = refl
-der-emp one = refl
-der-emp int = refl
-der-emp (cat s t) = cc (der-emp s)
-der-emp (par s t) = cc (der-emp s, der-emp t)
-der-emp (sum s t) = refl
-der-emp (star s) = refl
-
--- nothing may come after a prefix
-pub join-emp_right : {s : StreamType} {p : StreamPrefix} → Derives s p → join p (emp (der p s)) ≡ p
-join-emp_right eps_has_emp = refl
-join-emp_right one_has_emp = refl
-join-emp_right one_has_full = refl
-join-emp_right int_has_emp = refl
-join-emp_right int_has_full = refl
-join-emp_right (par_has_both h k) = cc (join-emp_right h, join-emp_right k)
-join-emp_right (cat_has_fst h) = cc (join-emp_right h)
-join-emp_right (cat_has_both h m k) = cc (join-emp_right k)
-join-emp_right sum_has_emp = refl
-join-emp_right (sum_has_left h) = cc (join-emp_right h)
-join-emp_right (sum_has_right h) = cc (join-emp_right h)
-join-emp_right star_has_emp = refl
-join-emp_right star_has_done = refl
-join-emp_right (star_has_first h) = cc (join-emp_right h)
-join-emp_right (star_has_rest h m k) = cc (join-emp_right k)
 
 -- the empty prefix of a null type is whole
 is_maximal-emp : (s : StreamType) → IsTrue (null_of s) → IsTrue (is_maximal (emp s))
@@ -119,7 +91,7 @@ word_push s w x h k = word_join s w (x ∷ []) h (k, tt)
 -- the prefix of a word and one event more
 pub pre-push : (s : StreamType) (w : List StreamEvent) (x : StreamEvent) → IsWord s w → Admits (der (pre s w) s) x → pre s (w ++ x ∷ []) ≡ join (pre s w) (one_of x (der (pre s w) s))
 pre-push s w x h k =
-    pre-append s w (x ∷ []) (word_push s w x h k) ∙ ap (join (pre s w)) (join-emp_right (one_of_derives (der (pre s w) s) x k))
+    pre-append s w (x ∷ []) (word_push s w x h k) ∙ ap (join (pre s w)) (join-emp-der (one_of_derives (der (pre s w) s) x k))
 
 -- what a word and one event more leave
 pub after_word-push : (s : StreamType) (w : List StreamEvent) (x : StreamEvent) → after_word (w ++ x ∷ []) s ≡ after x (after_word w s)

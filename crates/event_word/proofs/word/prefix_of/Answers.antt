@@ -2,8 +2,8 @@ use Rattle.std.proofs.Common.{◌≡◌, sym, drop, ◌+◌, arith, [], subst}
 use Rattle.std.proofs.lemmas.List.{drop_all}
 use Rattle.stream_type.specs.StreamType.{type_of}
 use Rattle.stream_prefix.specs.Tree.{prefix_of}
+use Rattle.stream_prefix.proofs.Joins.{der-emp}
 use Rattle.event_word.proofs.Coming.{Comes, comes_at, comes_first, comes_next, comes_last, comes_after, admits_next, leaves_next}
-use Rattle.event_word.proofs.Words.{der-emp}
 use Rattle.event_word.proofs.word.prefix_of.Goals as goal
 
 pub loop-x-init : goal.loop-x-init
