@@ -3,40 +3,40 @@ use Rattle.std.proofs.Common.{◌≡◌, ℕ, ◌==◌, Bool, true, false, not, 
 use Rattle.std.specs.Prelude.{if◌then◌else◌}
 use Rattle.hist_value.specs.HistValue.{HistValue, pair_of, left_of, right_of, item_before}
 use Rattle.hist_value.specs.HistExpr.{HistExpr, variable, literal, unit_expr, reckoned, pair_expr, first_expr, second_expr, left_expr, right_expr, choice, nil_expr, cons_expr, fold_expr}
-use Rattle.hist_value.specs.Environment.{put}
+use Rattle.bunch.specs.Names.{put}
 use Rattle.hist_value.specs.Evaluate.{value, reckon_values, first_of, second_of, choose, cons_of, gather}
 use Rattle.hist_value.specs.FreeNames.{is_free}
 use Rattle.hist_value.specs.Laws.{ValueOfFreeNames}
 
--- where the test holds, the two environments have one value
-abbrev Same : (ℕ → Bool) → (ℕ → HistValue) → (ℕ → HistValue) → Type 0
+-- where the test holds, the two environments have the same
+abbrev pub Same : {A : Type 0} → (ℕ → Bool) → (ℕ → A) → (ℕ → A) → Type 0
 Same test p q = (z : ℕ) → test z ≡ true → p z ≡ q z
 
-in_first : (a b : Bool) → a ≡ true → (a || b) ≡ true
+pub in_first : (a b : Bool) → a ≡ true → (a || b) ≡ true
 in_first a b h = ap (λ c. c || b) h
 
-in_second : (a b : Bool) → b ≡ true → (a || b) ≡ true
+pub in_second : (a b : Bool) → b ≡ true → (a || b) ≡ true
 in_second true b h = refl
 in_second false b h = h
 
 -- under a bound name
-pick : (b c : Bool) (v p q : HistValue) → ((not b && c) ≡ true → p ≡ q) → c ≡ true → (if b then v else p) ≡ (if b then v else q)
+pick : {A : Type 0} (b c : Bool) (v p q : A) → ((not b && c) ≡ true → p ≡ q) → c ≡ true → (if b then v else p) ≡ (if b then v else q)
 pick true c v p q h k = refl
 pick false c v p q h k = h k
 
-under : (test : ℕ → Bool) (x : ℕ) (v : HistValue) (p q : ℕ → HistValue) → Same (λ z. not (z == x) && test z) p q → Same test (put x v p) (put x v q)
+pub under : {A : Type 0} (test : ℕ → Bool) (x : ℕ) (v : A) (p q : ℕ → A) → Same (λ z. not (z == x) && test z) p q → Same test (put x v p) (put x v q)
 under test x v p q h z k = pick (z == x) (test z) v (p z) (q z) (h z) k
 
-choose-same : (f f2 g g2 : HistValue → HistValue) (v : HistValue) → ((w : HistValue) → f w ≡ f2 w) → ((w : HistValue) → g w ≡ g2 w) → choose f g v ≡ choose f2 g2 v
+pub choose-same : (f f2 g g2 : HistValue → HistValue) (v : HistValue) → ((w : HistValue) → f w ≡ f2 w) → ((w : HistValue) → g w ≡ g2 w) → choose f g v ≡ choose f2 g2 v
 choose-same f f2 g g2 (left_of v) h k = h v
 choose-same f f2 g g2 (right_of v) h k = k v
 choose-same f f2 g g2 _ h k = refl
 
-gather-same : (f f2 : HistValue → HistValue → HistValue) → ((g w : HistValue) → f g w ≡ f2 g w) → (g v : HistValue) → gather f g v ≡ gather f2 g v
+pub gather-same : (f f2 : HistValue → HistValue → HistValue) → ((g w : HistValue) → f g w ≡ f2 g w) → (g v : HistValue) → gather f g v ≡ gather f2 g v
 gather-same f f2 h g (item_before v w) = gather-same f f2 h (f g v) w ∙ ap (λ u. gather f2 u w) (h g v)
 gather-same f f2 h g _ = refl
 
-self_equal : (x : ℕ) → (x == x) ≡ true
+pub self_equal : (x : ℕ) → (x == x) ≡ true
 self_equal x = grind arith
 
 same : (e : HistExpr) (p q : ℕ → HistValue) → Same (λ z. is_free z e) p q → value e p ≡ value e q

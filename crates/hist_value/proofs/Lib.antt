@@ -1,8 +1,11 @@
 -- The lemmas.
 mod Examples
+pub mod FreeJudgments
 pub mod FreeValues
+pub mod Judgments
 pub mod ListForms
 pub mod Lists
+pub mod Renamings
 pub mod Rows
 pub mod TypedValues
 pub mod WholeLaws

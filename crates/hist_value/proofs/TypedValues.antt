@@ -7,7 +7,7 @@ use Rattle.hist_value.specs.declared.expr.Op.TheVariants.{Add, Sub, Mul, Div, Le
 use Rattle.hist_value.specs.HistType.{HistType, unit_type, int_type, pair_type, sum_type, list_type}
 use Rattle.hist_value.specs.HistValue.{HistValue}
 use Rattle.hist_value.specs.HistExpr.{HistExpr}
-use Rattle.hist_value.specs.Environment.{put}
+use Rattle.bunch.specs.Names.{put}
 use Rattle.hist_value.specs.Evaluate.{value, truth, reckon_values, first_of, second_of, choose, cons_of, gather}
 use Rattle.hist_value.specs.Typing.{type_of_op, Gives, gives_variable, gives_literal, gives_unit, gives_reckoned, gives_pair, gives_wanted_pair, gives_first, gives_second, gives_left, gives_right, gives_choice, gives_nil, gives_cons, gives_wanted_cons, gives_fold}
 use Rattle.hist_value.specs.Laws.{ValueHasType}

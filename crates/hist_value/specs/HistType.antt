@@ -1,4 +1,5 @@
 -- What the types of historical values are, as plain data.
+use Rattle.std.specs.Prelude.{Bool, true, false, ◌&&◌}
 use Rattle.stream_type.specs.StreamType.{StreamType, eps, one, int, cat, par, sum, star}
 use Rattle.hist_value.specs.declared.hist_type.HTy.{HTy}
 use Rattle.hist_value.specs.declared.hist_type.HTy.TheVariants.{Unit as IsUnit, Int, Pair', Sum', List'}
@@ -28,3 +29,12 @@ past (cat s t) = pair_type (past s) (past t)
 past (par s t) = pair_type (past s) (past t)
 past (sum s t) = sum_type (past s) (past t)
 past (star s) = list_type (past s)
+
+-- whether both are the same type
+abbrev pub same_type : HistType → HistType → Bool
+same_type unit_type unit_type = true
+same_type int_type int_type = true
+same_type (pair_type s t) (pair_type u v) = same_type s u && same_type t v
+same_type (sum_type s t) (sum_type u v) = same_type s u && same_type t v
+same_type (list_type s) (list_type u) = same_type s u
+same_type _ _ = false

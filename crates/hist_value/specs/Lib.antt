@@ -7,5 +7,8 @@ pub mod Environment
 pub mod Evaluate
 pub mod Scope
 pub mod Typing
+pub mod Refusal
+pub mod Judge
+pub mod Renaming
 pub mod FreeNames
 pub mod Laws

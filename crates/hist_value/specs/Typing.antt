@@ -7,7 +7,7 @@ use Rattle.hist_value.specs.declared.expr.Op.{Op}
 use Rattle.hist_value.specs.declared.expr.Op.TheVariants.{Add, Sub, Mul, Div, Less, Same}
 use Rattle.hist_value.specs.HistType.{HistType, unit_type, int_type, pair_type, sum_type, list_type}
 use Rattle.hist_value.specs.HistExpr.{HistExpr, variable, literal, unit_expr, reckoned, pair_expr, first_expr, second_expr, left_expr, right_expr, choice, nil_expr, cons_expr, fold_expr}
-use Rattle.hist_value.specs.Environment.{put}
+use Rattle.bunch.specs.Names.{put}
 
 -- the type of what is reckoned with two numbers
 abbrev pub type_of_op : Op → HistType

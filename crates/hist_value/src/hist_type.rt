@@ -2,7 +2,7 @@
 
 /// The type of a historical value. Contracts see it as a `HistType` by `hist_type_of`
 /// (`specs/HistType.antt`).
-#[derive(Drop)]
+#[derive(Drop, Debug)]
 pub enum HTy {
     /// One value that carries nothing.
     Unit,

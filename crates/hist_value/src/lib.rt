@@ -4,6 +4,7 @@
 mod copying;
 mod evaluating;
 mod expr;
+mod fault;
 mod hist_type;
 mod history;
 mod judging;
@@ -12,12 +13,16 @@ mod reckoning;
 mod scope;
 #[cfg(test)]
 mod tests;
+mod type_scope;
+mod typing;
 mod wholes;
 
 pub use copying::{copy_expr, copy_type, copy_value};
 pub use evaluating::value;
 pub use expr::{Expr, Op};
+pub use fault::HistFault;
 pub use hist_type::HTy;
 pub use history::Value;
 pub use judging::{has_type, past};
+pub use typing::type_of;
 pub use wholes::{full, value_of};

@@ -1,4 +1,4 @@
-//! Scopes: an environment, and the names that are bound inside.
+//! Scopes: an environment of values, and the names that are bound inside.
 
 ghost use Rattle.std.specs.Prelude.{◌≡◌, IfOk};
 ghost use Rattle.hist_value.specs.Environment.{entry_at, entries_of};
