@@ -1,0 +1,3 @@
+-- The lemmas.
+mod Examples
+pub mod Rows

@@ -1,0 +1,17 @@
+//! The syntax tree of a program: what the parser makes of a text, and what the printer, the meaning
+//! and the checker start from.
+#![tactic(auto)]
+
+mod contexts;
+mod copying;
+mod expressions;
+mod programs;
+#[cfg(test)]
+mod tests;
+mod types;
+
+pub use contexts::Ctx;
+pub use copying::{copy_hist, copy_type_exp};
+pub use expressions::{Exp, Form, Head, HeadForm, Hist};
+pub use programs::{Alias, Decl, Fun, Program};
+pub use types::{TyExp, TyForm};

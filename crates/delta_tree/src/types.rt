@@ -1,0 +1,35 @@
+//! The tree of a type as it is written.
+
+use bunch::Name;
+
+/// A type as it is written. Contracts see it as a `WrittenType` by `type_tree_of` (`specs/Tree.antt`).
+#[cycle(written_type)]
+#[derive(Drop)]
+pub struct TyExp {
+    /// The byte place of its first token.
+    pub at: u32,
+    /// What is written there.
+    pub form: TyForm,
+}
+
+/// What a written type is.
+#[cycle(written_type)]
+#[derive(Drop)]
+pub enum TyForm {
+    /// `eps`: nothing comes.
+    Eps,
+    /// `1`: one mark that carries nothing.
+    One,
+    /// `Int`: one number.
+    Int,
+    /// The type that was declared with this name.
+    Named(Name),
+    /// `s . t`: the whole of the first, then the second.
+    Cat(Box<TyExp>, Box<TyExp>),
+    /// `s || t`: both at once.
+    Par(Box<TyExp>, Box<TyExp>),
+    /// `s + t`: one of the two.
+    Sum(Box<TyExp>, Box<TyExp>),
+    /// `s*`: any number of them.
+    Star(Box<TyExp>),
+}
