@@ -4,7 +4,8 @@ use Rattle.stream_type.specs.StreamType.{eps, one, int}
 use Rattle.stream_prefix.specs.StreamPrefix.{StreamPrefix, eps_emp, one_full, int_emp, int_full, par_both, cat_fst, cat_both, is_maximal, IsPrefix}
 use Rattle.bunch.specs.BunchTree.{BunchTree, IsDistinct, as_type, empty, leaf, comma, semi, stands_before}
 use Rattle.core_term.proofs.Sides.{all-holds}
-use Rattle.core_term.specs.Environment.{Environment, put, empty_at, left_at, joined}
+use Rattle.bunch.specs.Names.{put}
+use Rattle.core_term.specs.Environment.{Environment, empty_at, left_at, joined}
 use Rattle.core_term.specs.Agreement.{types_in, AgreesInTree, Agrees}
 use Rattle.core_term.specs.Split.{split, split_after, gathered}
 

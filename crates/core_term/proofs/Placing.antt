@@ -4,7 +4,8 @@ use Rattle.std.proofs.lemmas.Bool.{eqb-true}
 use Rattle.std.specs.Prelude.{IsTrue}
 use Rattle.std.specs.List.{list_all}
 use Rattle.stream_type.specs.StreamType.{StreamType}
-use Rattle.core_term.specs.Environment.{Environment, NameTypes, put}
+use Rattle.bunch.specs.Names.{put}
+use Rattle.core_term.specs.Environment.{Environment, NameTypes}
 use Rattle.stream_prefix.specs.StreamPrefix.{StreamPrefix, emp, is_maximal}
 use Rattle.bunch.specs.Facts.{before_like, after_like, before_let, after_let, Facts, place_like, put_before}
 use Rattle.core_term.specs.Agreement.{Agrees}

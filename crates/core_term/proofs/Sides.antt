@@ -2,9 +2,9 @@
 use Rattle.std.proofs.Common.{◌≡◌, ◌≢◌, ◌∙◌, ℕ, Bool, true, false, true≢false, ◌&&◌, ◌||◌, ◌⊎◌, inl, inr, List, [], ◌∷◌, ◌++◌, eqb, if◌then◌else◌, ap, refl, sym, subst}
 use Rattle.std.proofs.lemmas.Bool.{eqb-true, eq-eqb, ne_eqb}
 use Rattle.std.specs.List.{list_all}
-use Rattle.bunch.specs.Names.{holds}
+use Rattle.bunch.specs.Names.{holds, put}
 use Rattle.bunch.proofs.NameLists.{holds-append}
-use Rattle.core_term.specs.Environment.{by_side, put}
+use Rattle.core_term.specs.Environment.{by_side}
 
 pub or_split : (a b : Bool) → (a || b) ≡ true → (a ≡ true) ⊎ (b ≡ true)
 or_split true b h = inl refl

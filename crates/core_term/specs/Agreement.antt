@@ -4,7 +4,8 @@ use Rattle.std.specs.Prelude.{ℕ, ◌≡◌, ◌⊎◌, IsTrue, true, ⊤}
 use Rattle.stream_prefix.specs.StreamPrefix.{emp, is_maximal}
 use Rattle.bunch.specs.BunchTree.{BunchTree, empty, leaf, comma, semi, leaf_names}
 use Rattle.bunch.specs.Facts.{Facts}
-use Rattle.core_term.specs.Environment.{Environment, NameTypes, put, by_side, untyped, IsWholeOn, IsEmptyOn}
+use Rattle.bunch.specs.Names.{put}
+use Rattle.core_term.specs.Environment.{Environment, NameTypes, by_side, untyped, IsWholeOn, IsEmptyOn}
 
 -- the type of each name of a bunch
 abbrev pub types_in : BunchTree → NameTypes

@@ -4,7 +4,7 @@
 -- - An environment, like the types of names, is a function of every name, so that no statement asks
 --   whether a name is there. A name that nothing binds has type `eps` and its empty prefix.
 -- - Environments are joined and compared name by name, as prefixes are.
-use Rattle.std.specs.Prelude.{ℕ, ◌==◌, if◌then◌else◌, ◌≡◌, IsTrue, List, true}
+use Rattle.std.specs.Prelude.{ℕ, if◌then◌else◌, ◌≡◌, IsTrue, List, true}
 use Rattle.stream_type.specs.StreamType.{StreamType, eps}
 use Rattle.stream_prefix.specs.StreamPrefix.{StreamPrefix, eps_emp, emp, is_maximal, der, join, IsPrefix, IsPart}
 use Rattle.bunch.specs.Names.{holds}
@@ -16,10 +16,6 @@ Environment = ℕ → StreamPrefix
 -- the type of each name
 abbrev pub NameTypes : Type 0
 NameTypes = ℕ → StreamType
-
--- v for the name x, which hides what f has for it
-abbrev pub put : {A : Type 0} → ℕ → A → (ℕ → A) → ℕ → A
-put x v f y = if y == x then v else f y
 
 -- the first for the names of the list, and for all others the second
 abbrev pub by_side : {A : Type 0} → List ℕ → (ℕ → A) → (ℕ → A) → ℕ → A

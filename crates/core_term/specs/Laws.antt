@@ -1,10 +1,14 @@
 -- The laws of contexts, over all bunches, orders and environments.
-use Rattle.std.specs.Prelude.{ℕ, ◌≡◌, ◌⊎◌, ◌↔◌, Bool, true, List, IsTrue}
+use Rattle.std.specs.Prelude.{ℕ, ◌≡◌, ◌⊎◌, ◌↔◌, Bool, true, List, IsTrue, None}
 use Rattle.stream_type.specs.StreamType.{StreamType}
 use Rattle.stream_prefix.specs.StreamPrefix.{StreamPrefix, IsPrefix, IsPart, is_maximal, emp, der, join}
 use Rattle.bunch.specs.BunchTree.{BunchTree, IsDistinct, leaf_names, as_type, stands_before}
 use Rattle.bunch.specs.Facts.{Facts, place_like, place_let, put_before}
-use Rattle.core_term.specs.Environment.{Environment, NameTypes, put, empty_at, left_at, joined, IsTyped, IsTypedOn, IsPartAt, IsWhole, IsWholeOn, IsEmptyOn}
+use Rattle.bunch.specs.Names.{put}
+use Rattle.core_term.specs.CoreTerm.{CoreProgram}
+use Rattle.core_term.specs.Typing.{IsTypedCore}
+use Rattle.core_term.specs.TypeFaults.{first_fault}
+use Rattle.core_term.specs.Environment.{Environment, NameTypes, empty_at, left_at, joined, IsTyped, IsTypedOn, IsPartAt, IsWhole, IsWholeOn, IsEmptyOn}
 use Rattle.core_term.specs.Agreement.{types_in, AgreesInTree, Agrees}
 use Rattle.core_term.specs.Split.{split, split_after, gathered, SplitsInto, HasEachMark}
 
@@ -107,3 +111,7 @@ abbrev pub BeforeAgrees : Type 0
 BeforeAgrees =
     (types : NameTypes) (before : Facts) (env : Environment) (x y : ℕ)
     → (Agrees types before env × (IsTrue (is_maximal (env x)) ⊎ (env y ≡ emp (types y)))) ↔ Agrees types (put_before x y before) env
+
+-- a program is typed exactly where none of its nodes breaks a rule
+abbrev pub TypedIsUnbroken : Type 0
+TypedIsUnbroken = (c : CoreProgram) → IsTypedCore c ↔ (first_fault c ≡ None)

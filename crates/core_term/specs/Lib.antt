@@ -1,5 +1,19 @@
 -- What the contracts cite.
+pub mod CoreTerm
+pub mod FreeNames
+pub mod Around
 pub mod Environment
 pub mod Agreement
 pub mod Split
+pub mod Parts
+pub mod Run
+pub mod Meaning
+pub mod Level
+pub mod Inert
+pub mod Typing
+pub mod TypeFaults
+pub mod CheckedCores
 pub mod Laws
+pub mod FreePast
+pub mod Renaming
+pub mod MeaningLaws

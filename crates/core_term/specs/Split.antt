@@ -8,7 +8,8 @@ use Rattle.std.specs.Prelude.{◌≡◌, if◌then◌else◌, false, ⊤}
 use Rattle.std.specs.List.{list_all}
 use Rattle.stream_prefix.specs.StreamPrefix.{StreamPrefix, eps_emp, par_both, cat_fst, cat_both, is_maximal, IsPrefix}
 use Rattle.bunch.specs.BunchTree.{BunchTree, empty, leaf, comma, semi, leaf_names, as_type}
-use Rattle.core_term.specs.Environment.{Environment, put, by_side, nothing, empty_at, left_at, IsSameOn}
+use Rattle.bunch.specs.Names.{put}
+use Rattle.core_term.specs.Environment.{Environment, by_side, nothing, empty_at, left_at, IsSameOn}
 use Rattle.core_term.specs.Agreement.{types_in}
 
 -- each name's part of a prefix: before the mark of a semicolon nothing has come on its right

@@ -1,7 +1,8 @@
-//! The laws of contexts, each the contract of a function with nothing in it. What they speak of stands
-//! in `specs/Environment.antt`, `specs/Agreement.antt` and `specs/Split.antt`.
+//! The laws of contexts, and of what terms and programs mean, each the contract of a function with nothing
+//! in it. What those of contexts speak of stands in `specs/Environment.antt`, `specs/Agreement.antt` and
+//! `specs/Split.antt`; the others stand in `specs/MeaningLaws.antt`.
 
-ghost use Rattle.core_term.specs.Laws.{TreeFormIsOrderForm, SplitIsTyped, SplitAgrees, GatheredSplits, GatheredIsGreatest, GatheredHasEachMark, GatheredIsUnique, SplitKeepsParts, SplitOfJoin, SplitAfterIsTyped, SplitAfterAgrees, SplitOfEmpty, SplitOfWhole, RestAgrees, JoinAgrees, StepAgrees, LikeAgrees, LetAgrees, BeforeAgrees};
+ghost use Rattle.core_term.specs.Laws.{TreeFormIsOrderForm, SplitIsTyped, SplitAgrees, GatheredSplits, GatheredIsGreatest, GatheredHasEachMark, GatheredIsUnique, SplitKeepsParts, SplitOfJoin, SplitAfterIsTyped, SplitAfterAgrees, SplitOfEmpty, SplitOfWhole, RestAgrees, JoinAgrees, StepAgrees, LikeAgrees, LetAgrees, BeforeAgrees, TypedIsUnbroken};
 
 /// In a bunch with distinct names an environment agrees with the bunch by cases exactly where it
 /// agrees with the facts of the bunch's order.
@@ -125,4 +126,89 @@ pub fn let_agrees()
 /// with the order, and x is whole or nothing has come on y.
 pub fn before_agrees()
     ensures { BeforeAgrees }
+{}
+
+/// A program is typed exactly where none of its nodes breaks a rule.
+pub fn typed_is_unbroken()
+    ensures { TypedIsUnbroken }
+{}
+
+// The laws of what terms and programs mean.
+
+ghost use Rattle.core_term.specs.MeaningLaws.{RunOfFreeNames, RunIsTyped, MeanIsTyped, RunGrows, MeanGrows, RunIsWhole, MeanIsWhole, InertBodies, InertGivesNothing, InertMainGivesNothing, LevelIsFromAbove, MeanLevelIsFromAbove, RenamedRun, RenamedProgramRun};
+
+/// What a term gives, the calls that it makes and their level depend on its free stream names, with
+/// their types, and on its free historical names alone.
+#[tactic(auto, using(crate::proofs::FreeRuns::run_of_free_names))]
+pub fn run_of_free_names()
+    ensures { RunOfFreeNames }
+{}
+
+/// A typed term gives a prefix of its type, at each depth.
+pub fn run_is_typed()
+    ensures { RunIsTyped }
+{}
+
+/// A typed program gives a prefix of its result's type.
+#[tactic(auto, using(crate::proofs::TypedRuns::mean_is_typed))]
+pub fn mean_is_typed()
+    ensures { MeanIsTyped }
+{}
+
+/// A typed term gives no less on more input, and makes no fewer calls, at each depth.
+pub fn run_grows()
+    ensures { RunGrows }
+{}
+
+/// A typed program gives no less on more input, and makes no fewer calls.
+pub fn mean_grows()
+    ensures { MeanGrows }
+{}
+
+/// Where the free stream names of a typed term are whole and it makes no more calls than its depth,
+/// what it gives is whole.
+pub fn run_is_whole()
+    ensures { RunIsWhole }
+{}
+
+/// On a whole stream a typed program gives a whole stream, where its calls stay within the horizon.
+pub fn mean_is_whole()
+    ensures { MeanIsWhole }
+{}
+
+/// The rounds that find the inert functions come to an end: the body of each that is left is inert,
+/// where those that are left count as inert.
+pub fn inert_bodies()
+    ensures { InertBodies }
+{}
+
+/// A typed inert term gives nothing, at each depth, where nothing has come on its free stream names.
+pub fn inert_gives_nothing()
+    ensures { InertGivesNothing }
+{}
+
+/// A typed program whose body is inert gives nothing before anything has come.
+pub fn inert_main_gives_nothing()
+    ensures { InertMainGivesNothing }
+{}
+
+/// The level that a run counts from below is the one counted from above, at each depth.
+pub fn level_is_from_above()
+    ensures { LevelIsFromAbove }
+{}
+
+/// A program's level is the one counted from above, where its body stands at level 0.
+pub fn mean_level_is_from_above()
+    ensures { MeanLevelIsFromAbove }
+{}
+
+/// Terms that are alike but for names give the same, make as many calls and have the same level, where
+/// the same stands at each name and at the one that it became.
+pub fn renamed_run()
+    ensures { RenamedRun }
+{}
+
+/// Programs that are alike but for names run alike, where the second binds each name once.
+pub fn renamed_program_run()
+    ensures { RenamedProgramRun }
 {}

@@ -1,4 +1,20 @@
-//! Core terms; so far their contexts alone: what environments of a bunch and of an order are.
+//! The core language: its terms, and in `specs/` what they mean and which are typed.
 #![tactic(auto)]
 
+mod around;
+mod checked;
+mod copying;
 pub mod laws;
+mod names;
+mod program;
+mod reading;
+mod term;
+#[cfg(test)]
+mod tests;
+
+pub use checked::Checked;
+pub use copying::{copy, copy_core};
+pub use names::free;
+pub use program::{Body, Core};
+pub use reading::{body_of, fits};
+pub use term::{Node, Term};

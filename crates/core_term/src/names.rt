@@ -1,0 +1,106 @@
+//! The free stream names of a core term.
+
+ghost use Rattle.std.specs.Prelude.{◌≡◌, [], ◌∷◌, IfOk, OnOk, map};
+ghost use Rattle.bunch.specs.Names.{numbers_of, holds};
+ghost use Rattle.core_term.specs.Around.{names_around, less};
+ghost use Rattle.core_term.specs.CoreTerm.{term_of, terms_from};
+ghost use Rattle.core_term.specs.FreeNames.{free_names, free_in_terms, add_new, once};
+
+use crate::around::{Around, is_around};
+use crate::term::{Node, Term};
+use bunch::Name;
+use std::alloc::Global;
+use stream_type::Memory;
+
+/// The stream names that occur free in the term, each once, in the order of first use: `once` of
+/// `free_names` in `specs/FreeNames.antt`. Its only error is want of memory.
+pub fn free(alloc: Global, n: &Node) -> Result<Vec<Name>, Memory>
+    ensures { IfOk result (λ v. numbers_of v.items ≡ once (free_names (term_of n.now))) }
+{
+    let mut found = Vec::new(alloc);
+    add_free(n, &Around::Nothing, &mut found)?;
+    Ok(found)
+}
+
+// Adds the free names of the term that aren't bound around it and weren't found before.
+#[cycle(free)]
+#[tactic(auto, using(crate::proofs::Rows::rows, crate::proofs::NameLists::new_names))]
+fn add_free<'a>(n: &Node, around: &'a Around<'a>, found: &mut Vec<Name>) -> Result<(), Memory>
+    ensures { OnOk result (numbers_of found.new.items
+        ≡ add_new (numbers_of found.old.items) (less (names_around around.now) (free_names (term_of n.now)))) }
+{
+    match &n.term {
+        Term::Var(x) => add_name(*x, around, found),
+        Term::Eps | Term::Unit | Term::Nil | Term::Past(_) => Ok(()),
+        Term::Par(a, b) | Term::Cat(a, b) | Term::Cons(a, b) => {
+            add_free(a, around, found)?;
+            add_free(b, around, found)
+        }
+        Term::Inl(a) | Term::Inr(a) => add_free(a, around, found),
+        Term::Let(x, _, a, b) => {
+            add_free(a, around, found)?;
+            add_free(b, &Around::Name(*x, &*around), found)
+        }
+        Term::LetPar(x, y, z, a) | Term::LetCat(x, y, z, a) => {
+            add_name(*z, around, found)?;
+            add_free(a, &Around::Name(*y, &Around::Name(*x, &*around)), found)
+        }
+        Term::CaseSum(z, _, x, a, y, b) => {
+            add_name(*z, around, found)?;
+            add_free(a, &Around::Name(*x, &*around), found)?;
+            add_free(b, &Around::Name(*y, &*around), found)
+        }
+        Term::CaseStar(z, _, a, y, ys, b) => {
+            add_name(*z, around, found)?;
+            add_free(a, around, found)?;
+            add_free(b, &Around::Name(*ys, &Around::Name(*y, &*around)), found)
+        }
+        Term::Wait(x, _, a) => {
+            add_name(*x, around, found)?;
+            add_free(a, around, found)
+        }
+        Term::Call(_, _, arguments) => add_free_of_all(arguments, around, found),
+    }
+}
+
+// The same of terms, in turn.
+#[cycle(free)]
+#[tactic(auto, using(crate::proofs::NameLists::new_names))]
+fn add_free_of_all<'a>(
+    terms: &[Node],
+    around: &'a Around<'a>,
+    found: &mut Vec<Name>,
+) -> Result<(), Memory>
+    ensures { OnOk result (numbers_of found.new.items
+        ≡ add_new (numbers_of found.old.items)
+        (less (names_around around.now) (free_in_terms (terms_from (map term_of terms.now))))) }
+{
+    for term in terms {
+        add_free(term, around, found)?;
+    }
+    Ok(())
+}
+
+// Adds a name that isn't bound around and wasn't found before.
+#[tactic(auto, using(crate::proofs::NameLists::new_names))]
+fn add_name(x: Name, around: &Around<'_>, found: &mut Vec<Name>) -> Result<(), Memory>
+    ensures { OnOk result (numbers_of found.new.items
+        ≡ add_new (numbers_of found.old.items) (less (names_around around.now) (x.0 ∷ []))) }
+{
+    if !is_around(around, x) && !is_there(found, x) {
+        found.push(x)?;
+    }
+    Ok(())
+}
+
+// Whether the name is among these.
+fn is_there(names: &[Name], x: Name) -> bool
+    ensures { result ≡ holds x.0 (numbers_of names.now) }
+{
+    for name in names {
+        if name.0 == x.0 {
+            return true;
+        }
+    }
+    false
+}
