@@ -1,0 +1,14 @@
+-- The lemmas.
+pub mod Fitting
+pub mod KnownNames
+pub mod StreamNames
+pub mod Keeping
+pub mod Params
+pub mod Bodies
+pub mod WholePrograms
+pub mod BoundOnce
+pub mod Counts
+pub mod Limits
+pub mod KeptTypes
+pub mod FreeStreams
+mod Examples

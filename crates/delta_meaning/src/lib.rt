@@ -1,0 +1,10 @@
+//! What programs mean, in one look at the whole input, and the core that a program elaborates to.
+//! Both are definitions in `specs/`, over the syntax trees of programs.
+#![tactic(auto)]
+
+pub mod laws;
+#[cfg(test)]
+mod tests;
+mod types;
+
+pub use types::{params_meant, past_meant, type_meant};
