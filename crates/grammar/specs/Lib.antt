@@ -1,0 +1,4 @@
+pub mod Rules
+pub mod Grammar
+pub mod Reading
+pub mod Sentences

@@ -1,0 +1,2 @@
+//! Grammars whose choices one token decides: what they derive, how they are read, and the laws of both.
+#![tactic(auto)]
