@@ -1,0 +1,12 @@
+-- The lemmas.
+pub mod Places
+pub mod ParamTypes
+pub mod Rounds
+pub mod Entries
+pub mod Once
+pub mod Arguments
+pub mod Types
+pub mod RuleForms
+pub mod Choices
+pub mod Firsts
+pub mod Counts

@@ -1,0 +1,8 @@
+-- What the contracts cite.
+pub mod Counting
+pub mod Params
+pub mod Passing
+pub mod Refused
+pub mod Faults
+pub mod Forms
+pub mod Scopes
