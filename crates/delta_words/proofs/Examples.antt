@@ -1,0 +1,55 @@
+-- Worked command lines.
+use Rattle.std.proofs.Common.{◌≡◌, [], ◌∷◌, refl, codes, Some, None}
+use Rattle.delta_words.specs.CommandTask.{run, eval, frames, gen, task_of}
+use Rattle.delta_words.specs.declared.task.Version.TheVariants.{V1, V2}
+
+-- `--` ends the options
+end_of_options : task_of (codes "run" ∷ codes "--" ∷ codes "-x" ∷ []) ≡ Some (run (codes "-x") 1000000 V1)
+end_of_options = refl
+
+-- after it a second `--` is an operand
+second_end : task_of (codes "run" ∷ codes "--" ∷ codes "--" ∷ []) ≡ Some (run (codes "--") 1000000 V1)
+second_end = refl
+
+-- a budget before FILE, and behind it with needless zeros
+budget_first : task_of (codes "run" ∷ codes "--budget=5" ∷ codes "a" ∷ []) ≡ Some (run (codes "a") 5 V1)
+budget_first = refl
+
+budget_last : task_of (codes "run" ∷ codes "a" ∷ codes "--budget" ∷ codes "0005" ∷ []) ≡ Some (run (codes "a") 5 V1)
+budget_last = refl
+
+-- each option at most once
+two_budgets : task_of (codes "run" ∷ codes "a" ∷ codes "--budget" ∷ codes "5" ∷ codes "--budget" ∷ codes "6" ∷ []) ≡ None
+two_budgets = refl
+
+-- no budget without its value, and none above the limit of its command
+no_value : task_of (codes "run" ∷ codes "a" ∷ codes "--budget" ∷ []) ≡ None
+no_value = refl
+
+above : task_of (codes "eval" ∷ codes "a" ∷ codes "--budget" ∷ codes "10001" ∷ []) ≡ None
+above = refl
+
+-- the defaults differ
+usual : task_of (codes "eval" ∷ codes "a" ∷ []) ≡ Some (eval (codes "a") 1000 V1)
+usual = refl
+
+-- `--v2` of `text` stands with `--frames`, in either order, and alone is usage
+second_version : task_of (codes "text" ∷ codes "--v2" ∷ codes "--frames" ∷ []) ≡ Some (frames V2)
+second_version = refl
+
+version_alone : task_of (codes "text" ∷ codes "--v2" ∷ []) ≡ None
+version_alone = refl
+
+-- numbers, with needless zeros and up to their limits
+numbers : task_of (codes "gen" ∷ codes "007" ∷ codes "1" ∷ []) ≡ Some (gen 7 1)
+numbers = refl
+
+start_above : task_of (codes "gen" ∷ codes "1000000" ∷ codes "1" ∷ []) ≡ None
+start_above = refl
+
+nine_digits : task_of (codes "gen" ∷ codes "1" ∷ codes "000000001" ∷ []) ≡ None
+nine_digits = refl
+
+-- no abbreviation
+abbreviated : task_of (codes "text" ∷ codes "--fra" ∷ []) ≡ None
+abbreviated = refl

@@ -1,0 +1,58 @@
+-- Digits, read from the left.
+use Rattle.std.proofs.Common.{◌≡◌, ℕ, ◌+◌, ◌*◌, ◌<◌, ◌≤◌, List, [], ◌∷◌, Bool, true, false, ◌&&◌, cond, length, drop, get_or, refl, sym, arith, ◌∙◌, drop-cons, add-one}
+use Rattle.std.specs.Prelude.{Some, None, nat_lt, nat_le}
+use Rattle.std.specs.Str.{all_ascii_digits}
+use Rattle.std.specs.Char.{digit_value, is_ascii_digit}
+use Rattle.std.specs.Str.Parse.{digits_value, digits_value_after}
+use Rattle.std.proofs.lemmas.Bool.Decides.{nat_tests}
+use Rattle.delta_words.specs.Numbers.{number_within, has_digits}
+
+-- more digits make no smaller number
+pub grows : (n : ℕ) (ds : List ℕ) → n ≤ digits_value_after 10 n ds
+grows n [] = omega arith
+grows n (d ∷ ds) = omega (arith, grows (n * 10 + digit_value d) ds)
+
+-- what the first digits of a word, read so far, say of the word
+pub record IsReadSoFar (word : List ℕ) (i value : ℕ) : Type 0 where
+  pub value_is : digits_value_after 10 value (drop i word) ≡ digits_value 10 word
+  pub digits : all_ascii_digits (drop i word) ≡ all_ascii_digits word
+
+-- the digits that are left begin with the next
+split : (word : List ℕ) (i : ℕ) → i < length word → drop i word ≡ get_or word i 0 ∷ drop (i + 1) word
+split word i lt = rw add-one (drop-cons word i 0 lt)
+
+-- a word that isn't digits is no number
+no_number : (most limit : ℕ) (word : List ℕ) → all_ascii_digits word ≡ false → number_within most limit word ≡ None
+no_number most limit word other = go (nat_lt 0 (length word)) (nat_le (length word) most) (nat_le (digits_value 10 word) limit)
+  where
+    go : (a b c : Bool) → cond ((a && (b && all_ascii_digits word)) && c) (Some (digits_value 10 word)) None ≡ None
+    go true true c = rw other refl
+    go true false c = refl
+    go false b c = refl
+
+-- a number above the limit is none
+above : (most limit : ℕ) (word : List ℕ) → limit < digits_value 10 word → number_within most limit word ≡ None
+above most limit word high = go (has_digits most word) (nat_le (digits_value 10 word) limit) refl
+  where
+    go : (a b : Bool) → nat_le (digits_value 10 word) limit ≡ b → cond (a && b) (Some (digits_value 10 word)) None ≡ None
+    go true true e = absurd (grind (arith, nat_tests))
+    go true false e = refl
+    go false b e = refl
+
+pub not_digit : (most limit : ℕ) (word : List ℕ) (i value : ℕ) → IsReadSoFar word i value → i < length word → is_ascii_digit (get_or word i 0) ≡ false
+    → number_within most limit word ≡ None
+not_digit most limit word i value so_far lt other =
+    no_number most limit word (sym so_far.digits ∙ (rw (split word i lt, other) refl))
+
+pub too_high : (most limit : ℕ) (word : List ℕ) (i value : ℕ) → IsReadSoFar word i value → i < length word
+    → limit < value * 10 + digit_value (get_or word i 0) → number_within most limit word ≡ None
+too_high most limit word i value so_far lt high =
+    let e = (rw (split word i lt) at so_far.value_is) in
+    above most limit word (omega (arith, e, grows (value * 10 + digit_value (get_or word i 0)) (drop (i + 1) word)))
+
+pub one_more : (word : List ℕ) (i value : ℕ) → IsReadSoFar word i value → i < length word → is_ascii_digit (get_or word i 0) ≡ true
+    → IsReadSoFar word (i + 1) (value * 10 + digit_value (get_or word i 0))
+one_more word i value so_far lt is = record {
+  value_is = (rw (split word i lt) at so_far.value_is);
+  digits = (rw (split word i lt, is) at so_far.digits);
+}

@@ -1,0 +1,26 @@
+-- The commands, and what each takes.
+use Rattle.std.specs.Prelude.{ℕ, List, true, false, codes, Option, Some, None, if◌then◌else◌}
+use Rattle.std.specs.Str.{bytes_eq}
+use Rattle.delta_words.specs.declared.command.Command.{Command}
+use Rattle.delta_words.specs.declared.command.Command.TheVariants.{Run, Eval, Check, Print, Text, Gen}
+use Rattle.delta_words.specs.declared.command.Takes.{Takes}
+
+-- the command of a name, written whole
+abbrev pub command_of : List ℕ → Option Command
+command_of word =
+    if bytes_eq word (codes "run") then Some Run
+    else (if bytes_eq word (codes "eval") then Some Eval
+    else (if bytes_eq word (codes "check") then Some Check
+    else (if bytes_eq word (codes "print") then Some Print
+    else (if bytes_eq word (codes "text") then Some Text
+    else (if bytes_eq word (codes "gen") then Some Gen
+    else None)))))
+
+-- how many operands a command takes, and which options
+abbrev pub takes_of : Command → Takes
+takes_of Run = record { operands = 1; budget = true; v2 = true; frames = false }
+takes_of Eval = record { operands = 1; budget = true; v2 = true; frames = false }
+takes_of Check = record { operands = 1; budget = false; v2 = false; frames = false }
+takes_of Print = record { operands = 1; budget = false; v2 = false; frames = false }
+takes_of Text = record { operands = 0; budget = false; v2 = true; frames = true }
+takes_of Gen = record { operands = 2; budget = false; v2 = false; frames = false }

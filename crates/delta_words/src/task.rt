@@ -1,0 +1,147 @@
+//! What a command line asks for.
+
+ghost use Rattle.std.specs.Prelude.{◌≡◌, ◌<◌, ◌^◌, map, option_map, string_bytes};
+ghost use Rattle.delta_words.specs.Gives.{Gives};
+ghost use Rattle.delta_words.specs.CommandTask.{asked, run, eval, version_of, budget_of, file_of, file_and_budget, text_or_frames, start_and_items, task_of_line, task_of};
+ghost use Rattle.delta_words.specs.Line.{written};
+
+use crate::command::Command;
+use crate::fault::WordsFault;
+use crate::line::{Line, read_line};
+use crate::number::number;
+use std::alloc::Global;
+
+/// The version of the frames that are written.
+#[derive(Clone, Copy, Debug, PartialEq, Eq)]
+pub enum Version {
+    V1,
+    V2,
+}
+
+/// What a command line asks for. `CommandTask` of `specs/CommandTask.antt` is its plain twin, and `asked`
+/// reads the one from the other. A budget counts the steps that are free at each event of `run`, and in the
+/// whole of `eval`.
+#[derive(Debug, Drop, PartialEq, Eq)]
+pub enum Task {
+    /// Run a file's program over the input, with a budget, and write frames of a version.
+    Run(String, u64, Version),
+    /// Evaluate a file's program on the whole input, with a budget, and write frames of a version.
+    Eval(String, u64, Version),
+    /// Check a file's program.
+    Check(String),
+    /// Print a file's program in its canonical text.
+    Print(String),
+    /// Write frames as lines of text.
+    Text,
+    /// Write lines of text as frames of a version.
+    Frames(Version),
+    /// Write the generated load: from which item on, and how many.
+    Gen(u64, u64),
+}
+
+// The version that is written where `--v2` stands, and where it doesn't.
+fn chosen_version(v2: bool) -> Version
+    ensures { result ≡ version_of v2 }
+{
+    if v2 { Version::V2 } else { Version::V1 }
+}
+
+// The budget that a line names, or the default.
+fn budget(value: Option<&[u8]>, limit: u64, usual: u64) -> Option<u64>
+    requires { limit < 2 ^ 32 }
+    ensures { result ≡ budget_of limit usual (option_map (λ value. value.now) value.entry) }
+{
+    match value {
+        Some(value) => number(value, 13, limit),
+        None => Some(usual),
+    }
+}
+
+// The one operand.
+fn file(alloc: Global, line: &Line<'_>) -> Result<String, WordsFault>
+    ensures { Gives string_bytes result (file_of (written line.now).operands) }
+{
+    let [name] = line.operands.as_slice() else {
+        return Err(WordsFault::Usage);
+    };
+    Ok(String::from_str(alloc, name)?)
+}
+
+// `--frames` and maybe `--v2`, or neither.
+fn text_task(line: &Line<'_>) -> Result<Task, WordsFault>
+    ensures { Gives asked result (text_or_frames (written line.now)) }
+{
+    if line.frames {
+        return Ok(Task::Frames(chosen_version(line.v2)));
+    }
+    if line.v2 {
+        return Err(WordsFault::Usage);
+    }
+    Ok(Task::Text)
+}
+
+// START and ITEMS.
+fn gen_task(line: &Line<'_>) -> Result<Task, WordsFault>
+    ensures { Gives asked result (start_and_items (written line.now).operands) }
+{
+    let [start, items] = line.operands.as_slice() else {
+        return Err(WordsFault::Usage);
+    };
+    let Some(start) = number(start.as_bytes(), 8, 999_999) else {
+        return Err(WordsFault::Usage);
+    };
+    let Some(items) = number(items.as_bytes(), 8, 10_000_000) else {
+        return Err(WordsFault::Usage);
+    };
+    Ok(Task::Gen(start, items))
+}
+
+// A file and a budget.
+fn run_task(alloc: Global, line: &Line<'_>) -> Result<Task, WordsFault>
+    ensures { Gives asked result (file_and_budget run 1000000 1000000 (written line.now)) }
+{
+    let file = file(alloc, line)?;
+    match budget(line.budget, 1_000_000, 1_000_000) {
+        Some(budget) => Ok(Task::Run(file, budget, chosen_version(line.v2))),
+        None => Err(WordsFault::Usage),
+    }
+}
+
+// A file and a budget.
+fn eval_task(alloc: Global, line: &Line<'_>) -> Result<Task, WordsFault>
+    ensures { Gives asked result (file_and_budget eval 10000 1000 (written line.now)) }
+{
+    let file = file(alloc, line)?;
+    match budget(line.budget, 10_000, 1_000) {
+        Some(budget) => Ok(Task::Eval(file, budget, chosen_version(line.v2))),
+        None => Err(WordsFault::Usage),
+    }
+}
+
+// What a command's line asks for.
+fn line_task(alloc: Global, command: Command, line: &Line<'_>) -> Result<Task, WordsFault>
+    ensures { Gives asked result (task_of_line command (written line.now)) }
+{
+    match command {
+        Command::Run => run_task(alloc, line),
+        Command::Eval => eval_task(alloc, line),
+        Command::Check => Ok(Task::Check(file(alloc, line)?)),
+        Command::Print => Ok(Task::Print(file(alloc, line)?)),
+        Command::Text => text_task(line),
+        Command::Gen => gen_task(line),
+    }
+}
+
+/// What the words of a command line ask for.
+pub fn task_asked(alloc: Global, words: &[String]) -> Result<Task, WordsFault>
+    ensures { Gives asked result (task_of (map string_bytes words.now)) }
+{
+    let Some((word, rest)) = words.split_first() else {
+        return Err(WordsFault::Usage);
+    };
+    let Some(command) = Command::named(word.as_str()) else {
+        return Err(WordsFault::Usage);
+    };
+    let line = read_line(alloc, command.takes(), rest)?;
+    line_task(alloc, command, &line)
+}
