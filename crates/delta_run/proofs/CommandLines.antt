@@ -1,12 +1,8 @@
--- A command line names one file.
-use Rattle.std.proofs.Common.{◌≡◌, ℕ, List, [], ◌∷◌, ◌∙◌, sym}
-use Rattle.std.specs.declared.string.String.{String}
-use Rattle.std.specs.declared.alloc.Global.{Global}
-use Rattle.delta_run.specs.CommandLine.{IsRunOf}
+-- A command line asks for one thing.
+use Rattle.std.proofs.Common.{◌≡◌, ℕ, List, Some}
+use Rattle.delta_words.specs.declared.task.Version.{Version}
+use Rattle.delta_words.specs.CommandTask.{run}
 
--- two files of one command line are the same
-pub one_file : (words : List (String Global)) (a b : List ℕ) → IsRunOf words a → IsRunOf words b → a ≡ b
-one_file (command ∷ name ∷ []) a b first second = sym first.1 ∙ second.1
-one_file [] a b first second = absurd first
-one_file (command ∷ []) a b first second = absurd first
-one_file (command ∷ name ∷ more ∷ words) a b first second = absurd first
+-- two runs that it asks for are of one file and in one version
+pub same_run : (f g : List ℕ) (b c : ℕ) (v w : Version) → Some (run f b v) ≡ Some (run g c w) → (f ≡ g) × (v ≡ w)
+same_run f g b c v w h = (cc, cc)

@@ -1,12 +1,12 @@
 -- Worked examples: two programs, their types, and what they say of some inputs.
-use Rattle.std.proofs.Common.{◌≡◌, pos, List, [], ◌∷◌, refl}
+use Rattle.std.proofs.Common.{◌≡◌, pos, [], ◌∷◌, refl}
 use Rattle.stream_type.specs.StreamType.{int, par}
 use Rattle.stream_prefix.specs.StreamPrefix.{int_emp, int_full, par_both, emp}
 use Rattle.event_word.specs.StreamEvent.{StreamEvent, leaf_of, under}
 use Rattle.event_word.specs.declared.event.Step.TheVariants.{Left, Right}
 use Rattle.event_word.specs.declared.event.Leaf.TheVariants.{Int}
 use Rattle.delta_run.specs.FirstProgram.{FirstProgram, name, pair, let_pair, leaf, comma, IsTyped, meaning}
-use Rattle.delta_run.specs.FirstMeaning.{input, left, said}
+use Rattle.delta_run.specs.FirstMeaning.{said}
 use Rattle.delta_run.specs.FirstLaws.{spoken}
 
 -- main(x : Int, y : Int) : Int || Int = (y, x)

@@ -1,7 +1,6 @@
 -- What the first programs put out stands for their one-shot meaning, in whatever order their input comes.
 use Rattle.std.proofs.Common.{◌≡◌, ℕ, ◌==◌, Bool, true, false, ◌&&◌, if◌then◌else◌, List, [], ◌∷◌, ◌++◌, ap, sym, subst, refl, ◌∙◌, append_assoc, append-nil}
 use Rattle.std.proofs.lemmas.Grind.{flat_map-append}
-use Rattle.stream_type.specs.StreamType.{null_of}
 use Rattle.stream_prefix.specs.StreamPrefix.{StreamPrefix, eps_emp, par_both, emp, der, join, is_maximal, IsPrefix, IsPart}
 use Rattle.stream_prefix.specs.Increment.{increment}
 use Rattle.stream_prefix.proofs.Derivations.{derives, is_prefix}
@@ -12,27 +11,28 @@ use Rattle.event_word.specs.Word.{IsWord, pre}
 use Rattle.event_word.specs.Canon.{canon}
 use Rattle.event_word.proofs.Words.{word_derives, word_front, word_back, word_join, pre-append}
 use Rattle.event_word.proofs.Spelling.{canon_is_word, pre-canon}
-use Rattle.event_frame.specs.declared.version.Version.TheVariants.{V1}
+use Rattle.event_frame.specs.declared.version.Version.{Version}
 use Rattle.event_frame.specs.Frames.{header, frame, frames}
-use Rattle.delta_run.specs.Output.{output, answers_after}
-use Rattle.delta_run.specs.FirstProgram.{FirstTerm, name, pair, let_pair, Parameters, leaf, comma, FirstProgram, put, left_part, right_part, split_from, split, mean, IsTyped, meaning}
+use Rattle.delta_loop.specs.Output.{answers_after}
+use Rattle.bunch.specs.Names.{put}
+use Rattle.delta_run.specs.FirstProgram.{FirstTerm, name, pair, let_pair, Parameters, leaf, comma, FirstProgram, left_part, right_part, split_from, split, mean, IsTyped, meaning}
 use Rattle.delta_run.specs.Left.{left_after}
 use Rattle.delta_run.specs.FirstMeaning.{input, left, said, frames_of, meaning_of}
 use Rattle.delta_run.specs.FirstLaws.{spoken, spoken_after, OutputIsSpoken, SpokenIsMeant, OrderDoesNotMatter, NothingIsRevised, WholeInWholeOut}
 use Rattle.delta_run.proofs.FirstPrograms.{is_prefix-meaning, meaning-join, said_after}
 
-answers-spoken : (P : FirstProgram) (before word : List StreamEvent) → answers_after (meaning_of P) before word ≡ frames V1 (spoken_after P before word)
-answers-spoken P before [] = refl
-answers-spoken P before (x ∷ word) =
+answers-spoken : (v : Version) (P : FirstProgram) (before word : List StreamEvent) → answers_after (meaning_of v P) before word ≡ frames v (spoken_after P before word)
+answers-spoken v P before [] = refl
+answers-spoken v P before (x ∷ word) =
     let now = increment (said P before) (said P (before ++ x ∷ [])) in
-    ap (λ (bytes : List ℕ). frames_of now ++ bytes) (answers-spoken P (before ++ x ∷ []) word)
-    ∙ sym (flat_map-append (frame V1) (canon now) (spoken_after P (before ++ x ∷ []) word))
+    ap (λ (bytes : List ℕ). frames_of v now ++ bytes) (answers-spoken v P (before ++ x ∷ []) word)
+    ∙ sym (flat_map-append (frame v) (canon now) (spoken_after P (before ++ x ∷ []) word))
 
 pub output_is_spoken : OutputIsSpoken
-output_is_spoken P word =
-    append_assoc (header V1) (frames_of (said P [])) (answers_after (meaning_of P) [] word)
-    ∙ ap (λ (bytes : List ℕ). header V1 ++ (frames_of (said P []) ++ bytes)) (answers-spoken P [] word)
-    ∙ ap (λ (bytes : List ℕ). header V1 ++ bytes) (sym (flat_map-append (frame V1) (canon (said P [])) (spoken_after P [] word)))
+output_is_spoken v P word =
+    append_assoc (header v) (frames_of v (said P [])) (answers_after (meaning_of v P) [] word)
+    ∙ ap (λ (bytes : List ℕ). header v ++ (frames_of v (said P []) ++ bytes)) (answers-spoken v P [] word)
+    ∙ ap (λ (bytes : List ℕ). header v ++ bytes) (sym (flat_map-append (frame v) (canon (said P [])) (spoken_after P [] word)))
 
 -- what is said of a word and of more that comes after it
 module _ (P : FirstProgram) (typed : IsTyped P) (v w : List StreamEvent) (comes : IsWord (input P) (v ++ w)) where

@@ -3,7 +3,8 @@ use Rattle.std.proofs.Common.{◌≡◌, ℕ, ◌==◌, Bool, true, false, if◌
 use Rattle.stream_type.specs.StreamType.{StreamType, eps, par}
 use Rattle.stream_prefix.specs.StreamPrefix.{StreamPrefix, eps_emp, par_both, der, join, IsPrefix}
 use Rattle.stream_prefix.proofs.PrefixLaws.{join_derives}
-use Rattle.delta_run.specs.FirstProgram.{FirstTerm, name, pair, let_pair, Parameters, leaf, comma, FirstProgram, put, left_of, right_of, IsParallel, left_part, right_part, input_of, types_from, types_in, split_from, split, mean, HasType, IsTyped, meaning}
+use Rattle.bunch.specs.Names.{put}
+use Rattle.delta_run.specs.FirstProgram.{FirstTerm, name, pair, let_pair, Parameters, leaf, comma, FirstProgram, left_of, right_of, IsParallel, left_part, right_part, input_of, types_from, types_in, split_from, split, mean, HasType, IsTyped, meaning}
 use Rattle.delta_run.specs.Left.{left_by, left_after}
 
 -- each name has a prefix of its type

@@ -1,7 +1,7 @@
 -- From a machine and an event to the machine after it: what is answered is the increment of the one-shot meaning.
-use Rattle.std.proofs.Common.{◌≡◌, ◌≤◌, ℕ, List, [], ◌∷◌, ◌++◌, Option, None, ap, sym, subst, refl, ◌∙◌, arith}
+use Rattle.std.proofs.Common.{◌≡◌, ◌≤◌, ℕ, List, [], ◌∷◌, ◌++◌, None, ap, sym, subst, refl, ◌∙◌, arith}
 use Rattle.stream_type.specs.StreamType.{StreamType, type_of, reach_of}
-use Rattle.stream_prefix.specs.StreamPrefix.{StreamPrefix, emp, der, join, IsPrefix}
+use Rattle.stream_prefix.specs.StreamPrefix.{StreamPrefix, der, join, IsPrefix}
 use Rattle.stream_prefix.specs.Increment.{increment}
 use Rattle.stream_prefix.proofs.Derivations.{derives, is_prefix}
 use Rattle.stream_prefix.proofs.PrefixLaws.{reach_falls}
@@ -12,8 +12,10 @@ use Rattle.event_word.specs.EventFault.{fault_of}
 use Rattle.event_word.specs.Word.{IsWord, pre, one_of}
 use Rattle.event_word.proofs.Walks.{no_fault_is_admitted}
 use Rattle.event_word.proofs.Words.{word_derives, word_push, pre-push, one_of_is_prefix}
+use Rattle.event_frame.specs.declared.version.Version.{Version}
+use Rattle.event_frame.specs.Frames.{longest}
 use Rattle.delta_run.specs.declared.machine.FirstMachine.{FirstMachine}
-use Rattle.delta_run.specs.Meaning.{Meaning}
+use Rattle.delta_loop.specs.Meaning.{Meaning}
 use Rattle.delta_run.specs.FirstProgram.{FirstProgram, program_of, input_of, IsTyped, meaning}
 use Rattle.delta_run.specs.Left.{left_after}
 use Rattle.delta_run.specs.FirstMeaning.{input, left, said, frames_of, meaning_of}
@@ -21,8 +23,8 @@ use Rattle.delta_run.specs.FirstMachine.{StandsFor}
 use Rattle.delta_run.proofs.FirstPrograms.{input_of-left_by, is_prefix-meaning, typed-left, meaning-join, left_after-join, said_after}
 
 -- a machine that is what is left of a program after a word stands for both
-pub stands_at : (machine : FirstMachine) (P : FirstProgram) (word : List StreamEvent) → IsTyped P → reach_of P.result ≤ 31 → IsWord (input P) word
-    → program_of machine.program ≡ left_after P (pre (input P) word) → type_of machine.rest ≡ input_of (program_of machine.program).parameters → StandsFor machine (meaning_of P) word
+pub stands_at : (machine : FirstMachine) (P : FirstProgram) (word : List StreamEvent) → IsTyped P → reach_of P.result ≤ longest machine.version → IsWord (input P) word
+    → program_of machine.program ≡ left_after P (pre (input P) word) → type_of machine.rest ≡ input_of (program_of machine.program).parameters → StandsFor machine (meaning_of machine.version P) word
 stands_at machine P word typed short comes is rest = record {
   program = P;
   means = refl;
@@ -43,7 +45,7 @@ module _ (machine : FirstMachine) (P : Meaning) (word : List StreamEvent) (now :
   typed_now = subst IsTyped (sym now.is) (typed-left now.program now.typed (pre (input now.program) word) come)
 
   -- its events are short
-  pub short_now : reach_of (program_of machine.program).result ≤ 31
+  pub short_now : reach_of (program_of machine.program).result ≤ longest machine.version
   short_now =
       let p = pre (input now.program) word in
       let falls = reach_falls now.program.result (meaning now.program p) (is_prefix-meaning now.program now.typed p come) in
@@ -89,14 +91,14 @@ module _ (machine : FirstMachine) (P : Meaning) (word : List StreamEvent) (now :
         (derives (der (meaning now.program p) now.program.result) (meaning (left_after now.program p) d) (said_after now.program now.typed p come d comes_next)))
         ∙ ap (increment (said now.program word)) (sym joins)
 
-    pub answered : (bytes : List ℕ) → bytes ≡ frames_of (meaning (program_of machine.program) d) → bytes ≡ P.answer word x
-    answered bytes said_is = said_is ∙ ap frames_of is_increment ∙ ap (λ (Q : Meaning). Q.answer word x) (sym now.means)
+    pub answered : (bytes : List ℕ) → bytes ≡ frames_of machine.version (meaning (program_of machine.program) d) → bytes ≡ P.answer word x
+    answered bytes said_is = said_is ∙ ap (frames_of machine.version) is_increment ∙ ap (λ (Q : Meaning). Q.answer word x) (sym now.means)
 
     -- the machine after it
-    pub stands_next : (next : FirstMachine) → program_of next.program ≡ left_after (program_of machine.program) d → type_of next.rest ≡ input_of (program_of next.program).parameters
+    pub stands_next : (next : FirstMachine) → next.version ≡ machine.version → program_of next.program ≡ left_after (program_of machine.program) d → type_of next.rest ≡ input_of (program_of next.program).parameters
         → StandsFor next P (word ++ x ∷ [])
-    stands_next next is rest =
+    stands_next next same is rest =
         let p = pre (input now.program) word in
         let is_left = is ∙ ap (λ (Q : FirstProgram). left_after Q d) now.is ∙ left_after-join now.program now.typed p come d comes_next ∙ ap (left_after now.program) (sym whole) in
-        subst (λ (Q : Meaning). StandsFor next Q (word ++ x ∷ [])) (sym now.means)
-        (stands_at next now.program (word ++ x ∷ []) now.typed now.short (word_push (input now.program) word x now.comes admitted_left) is_left rest)
+        subst (λ (Q : Meaning). StandsFor next Q (word ++ x ∷ [])) (ap (λ (v : Version). meaning_of v now.program) same ∙ sym now.means)
+        (stands_at next now.program (word ++ x ∷ []) now.typed (subst (λ (v : Version). reach_of now.program.result ≤ longest v) (sym same) now.short) (word_push (input now.program) word x now.comes admitted_left) is_left rest)

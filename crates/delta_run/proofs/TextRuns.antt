@@ -1,20 +1,22 @@
 -- From the end of a run of a text to what its caller may know.
-use Rattle.std.proofs.Common.{◌≡◌, ◌⊎◌, inl, inr, ℕ, List, [], Option, Result, Ok, Err, ◌∙◌, ap, sym, refl, arith}
+use Rattle.std.proofs.Common.{◌≡◌, ◌⊎◌, inl, inr, ℕ, List, [], Option, Result, Ok, Err, ◌∙◌, ap, refl, arith}
 use Rattle.port.specs.declared.link.Move.{Move}
 use Rattle.port.specs.declared.fault.IoFault.{IoFault}
 use Rattle.port.specs.declared.fault.IoFault.TheVariants.{Memory as NoMemory, Failed}
 use Rattle.port.specs.Faults.{HasCause}
-use Rattle.delta_run.specs.declared.end.End.{End}
-use Rattle.delta_run.specs.declared.end.End.TheVariants.{Done, Usage, Refused, Input, Open, FileFailed, ReadFailed, WriteFailed, Memory, Long}
-use Rattle.delta_run.specs.Meaning.{Meaning}
-use Rattle.delta_run.specs.Output.{due}
-use Rattle.delta_run.specs.Prompt.{IsPrompt}
-use Rattle.delta_run.specs.End.{FileCause, ReadCause, WriteCause, IsOfLoop, status_of, status_without_note}
-use Rattle.delta_run.specs.Answer.{Adds, AnswerOf, IsStatus, IsStill, IsComplete, IsWithinLimit}
+use Rattle.delta_end.specs.declared.end.End.{End}
+use Rattle.delta_end.specs.declared.end.End.TheVariants.{Done, Usage, Refused, Input, Open, FileFailed, ReadFailed, WriteFailed, Memory, Long}
+use Rattle.delta_loop.specs.Meaning.{Meaning}
+use Rattle.delta_loop.specs.Output.{due}
+use Rattle.delta_loop.specs.Prompt.{IsPrompt}
+use Rattle.delta_end.specs.End.{FileCause, ReadCause, WriteCause, IsOfLoop, status_of, status_without_note}
+use Rattle.delta_loop.specs.Answer.{Adds, IsComplete, IsWithinLimit}
+use Rattle.delta_end.specs.Status.{AnswerOf, IsStatus, IsStill}
 use Rattle.delta_run.specs.Text.{Runs, RunsText}
-use Rattle.delta_run.specs.Loop.{RanFor, RanText}
-use Rattle.delta_run.proofs.Returning.{adds_none, ran_prompt, ran_within, returned, not_rose}
-use Rattle.delta_run.proofs.Completeness.{good_end, good_status}
+use Rattle.delta_run.specs.Text.{RanFor, RanText}
+use Rattle.delta_loop.proofs.Returning.{adds_none, ran_prompt, ran_within, returned}
+use Rattle.delta_end.proofs.Statuses.{not_rose, usage_is_two}
+use Rattle.delta_loop.proofs.Completeness.{good_end, good_status}
 
 module _ (means : Meaning → Type 0) (refused : Type 0) (old new : Option (List Move)) (left0 left1 : Option (List ℕ)) where
   prompt_of : (end : End) → RanFor means old new left0 left1 end → Adds old new (λ moves. (moves ≡ []) ⊎ ((P : Meaning) × means P × IsPrompt (due P) moves))
@@ -27,7 +29,7 @@ module _ (means : Meaning → Type 0) (refused : Type 0) (old new : Option (List
   pub text_prompt : (end : End) → RanText means refused old new left0 left1 end → Adds old new (λ moves. (moves ≡ []) ⊎ ((P : Meaning) × means P × IsPrompt (due P) moves))
   text_prompt Usage ran = absurd ran
   text_prompt FileFailed ran = none_of ran.0
-  text_prompt Refused ran = none_of ran.1.0
+  text_prompt (Refused why) ran = none_of ran.1.0
   text_prompt Memory (inl same) = none_of same.0
   text_prompt Memory (inr ran) = prompt_of Memory ran
   text_prompt Done ran = prompt_of Done ran
@@ -47,7 +49,7 @@ module _ (means : Meaning → Type 0) (refused : Type 0) (old new : Option (List
   pub text_within : (end : End) → RanText means refused old new left0 left1 end → Adds old new IsWithinLimit
   text_within Usage ran = absurd ran
   text_within FileFailed ran = within_none ran.0
-  text_within Refused ran = within_none ran.1.0
+  text_within (Refused why) ran = within_none ran.1.0
   text_within Memory (inl same) = within_none same.0
   text_within Memory (inr ran) = within_of Memory ran
   text_within Done ran = within_of Done ran
@@ -65,7 +67,7 @@ module _ (means : Meaning → Type 0) (refused : Type 0) (old new : Option (List
   pub text_return : (end : End) → RanText means refused old new left0 left1 end → Adds old new (RunsText means refused end)
   text_return Usage ran = absurd ran
   text_return FileFailed ran = adds_none old new (RunsText means refused FileFailed) ran.0 refl
-  text_return Refused ran = adds_none old new (RunsText means refused Refused) ran.1.0 (ran.0, refl)
+  text_return (Refused why) ran = adds_none old new (RunsText means refused (Refused why)) ran.1.0 (ran.0, refl)
   text_return Memory (inl same) = adds_none old new (RunsText means refused Memory) same.0 (inl refl)
   text_return Memory (inr ran) = λ told is. let adds = runs_of Memory tt ran told is in (adds.0, adds.1, inr adds.2)
   text_return Done ran = runs_of Done tt ran
@@ -92,9 +94,9 @@ module _ (means : Meaning → Type 0) (refused : Type 0) (old new : Option (List
         → (status ≡ 8) ⊎ ((status ≡ 3) × refused) ⊎ ((P : Meaning) × means P × IsComplete P left0 old new status)
     text_complete Usage ran file read write is = absurd ran
     text_complete FileFailed ran file read write is = absurd (not_rose file0 file1 file file_still)
-    text_complete Refused ran file read write is = refusing said is cause
+    text_complete (Refused why) ran file read write is = refusing said is cause
       where
-        refusing : (said : Result (Unit {0}) IoFault) → AnswerOf Refused said status → HasCause said note0 note1
+        refusing : (said : Result (Unit {0}) IoFault) → AnswerOf (Refused why) said status → HasCause said note0 note1
             → (status ≡ 8) ⊎ ((status ≡ 3) × refused) ⊎ ((P : Meaning) × means P × IsComplete P left0 old new status)
         refusing (Ok u) is cause = inr (inl (is, ran.0))
         refusing (Err NoMemory) is cause = inl is
@@ -112,38 +114,9 @@ module _ (means : Meaning → Type 0) (refused : Type 0) (old new : Option (List
     text_complete WriteFailed ran file read write is = complete_of WriteFailed tt ran read write is
     text_complete Long ran file read write is = complete_of Long tt ran read write is
 
--- status 2 is that of words that are no command line
-pub two_is_usage : (end : End) (status note0 note1 : ℕ) → IsStatus end status note0 note1 → status ≡ 2 → end ≡ Usage
-two_is_usage end status note0 note1 (inl is) two = by_end end (sym is.1 ∙ two)
-  where
-    by_end : (end : End) → status_of end ≡ 2 → end ≡ Usage
-    by_end Usage two = refl
-    by_end Done two = absurd (omega arith)
-    by_end Refused two = absurd (omega arith)
-    by_end (Input fault) two = absurd (omega arith)
-    by_end Open two = absurd (omega arith)
-    by_end FileFailed two = absurd (omega arith)
-    by_end ReadFailed two = absurd (omega arith)
-    by_end WriteFailed two = absurd (omega arith)
-    by_end Memory two = absurd (omega arith)
-    by_end Long two = absurd (omega arith)
-two_is_usage end status note0 note1 (inr (inl sink)) two = by_end end (sym sink.1 ∙ two)
-  where
-    by_end : (end : End) → status_without_note end ≡ 2 → end ≡ Usage
-    by_end Usage two = refl
-    by_end Done two = absurd (omega arith)
-    by_end Refused two = absurd (omega arith)
-    by_end (Input fault) two = absurd (omega arith)
-    by_end Open two = absurd (omega arith)
-    by_end FileFailed two = absurd (omega arith)
-    by_end ReadFailed two = absurd (omega arith)
-    by_end WriteFailed two = absurd (omega arith)
-    by_end Memory two = absurd (omega arith)
-    by_end Long two = absurd (omega arith)
-two_is_usage end status note0 note1 (inr (inr eight)) two = absurd (omega (arith, eight.1, two))
-
--- whose status is 2, or 8 where memory ran out in the sink
-pub usage_is_two : (end : End) (status note0 note1 : ℕ) → IsStatus end status note0 note1 → end ≡ Usage → (status ≡ 2) ⊎ (status ≡ 8)
-usage_is_two end status note0 note1 (inl is) usage = inl (is.1 ∙ ap status_of usage)
-usage_is_two end status note0 note1 (inr (inl sink)) usage = inl (sink.1 ∙ ap status_without_note usage)
-usage_is_two end status note0 note1 (inr (inr eight)) usage = inr eight.1
+-- words that ask for nothing give status 2, or 8 where memory ran out
+pub two_or_eight : (end : End) (status note0 note1 : ℕ) → IsStatus end status note0 note1 → (end ≡ Usage) ⊎ (end ≡ Memory) → (status ≡ 2) ⊎ (status ≡ 8)
+two_or_eight end status note0 note1 is (inl usage) = usage_is_two end status note0 note1 is usage
+two_or_eight end status note0 note1 (inl is) (inr wanting) = inr (is.1 ∙ ap status_of wanting)
+two_or_eight end status note0 note1 (inr (inl sink)) (inr wanting) = inr (sink.1 ∙ ap status_without_note wanting)
+two_or_eight end status note0 note1 (inr (inr eight)) (inr wanting) = inr eight.1

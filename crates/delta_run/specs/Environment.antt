@@ -5,7 +5,7 @@ use Rattle.stream_prefix.specs.StreamPrefix.{StreamPrefix, eps_emp}
 use Rattle.stream_prefix.specs.Tree.{prefix_of}
 use Rattle.delta_run.specs.declared.evaluation.Bound.{Bound}
 use Rattle.delta_run.specs.declared.check.Declared.{Declared}
-use Rattle.delta_run.specs.FirstProgram.{put}
+use Rattle.bunch.specs.Names.{put}
 
 abbrev pub bind : (ℕ → StreamPrefix) → Bound → ℕ → StreamPrefix
 bind env b = put (b.name).0 (prefix_of b.prefix) env

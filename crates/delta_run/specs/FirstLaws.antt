@@ -6,9 +6,9 @@ use Rattle.stream_prefix.specs.Increment.{increment}
 use Rattle.event_word.specs.StreamEvent.{StreamEvent}
 use Rattle.event_word.specs.Word.{IsWord, pre}
 use Rattle.event_word.specs.Canon.{canon}
-use Rattle.event_frame.specs.declared.version.Version.TheVariants.{V1}
+use Rattle.event_frame.specs.declared.version.Version.{Version}
 use Rattle.event_frame.specs.Frames.{header, frames}
-use Rattle.delta_run.specs.Output.{output}
+use Rattle.delta_loop.specs.Output.{output}
 use Rattle.delta_run.specs.FirstProgram.{FirstProgram, IsTyped}
 use Rattle.delta_run.specs.FirstMeaning.{input, left, said, meaning_of}
 
@@ -24,7 +24,8 @@ spoken P word = canon (said P []) ++ spoken_after P [] word
 
 -- the output is the header and the frames of these events
 abbrev pub OutputIsSpoken : Type 0
-OutputIsSpoken = (P : FirstProgram) (word : List StreamEvent) → output (meaning_of P) word ≡ header V1 ++ frames V1 (spoken P word)
+OutputIsSpoken =
+    (v : Version) (P : FirstProgram) (word : List StreamEvent) → output (meaning_of v P) word ≡ header v ++ frames v (spoken P word)
 
 -- the events put out are a word of the output's type, and stand for the one-shot meaning of the whole input
 abbrev pub SpokenIsMeant : Type 0

@@ -1,7 +1,8 @@
 -- The programs that can be run so far, and their one-shot meaning: the body is read once, on the whole of an input.
-use Rattle.std.specs.Prelude.{◌≡◌, ℕ, ◌==◌, if◌then◌else◌, ⊤}
+use Rattle.std.specs.Prelude.{◌≡◌, ℕ, ⊤}
 use Rattle.stream_type.specs.StreamType.{StreamType, eps, par, type_of}
-use Rattle.stream_prefix.specs.StreamPrefix.{StreamPrefix, eps_emp, par_both, der}
+use Rattle.bunch.specs.Names.{put}
+use Rattle.stream_prefix.specs.StreamPrefix.{StreamPrefix, eps_emp, par_both}
 use Rattle.delta_run.specs.declared.program.Context.{Context}
 use Rattle.delta_run.specs.declared.program.Context.TheVariants.{Leaf, Comma'}
 use Rattle.delta_run.specs.declared.program.Expression.{Expression}
@@ -37,10 +38,6 @@ parameters_of (Comma' p a q b) = comma (parameters_of a) (parameters_of b)
 
 abbrev pub program_of : Program → FirstProgram
 program_of p = record { parameters = parameters_of p.context; result = type_of p.result; body = term_of p.body }
-
--- a value for one more name, which hides an earlier one
-abbrev pub put : {A : Type 0} → ℕ → A → (ℕ → A) → ℕ → A
-put x v f = λ y. if y == x then v else f y
 
 -- both sides of a parallel type and of its prefixes; those of anything else count as nothing
 abbrev pub left_of : StreamType → StreamType

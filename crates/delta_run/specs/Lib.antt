@@ -1,16 +1,7 @@
 -- What the contracts cite.
 pub mod CommandLine
-pub mod Meaning
-pub mod Output
-pub mod Finding
-pub mod Prompt
-pub mod History
-pub mod Return
-pub mod End
-pub mod Loop
-pub mod Answer
-pub mod Note
 pub mod Text
+pub mod Converted
 pub mod FirstProgram
 pub mod Left
 pub mod FirstMeaning

@@ -1,6 +1,6 @@
 //! The machine of the programs that can be run so far: a program at the types that are left.
 
-ghost use Rattle.std.specs.Prelude.{◌≡◌, ◌≤◌, [], OnOk, IfOk};
+ghost use Rattle.std.specs.Prelude.{◌≡◌, ◌≤◌, ◌++◌, [], length, OnOk, IfOk};
 ghost use Rattle.stream_type.specs.StreamType.{type_of, reach_of};
 ghost use Rattle.stream_prefix.specs.StreamPrefix.{IsPrefix, emp};
 ghost use Rattle.stream_prefix.specs.Tree.{prefix_of};
@@ -8,13 +8,15 @@ ghost use Rattle.delta_run.specs.FirstProgram.{IsTyped, program_of, input_of, me
 ghost use Rattle.delta_run.specs.Left.{left_after};
 ghost use Rattle.delta_run.specs.FirstMeaning.{frames_of, meaning_of, IsMeant, MayRefuse};
 ghost use Rattle.delta_run.specs.FirstMachine.{StandsFor};
-ghost use Rattle.delta_run.specs.declared.stepper.StepFault.TheVariants.{Memory as OutOfMemory};
+ghost use Rattle.event_frame.specs.Frames.{frame, longest};
 
 use crate::context::{input_type, rest_of};
 use crate::evaluation::{evaluate, split};
+use crate::from_text::{FromText, StartFault};
 use crate::program::Program;
-use crate::stepper::{FromText, StartFault, StepFault, Stepper};
 use crate::text::{TextFault, read};
+use delta_loop::{StepFault, Stepper};
+use event_frame::Version;
 use event_word::Event;
 use std::alloc::Global;
 use stream_prefix::Prefix;
@@ -28,14 +30,8 @@ pub struct FirstMachine {
     pub program: Program,
     /// The type that is left of the input.
     pub rest: Ty,
-}
-
-impl From<Memory> for StepFault {
-    ghost from_gives = { λ _ e. e ≡ OutOfMemory };
-
-    fn from(_: Memory) -> StepFault {
-        StepFault::Memory
-    }
+    /// The version of the frames that it answers.
+    pub version: Version,
 }
 
 impl Stepper for FirstMachine {
@@ -57,17 +53,17 @@ impl Stepper for FirstMachine {
 }
 
 impl FromText for FirstMachine {
-    ghost means = { λ text P. IsMeant P };
+    ghost means = { λ text v P. IsMeant v P };
 
     ghost refuses = { MayRefuse };
 
-    fn start(alloc: Global, text: &[u8]) -> Result<(Self, Vec<u8>), StartFault> {
-        let program = match read(alloc, text) {
+    fn start(alloc: Global, text: &[u8], version: Version) -> Result<(Self, Vec<u8>), StartFault> {
+        let program = match read(alloc, text, version) {
             Ok(program) => program,
             Err(TextFault::Memory) => return Err(StartFault::Memory),
             Err(TextFault::Refused) => return Err(StartFault::Refused),
         };
-        match begin(alloc, program) {
+        match begin(alloc, program, version) {
             Ok(begun) => Ok(begun),
             Err(_) => Err(StartFault::Memory),
         }
@@ -75,15 +71,23 @@ impl FromText for FirstMachine {
 }
 
 /// The machine of a typed program before its first event, and the frames that come before the first read.
-pub fn begin(alloc: Global, program: Program) -> Result<(FirstMachine, Vec<u8>), Memory>
+pub fn begin(
+    alloc: Global,
+    program: Program,
+    version: Version,
+) -> Result<(FirstMachine, Vec<u8>), Memory>
     requires typed { IsTyped (program_of program) }
-    requires short { reach_of (type_of program.result) ≤ 31 }
-    ensures stands { IfOk result (λ begun. StandsFor begun.0 (meaning_of (program_of program)) []) }
-    ensures first { IfOk result (λ begun. begun.1.items ≡ (meaning_of (program_of program)).first) }
+    requires short { reach_of (type_of program.result) ≤ longest version }
+    ensures stands { IfOk result (λ begun. StandsFor begun.0 (meaning_of version (program_of program)) []) }
+    ensures first { IfOk result (λ begun. begun.1.items ≡ (meaning_of version (program_of program)).first) }
 {
     let rest = input_type(alloc, &program.context)?;
     let nothing = stream_prefix::empty(alloc, &rest)?;
-    let mut machine = FirstMachine { program, rest };
+    let mut machine = FirstMachine {
+        program,
+        rest,
+        version,
+    };
     let frames = advance(alloc, &mut machine, &nothing)?;
     Ok((machine, frames))
 }
@@ -91,14 +95,15 @@ pub fn begin(alloc: Global, program: Program) -> Result<(FirstMachine, Vec<u8>),
 /// Takes a part of the input, and answers the frames of what the program says of it.
 fn advance(alloc: Global, machine: &mut FirstMachine, input: &Prefix) -> Result<Vec<u8>, Memory>
     requires typed { IsTyped (program_of machine.old.program) }
-    requires short { reach_of (type_of machine.old.program.result) ≤ 31 }
+    requires short { reach_of (type_of machine.old.program.result) ≤ longest machine.old.version }
     requires input { IsPrefix (input_of (program_of machine.old.program).parameters) (prefix_of input.now) }
-    ensures frames { IfOk result (λ bytes. bytes.items ≡ frames_of (meaning (program_of machine.old.program) (prefix_of input.now))) }
+    ensures frames { IfOk result (λ bytes. bytes.items ≡ frames_of machine.old.version (meaning (program_of machine.old.program) (prefix_of input.now))) }
     ensures left { OnOk result (program_of machine.new.program ≡ left_after (program_of machine.old.program) (prefix_of input.now)) }
+    ensures version { machine.new.version ≡ machine.old.version }
     ensures rest { OnOk result (type_of machine.new.rest ≡ input_of (program_of machine.new.program).parameters) }
 {
     let output = said_of(alloc, &machine.program, input)?;
-    let frames = encoded(alloc, &machine.program.result, &output)?;
+    let frames = encoded(alloc, machine.version, &machine.program.result, &output)?;
     let context = rest_of(alloc, &machine.program.context, input)?;
     let result = stream_prefix::derive(alloc, &machine.program.result, &output)?;
     let rest = input_type(alloc, &context)?;
@@ -117,16 +122,27 @@ fn said_of(alloc: Global, program: &Program, input: &Prefix) -> Result<Prefix, M
     evaluate(alloc, &program.body, &mut env)
 }
 
+// Appends the frame of an event.
+fn write_frame(version: Version, event: &Event, out: &mut Vec<u8>) -> Result<(), Memory>
+    requires { length event.now.path ≤ longest version }
+    ensures { OnOk result (out.new.items ≡ out.old.items ++ frame version event.now) }
+{
+    match version {
+        Version::V1 => event_frame::encode(event, out),
+        Version::V2 => event_frame::encode2(event, out),
+    }
+}
+
 // The frames of the canonical word of a prefix of the type.
-fn encoded(alloc: Global, t: &Ty, p: &Prefix) -> Result<Vec<u8>, Memory>
+fn encoded(alloc: Global, version: Version, t: &Ty, p: &Prefix) -> Result<Vec<u8>, Memory>
     requires typed { IsPrefix (type_of t.now) (prefix_of p.now) }
-    requires short { reach_of (type_of t.now) ≤ 31 }
-    ensures { IfOk result (λ bytes. bytes.items ≡ frames_of (prefix_of p.now)) }
+    requires short { reach_of (type_of t.now) ≤ longest version }
+    ensures { IfOk result (λ bytes. bytes.items ≡ frames_of version (prefix_of p.now)) }
 {
     let word = event_word::canon(alloc, t, p)?;
     let mut bytes = Vec::new(alloc);
     for event in &word {
-        event_frame::encode(event, &mut bytes)?;
+        write_frame(version, event, &mut bytes)?;
     }
     Ok(bytes)
 }

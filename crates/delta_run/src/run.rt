@@ -1,16 +1,22 @@
 //! The top call: from the words to the exit status.
 
-ghost use Rattle.std.specs.Prelude.{◌≡◌, ◌≢◌, ◌⊎◌, [], List, ℕ};
+ghost use Rattle.std.specs.Prelude.{◌≡◌, ◌≢◌, ◌⊎◌, ◌≤◌, ◌^◌, [], List, ℕ, Some, None, true, length};
+ghost use Rattle.port.specs.Moves.{bytes_written};
 ghost use Rattle.port.specs.Faults.{Rose};
-ghost use Rattle.delta_run.specs.declared.end.End.{End};
-ghost use Rattle.delta_run.specs.Answer.{Adds, IsStatus, IsStill, IsComplete, IsWithinLimit};
-ghost use Rattle.delta_run.specs.CommandLine.{IsRunOf};
-ghost use Rattle.delta_run.specs.End.{FileCause, ReadCause, WriteCause};
+ghost use Rattle.delta_end.specs.declared.end.End.{End};
+ghost use Rattle.delta_loop.specs.Answer.{Adds, IsComplete, IsWithinLimit};
+ghost use Rattle.delta_end.specs.Status.{IsStatus, IsStill};
+ghost use Rattle.delta_words.specs.declared.task.Version.{Version as WrittenVersion};
+ghost use Rattle.delta_words.specs.CommandTask.{run, frames};
+ghost use Rattle.delta_text.specs.Conversion.{frames_of_lines, all_due};
+ghost use Rattle.delta_run.specs.Converted.{Converts};
+ghost use Rattle.delta_run.specs.CommandLine.{Asks, AskNothing, frames_of};
+ghost use Rattle.delta_end.specs.End.{FileCause, ReadCause, WriteCause};
 ghost use Rattle.delta_run.specs.FirstMeaning.{IsMeant, MayRefuse};
-ghost use Rattle.delta_run.specs.Meaning.{Meaning};
-ghost use Rattle.delta_run.specs.Note.{note_of, Says};
-ghost use Rattle.delta_run.specs.Output.{due};
-ghost use Rattle.delta_run.specs.Prompt.{IsPrompt};
+ghost use Rattle.delta_loop.specs.Meaning.{Meaning};
+ghost use Rattle.delta_end.specs.Note.{note_of, Says};
+ghost use Rattle.delta_loop.specs.Output.{due};
+ghost use Rattle.delta_loop.specs.Prompt.{IsPrompt};
 ghost use Rattle.delta_run.specs.Text.{OfFile, RunsText, IsUntouched};
 
 use crate::machine::FirstMachine;
@@ -19,7 +25,7 @@ use port::{Link, Shelf, Sink};
 use std::alloc::Global;
 
 /// Runs the command line that the words are, over what is outside, and answers the exit status:
-/// 0 where the input ended and its type is finished, 2 where the words are no command line, 3 where
+/// 0 where the input ended and its type is finished, 2 where the words ask for nothing that is built, 3 where
 /// the program is refused, 4 where the input is, 6 where its type awaits more at its end, 7 at a fault
 /// outside, 8 for want of memory, and 9 for more than 2^40 input bytes. The words are those after the
 /// program's name. The last thing that is written is the note, a line to the sink that says how the run
@@ -31,19 +37,20 @@ pub fn delta<S: Shelf, L: Link, N: Sink>(
     link: &mut L,
     notes: &mut N,
 ) -> u8
-    // Status 2 comes exactly where the words aren't `run FILE`, but for want of memory, and nothing is read or written then.
-    ensures usage { result ≡ 2 → (file : List ℕ) → IsRunOf words.now file → ⊥ }
-    ensures command { ((file : List ℕ) → IsRunOf words.now file → ⊥) → (result ≡ 2) ⊎ (result ≡ 8) }
-    ensures untouched { ((file : List ℕ) → IsRunOf words.now file → ⊥) → IsUntouched (L.log link.old) (L.log link.new) (L.left link.old) (L.left link.new) }
+    // Status 2 comes exactly where the words ask for nothing that is built, but for want of memory, and nothing is read or written then.
+    ensures usage { result ≡ 2 → AskNothing words.now }
+    ensures command { AskNothing words.now → (result ≡ 2) ⊎ (result ≡ 8) }
+    ensures untouched { AskNothing words.now → IsUntouched (L.log link.old) (L.log link.new) (L.left link.old) (L.left link.new) }
     // Before each read, what was written are the header and the frames of the successive increments of the
     // program's one-shot meaning on the accepted events of the whole frames in what was read.
-    ensures prompt { (file : List ℕ) → IsRunOf words.now file
-        → OfFile (S.holds shelf.old) file (λ text. Adds (L.log link.old) (L.log link.new) (λ moves. (moves ≡ []) ⊎ ((P : Meaning) × IsMeant P × IsPrompt (due P) moves))) }
+    ensures prompt { (file : List ℕ) (budget : ℕ) (v : WrittenVersion) → Asks words.now (run file budget v)
+        → OfFile (S.holds shelf.old) file (λ text. Adds (L.log link.old) (L.log link.new) (λ moves. (moves ≡ []) ⊎ ((P : Meaning) × IsMeant (frames_of v) P × IsPrompt (due P) moves))) }
     // At most 2^40 bytes are read, and one more.
-    ensures limit { (file : List ℕ) → IsRunOf words.now file → OfFile (S.holds shelf.old) file (λ _. Adds (L.log link.old) (L.log link.new) IsWithinLimit) }
+    ensures limit { (file : List ℕ) (budget : ℕ) (v : WrittenVersion) → Asks words.now (run file budget v) → OfFile (S.holds shelf.old) file (λ _. Adds (L.log link.old) (L.log link.new) IsWithinLimit) }
     // The status is that of an end, and the end is shown by the bytes, the counts and the note.
     ensures answer { (end : End) × IsStatus end result (N.faults notes.old) (N.faults notes.new)
-        × ((file : List ℕ) → IsRunOf words.now file → OfFile (S.holds shelf.old) file (λ text. Adds (L.log link.old) (L.log link.new) (RunsText IsMeant (MayRefuse text) end)))
+        × ((file : List ℕ) (budget : ℕ) (v : WrittenVersion) → Asks words.now (run file budget v) → OfFile (S.holds shelf.old) file (λ text. Adds (L.log link.old) (L.log link.new) (RunsText (IsMeant (frames_of v)) (MayRefuse text) end)))
+        × ((v : WrittenVersion) → Asks words.now (frames v) → Adds (L.log link.old) (L.log link.new) (Converts (frames_of_lines (frames_of v)) end))
         × FileCause end (S.faults shelf.old) (S.faults shelf.new)
         × ReadCause end (L.read_faults link.old) (L.read_faults link.new)
         × WriteCause end (L.write_faults link.old) (L.write_faults link.new)
@@ -56,10 +63,15 @@ pub fn delta<S: Shelf, L: Link, N: Sink>(
         × (L.read_faults link.new ≡ L.read_faults link.old) × (L.write_faults link.new ≡ L.write_faults link.old)) }
     // Over an input that is good in whole, with no fault counted: done or open with all written, or want of memory,
     // or the program was refused.
-    ensures complete { (file : List ℕ) → IsRunOf words.now file → OfFile (S.holds shelf.old) file (λ text.
+    ensures complete { (file : List ℕ) (budget : ℕ) (v : WrittenVersion) → Asks words.now (run file budget v) → OfFile (S.holds shelf.old) file (λ text.
         IsStill (S.faults shelf.old) (S.faults shelf.new) → IsStill (L.read_faults link.old) (L.read_faults link.new)
         → IsStill (L.write_faults link.old) (L.write_faults link.new) → IsStill (N.faults notes.old) (N.faults notes.new)
-        → (result ≡ 8) ⊎ ((result ≡ 3) × MayRefuse text) ⊎ ((P : Meaning) × IsMeant P × IsComplete P (L.left link.old) (L.log link.old) (L.log link.new) result)) }
+        → (result ≡ 8) ⊎ ((result ≡ 3) × MayRefuse text) ⊎ ((P : Meaning) × IsMeant (frames_of v) P × IsComplete P (L.left link.old) (L.log link.old) (L.log link.new) result)) }
+    // Over lines with nothing wrong, with no fault counted: done with all frames written, or want of memory.
+    ensures frames_complete { (v : WrittenVersion) → Asks words.now (frames v)
+        → IsStill (L.read_faults link.old) (L.read_faults link.new) → IsStill (L.write_faults link.old) (L.write_faults link.new) → IsStill (N.faults notes.old) (N.faults notes.new)
+        → (all : List ℕ) → L.left link.old ≡ Some all → length all ≤ 2 ^ 40 → (frames_of_lines (frames_of v)).finding true all ≡ None
+        → (result ≡ 8) ⊎ ((result ≡ 0) × Adds (L.log link.old) (L.log link.new) (λ moves. bytes_written moves ≡ all_due (frames_of_lines (frames_of v)) true all)) }
     // What the shelf holds stays.
     ensures held { S.holds shelf.new ≡ S.holds shelf.old }
 {

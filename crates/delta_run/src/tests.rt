@@ -241,9 +241,52 @@ fn faults_are_told(rt: HostRuntime) -> Result<(), Fail> {
     check(&rt, rt.alloc(), &[], usage)?;
     check(&rt, rt.alloc(), &["run"], usage)?;
     check(&rt, rt.alloc(), &["run", "program", "program"], usage)?;
+    check(&rt, rt.alloc(), &["run", "program", "--budget", "x"], usage)?;
+    check(&rt, rt.alloc(), &["check", "program"], usage)?;
     check(&rt, rt.alloc(), &["run", "gone"], gone)?;
     for row in [refused, read, write, note] {
         check(&rt, rt.alloc(), &["run", "program"], row)?;
     }
     Ok(())
+}
+
+#[test]
+fn version_two_is_written(rt: HostRuntime) -> Result<(), Fail> {
+    let row = Row {
+        text: SWAP,
+        input: LEFT_THEN_RIGHT,
+        output: b"DEV2\x01\x80\x11\0\0\0\0\0\0\0\x01\x01\x40\x11\0\0\0\0\0\0\0\x02",
+        ..ROW
+    };
+    check(&rt, rt.alloc(), &["run", "program", "--v2"], row)?;
+    check(
+        &rt,
+        rt.alloc(),
+        &["run", "--v2", "--budget=5", "--", "program"],
+        row,
+    )
+}
+
+#[test]
+fn lines_become_frames(rt: HostRuntime) -> Result<(), Fail> {
+    let good = Row {
+        input: b"item\nF int 3\n",
+        output: b"DEV1\0\x15\x01\x03\x11\0\0\0\0\0\0\0\x03",
+        ..ROW
+    };
+    let bad = Row {
+        input: b"end\ncat",
+        output: b"DEV1\0\x16",
+        note: b"delta: input refused: BadWord at 4\n",
+        status: 4,
+        ..ROW
+    };
+    let two = Row {
+        input: b"L F one",
+        output: b"DEV2\x02\x70\x10",
+        ..ROW
+    };
+    check(&rt, rt.alloc(), &["text", "--frames"], good)?;
+    check(&rt, rt.alloc(), &["text", "--frames"], bad)?;
+    check(&rt, rt.alloc(), &["text", "--v2", "--frames"], two)
 }

@@ -1,12 +1,14 @@
 //! A small reader of program texts, which goes away when the whole grammar is read: one `main` with
 //! parameters side by side, the types `1`, `Int` and `||`, and a body of names, pairs and lets of pairs.
 
-ghost use Rattle.std.specs.Prelude.{◌≡◌, ◌≤◌, IfOk, length};
+ghost use Rattle.std.specs.Prelude.{◌≡◌, ◌≤◌, ◌+◌, IfOk, length};
 ghost use Rattle.stream_type.specs.StreamType.{type_of, height_of, reach_of};
+ghost use Rattle.event_frame.specs.Frames.{longest};
 ghost use Rattle.delta_run.specs.FirstProgram.{program_of, IsTyped};
 
 use crate::check::is_typed;
 use crate::program::{Context, Expression, Name, Program};
+use event_frame::Version;
 use std::alloc::{AllocError, AllocFailed, Global};
 use stream_type::{Memory, Ty};
 
@@ -18,9 +20,6 @@ const NAMES: usize = 1024;
 
 /// How high the type of the input may be, and how deep parts may stand in one another.
 const INPUT_HEIGHT: u32 = 64;
-
-/// How high the type of the output may be, so that each event has a frame of at most 31 steps.
-const OUTPUT_HEIGHT: u32 = 32;
 
 /// The words that aren't names.
 const WORDS: [&[u8]; 21] = [
@@ -55,11 +54,21 @@ impl<T: Drop> From<AllocFailed<T>> for TextFault {
     }
 }
 
-/// The program of a text: a typed one, whose output's events have frames.
+// How high the type of the output may be, so that each event has a frame of the version.
+fn output_height(version: Version) -> u32
+    ensures { result ≡ longest version + 1 }
+{
+    match version {
+        Version::V1 => 32,
+        Version::V2 => 64,
+    }
+}
+
+/// The program of a text: a typed one, whose output's events have frames of the version.
 #[tactic(auto, using(stream_type::proofs::Bounds::bounds))]
-pub fn read(alloc: Global, text: &[u8]) -> Result<Program, TextFault>
+pub fn read(alloc: Global, text: &[u8], version: Version) -> Result<Program, TextFault>
     ensures typed { IfOk result (λ program. IsTyped (program_of program)) }
-    ensures short { IfOk result (λ program. reach_of (type_of program.result) ≤ 31) }
+    ensures short { IfOk result (λ program. reach_of (type_of program.result) ≤ longest version) }
 {
     if text.len() > LONGEST {
         return Err(TextFault::Refused);
@@ -69,7 +78,7 @@ pub fn read(alloc: Global, text: &[u8]) -> Result<Program, TextFault>
         rest: text,
         names: Vec::new(alloc),
     };
-    let program = parser.program()?;
+    let program = parser.program(output_height(version))?;
     if is_typed(alloc, &program)? {
         Ok(program)
     } else {
@@ -153,15 +162,15 @@ struct Parser<'a> {
 
 impl<'a> Parser<'a> {
     // `main`, its parameters, the type of its output, its body, and the end of the text.
-    fn program(&mut self) -> Result<Program, TextFault>
-        ensures { IfOk result (λ program. height_of (type_of program.result) ≤ 32) }
+    fn program(&mut self, most: u32) -> Result<Program, TextFault>
+        ensures { IfOk result (λ program. height_of (type_of program.result) ≤ most) }
     {
         self.word(b"main")?;
         self.sign(b'(')?;
         let context = self.context(INPUT_HEIGHT)?;
         self.sign(b')')?;
         self.sign(b':')?;
-        let result = self.ty(OUTPUT_HEIGHT)?;
+        let result = self.ty(most)?;
         self.sign(b'=')?;
         let body = self.expression(INPUT_HEIGHT)?;
         match self.next() {

@@ -1,23 +1,30 @@
 //! Runs the command line that the words are: the call on which the program `delta` stands, over any language.
 
-ghost use Rattle.std.specs.Prelude.{◌≡◌, ◌≢◌, ◌⊎◌, [], List, ℕ};
+ghost use Rattle.std.specs.Prelude.{◌≡◌, ◌≢◌, ◌⊎◌, ◌≤◌, ◌^◌, [], List, ℕ, Some, None, true, length};
+ghost use Rattle.port.specs.Moves.{bytes_written};
 ghost use Rattle.port.specs.Faults.{Rose};
-ghost use Rattle.delta_run.specs.declared.end.End.{End};
-ghost use Rattle.delta_run.specs.Answer.{Adds, IsStatus, IsStill, IsComplete, IsWithinLimit};
-ghost use Rattle.delta_run.specs.CommandLine.{IsRunOf};
-ghost use Rattle.delta_run.specs.End.{FileCause, ReadCause, WriteCause};
-ghost use Rattle.delta_run.specs.Meaning.{Meaning};
-ghost use Rattle.delta_run.specs.Note.{note_of, Says};
-ghost use Rattle.delta_run.specs.Output.{due};
-ghost use Rattle.delta_run.specs.Prompt.{IsPrompt};
+ghost use Rattle.delta_end.specs.declared.end.End.{End};
+ghost use Rattle.delta_loop.specs.Answer.{Adds, IsComplete, IsWithinLimit};
+ghost use Rattle.delta_end.specs.Status.{IsStatus, IsStill};
+ghost use Rattle.delta_words.specs.declared.task.Version.{Version as WrittenVersion};
+ghost use Rattle.delta_words.specs.CommandTask.{run, frames};
+ghost use Rattle.delta_text.specs.Conversion.{frames_of_lines, all_due, Ran as Converted};
+ghost use Rattle.delta_run.specs.Converted.{Converts};
+ghost use Rattle.delta_run.specs.CommandLine.{Asks, AskNothing, frames_of};
+ghost use Rattle.delta_end.specs.End.{FileCause, ReadCause, WriteCause};
+ghost use Rattle.delta_loop.specs.Meaning.{Meaning};
+ghost use Rattle.delta_end.specs.Note.{note_of, Says};
+ghost use Rattle.delta_loop.specs.Output.{due};
+ghost use Rattle.delta_loop.specs.Prompt.{IsPrompt};
 ghost use Rattle.delta_run.specs.Text.{OfFile, RunsText, IsUntouched};
-ghost use Rattle.delta_run.specs.Loop.{RanText};
+ghost use Rattle.delta_run.specs.Text.{RanText};
 
-use crate::end::End;
-use crate::note::note;
-use crate::program_run::{answer, run_machine};
-use crate::stepper::{FromText, StartFault};
-use crate::words::file_of;
+use crate::from_text::{FromText, StartFault};
+use delta_end::{End, answer, note};
+use delta_loop::run_machine;
+use delta_text::write_frames;
+use delta_words::{Task, WordsFault, read_words};
+use event_frame::Version;
 use port::{IoFault, Link, Shelf, Sink};
 use std::alloc::Global;
 
@@ -25,10 +32,11 @@ use std::alloc::Global;
 fn run_file<M: FromText, S: Shelf, L: Link>(
     alloc: Global,
     file: &str,
+    version: Version,
     shelf: &mut S,
     link: &mut L,
 ) -> End
-    ensures ran { OfFile (S.holds shelf.old) file.now (λ text. RanText (M.means text) (M.refuses text) (L.log link.old) (L.log link.new) (L.left link.old) (L.left link.new) result) }
+    ensures ran { OfFile (S.holds shelf.old) file.now (λ text. RanText (M.means text version) (M.refuses text) (L.log link.old) (L.log link.new) (L.left link.old) (L.left link.new) result) }
     ensures runs { result ≢ End.Usage }
     ensures held { S.holds shelf.new ≡ S.holds shelf.old }
     ensures file { FileCause result (S.faults shelf.old) (S.faults shelf.new) }
@@ -40,32 +48,52 @@ fn run_file<M: FromText, S: Shelf, L: Link>(
         Err(IoFault::Memory) => return End::Memory,
         Err(IoFault::Failed) => return End::FileFailed,
     };
-    match M::start(alloc, &text) {
-        Ok((machine, first)) => run_machine(alloc, machine, &first, link),
+    match M::start(alloc, &text, version) {
+        Ok((machine, first)) => run_machine(alloc, machine, version, &first, link),
         Err(StartFault::Memory) => End::Memory,
-        Err(StartFault::Refused) => End::Refused,
+        Err(StartFault::Refused) => End::Refused(None),
     }
 }
 
-// Runs the command line that the words are, up to its end.
+// The version of frames that a command line asks for.
+fn frame_version(version: delta_words::Version) -> Version
+    ensures { result ≡ frames_of version }
+{
+    match version {
+        delta_words::Version::V1 => Version::V1,
+        delta_words::Version::V2 => Version::V2,
+    }
+}
+
+// Does what the words ask for, up to its end.
 fn run_command<M: FromText, S: Shelf, L: Link>(
     alloc: Global,
     words: &[String],
     shelf: &mut S,
     link: &mut L,
 ) -> End
-    ensures usage { result ≡ End.Usage → (file : List ℕ) → IsRunOf words.now file → ⊥ }
-    ensures command { ((file : List ℕ) → IsRunOf words.now file → ⊥) → (result ≡ End.Usage) × IsUntouched (L.log link.old) (L.log link.new) (L.left link.old) (L.left link.new) }
-    ensures ran { (file : List ℕ) → IsRunOf words.now file
-        → OfFile (S.holds shelf.old) file (λ text. RanText (M.means text) (M.refuses text) (L.log link.old) (L.log link.new) (L.left link.old) (L.left link.new) result) }
+    ensures usage { result ≡ End.Usage → AskNothing words.now }
+    ensures command { AskNothing words.now → ((result ≡ End.Usage) ⊎ (result ≡ End.Memory)) × IsUntouched (L.log link.old) (L.log link.new) (L.left link.old) (L.left link.new) }
+    ensures ran { (file : List ℕ) (budget : ℕ) (v : WrittenVersion) → Asks words.now (run file budget v)
+        → OfFile (S.holds shelf.old) file (λ text. RanText (M.means text (frames_of v)) (M.refuses text) (L.log link.old) (L.log link.new) (L.left link.old) (L.left link.new) result) }
+    ensures framed { (v : WrittenVersion) → Asks words.now (frames v)
+        → ((result ≡ End.Memory) × IsUntouched (L.log link.old) (L.log link.new) (L.left link.old) (L.left link.new))
+        ⊎ Converted (frames_of_lines (frames_of v)) (L.log link.old) (L.log link.new) (L.left link.old) (L.left link.new) result }
     ensures held { S.holds shelf.new ≡ S.holds shelf.old }
     ensures file { FileCause result (S.faults shelf.old) (S.faults shelf.new) }
     ensures read { ReadCause result (L.read_faults link.old) (L.read_faults link.new) }
     ensures write { WriteCause result (L.write_faults link.old) (L.write_faults link.new) }
 {
-    match file_of(words) {
-        Some(file) => run_file::<M, S, L>(alloc, file, shelf, link),
-        None => End::Usage,
+    match read_words(alloc, words) {
+        Ok(Task::Run(file, _, version)) => {
+            run_file::<M, S, L>(alloc, &file, frame_version(version), shelf, link)
+        }
+        Ok(Task::Frames(version)) => write_frames(alloc, frame_version(version), link),
+        Ok(Task::Eval(..) | Task::Check(_) | Task::Print(_) | Task::Text | Task::Gen(..)) => {
+            End::Usage
+        }
+        Err(WordsFault::Usage) => End::Usage,
+        Err(WordsFault::Memory) => End::Memory,
     }
 }
 
@@ -81,18 +109,19 @@ pub fn run_words<M: FromText, S: Shelf, L: Link, N: Sink>(
     link: &mut L,
     notes: &mut N,
 ) -> u8
-    // Status 2 comes exactly where the words aren't `run FILE`, but for want of memory, and nothing is read or written then.
-    ensures usage { result ≡ 2 → (file : List ℕ) → IsRunOf words.now file → ⊥ }
-    ensures command { ((file : List ℕ) → IsRunOf words.now file → ⊥) → (result ≡ 2) ⊎ (result ≡ 8) }
-    ensures untouched { ((file : List ℕ) → IsRunOf words.now file → ⊥) → IsUntouched (L.log link.old) (L.log link.new) (L.left link.old) (L.left link.new) }
+    // Status 2 comes exactly where the words ask for nothing that is built, but for want of memory, and nothing is read or written then.
+    ensures usage { result ≡ 2 → AskNothing words.now }
+    ensures command { AskNothing words.now → (result ≡ 2) ⊎ (result ≡ 8) }
+    ensures untouched { AskNothing words.now → IsUntouched (L.log link.old) (L.log link.new) (L.left link.old) (L.left link.new) }
     // Before each read, what was written is what is due for what was read, by what the text means.
-    ensures prompt { (file : List ℕ) → IsRunOf words.now file
-        → OfFile (S.holds shelf.old) file (λ text. Adds (L.log link.old) (L.log link.new) (λ moves. (moves ≡ []) ⊎ ((P : Meaning) × M.means text P × IsPrompt (due P) moves))) }
+    ensures prompt { (file : List ℕ) (budget : ℕ) (v : WrittenVersion) → Asks words.now (run file budget v)
+        → OfFile (S.holds shelf.old) file (λ text. Adds (L.log link.old) (L.log link.new) (λ moves. (moves ≡ []) ⊎ ((P : Meaning) × M.means text (frames_of v) P × IsPrompt (due P) moves))) }
     // At most 2^40 bytes are read, and one more.
-    ensures limit { (file : List ℕ) → IsRunOf words.now file → OfFile (S.holds shelf.old) file (λ _. Adds (L.log link.old) (L.log link.new) IsWithinLimit) }
+    ensures limit { (file : List ℕ) (budget : ℕ) (v : WrittenVersion) → Asks words.now (run file budget v) → OfFile (S.holds shelf.old) file (λ _. Adds (L.log link.old) (L.log link.new) IsWithinLimit) }
     // The status is that of an end, and the end is shown by the bytes, the counts and the note.
     ensures answer { (end : End) × IsStatus end result (N.faults notes.old) (N.faults notes.new)
-        × ((file : List ℕ) → IsRunOf words.now file → OfFile (S.holds shelf.old) file (λ text. Adds (L.log link.old) (L.log link.new) (RunsText (M.means text) (M.refuses text) end)))
+        × ((file : List ℕ) (budget : ℕ) (v : WrittenVersion) → Asks words.now (run file budget v) → OfFile (S.holds shelf.old) file (λ text. Adds (L.log link.old) (L.log link.new) (RunsText (M.means text (frames_of v)) (M.refuses text) end)))
+        × ((v : WrittenVersion) → Asks words.now (frames v) → Adds (L.log link.old) (L.log link.new) (Converts (frames_of_lines (frames_of v)) end))
         × FileCause end (S.faults shelf.old) (S.faults shelf.new)
         × ReadCause end (L.read_faults link.old) (L.read_faults link.new)
         × WriteCause end (L.write_faults link.old) (L.write_faults link.new)
@@ -104,10 +133,15 @@ pub fn run_words<M: FromText, S: Shelf, L: Link, N: Sink>(
     ensures still { (result ≡ 7) ⊎ (result ≡ 8) ⊎ ((S.faults shelf.new ≡ S.faults shelf.old)
         × (L.read_faults link.new ≡ L.read_faults link.old) × (L.write_faults link.new ≡ L.write_faults link.old)) }
     // Over an input that is good in whole, with no fault counted: done or open with all written, or want of memory.
-    ensures complete { (file : List ℕ) → IsRunOf words.now file → OfFile (S.holds shelf.old) file (λ text.
+    ensures complete { (file : List ℕ) (budget : ℕ) (v : WrittenVersion) → Asks words.now (run file budget v) → OfFile (S.holds shelf.old) file (λ text.
         IsStill (S.faults shelf.old) (S.faults shelf.new) → IsStill (L.read_faults link.old) (L.read_faults link.new)
         → IsStill (L.write_faults link.old) (L.write_faults link.new) → IsStill (N.faults notes.old) (N.faults notes.new)
-        → (result ≡ 8) ⊎ ((result ≡ 3) × M.refuses text) ⊎ ((P : Meaning) × M.means text P × IsComplete P (L.left link.old) (L.log link.old) (L.log link.new) result)) }
+        → (result ≡ 8) ⊎ ((result ≡ 3) × M.refuses text) ⊎ ((P : Meaning) × M.means text (frames_of v) P × IsComplete P (L.left link.old) (L.log link.old) (L.log link.new) result)) }
+    // Over lines with nothing wrong, with no fault counted: done with all frames written, or want of memory.
+    ensures frames_complete { (v : WrittenVersion) → Asks words.now (frames v)
+        → IsStill (L.read_faults link.old) (L.read_faults link.new) → IsStill (L.write_faults link.old) (L.write_faults link.new) → IsStill (N.faults notes.old) (N.faults notes.new)
+        → (all : List ℕ) → L.left link.old ≡ Some all → length all ≤ 2 ^ 40 → (frames_of_lines (frames_of v)).finding true all ≡ None
+        → (result ≡ 8) ⊎ ((result ≡ 0) × Adds (L.log link.old) (L.log link.new) (λ moves. bytes_written moves ≡ all_due (frames_of_lines (frames_of v)) true all)) }
     // What the shelf holds stays.
     ensures held { S.holds shelf.new ≡ S.holds shelf.old }
 {

@@ -1,4 +1,4 @@
-use Rattle.std.proofs.Common.{◌≡◌, ◌↔◌, IfOk, IsTrue, ℕ, List, ap, subst, ◌∙◌}
+use Rattle.std.proofs.Common.{◌↔◌, IfOk, IsTrue, ℕ, List, ap, subst, ◌∙◌}
 use Rattle.stream_type.specs.StreamType.{StreamType, type_of}
 use Rattle.delta_run.specs.declared.check.Declared.{Declared}
 use Rattle.delta_run.specs.FirstProgram.{term_of, parameters_of, types_from, HasType}

@@ -1,7 +1,6 @@
 use Rattle.std.proofs.Common.{◌≡◌, take}
-use Rattle.event_frame.specs.declared.version.Version.TheVariants.{V1}
 use Rattle.event_frame.specs.Frames.{frames}
 use Rattle.delta_run.proofs.machine.encoded.Given as goal
 
 abbrev pub invariant-loop-event : goal.invariant-loop-event
-invariant-loop-event l = l.bytes.items ≡ frames V1 (take l.event-index l.event-items)
+invariant-loop-event l = l.bytes.items ≡ frames l.version (take l.event-index l.event-items)

@@ -1,27 +1,32 @@
-use Rattle.delta_run.proofs.Returning.{status_is, status_rose, status_still, note_whole}
-use Rattle.delta_run.proofs.TextRuns.{text_prompt, text_within, text_return, text_complete, two_is_usage, usage_is_two}
+use Rattle.delta_end.proofs.Statuses.{status_is, status_rose, status_still, note_whole}
+use Rattle.delta_run.proofs.TextRuns.{text_prompt, text_within, text_return, text_complete, two_or_eight}
+use Rattle.delta_end.proofs.Statuses.{two_is_usage}
+use Rattle.delta_text.specs.Conversion.{frames_of_lines}
+use Rattle.delta_run.specs.CommandLine.{frames_of}
+use Rattle.delta_run.proofs.Conversions.{by_either, either_well}
 use Rattle.delta_run.proofs.text_run.run_words.Goals as goal
 
 pub returns-clause-usage : goal.returns-clause-usage
 returns-clause-usage g c two = c.run_command-end.ensures.usage (two_is_usage _ _ _ _ (status_is _ _ _ _ _ c.answer.ensures c.note-said.ensures.cause) two)
 
 pub returns-clause-command : goal.returns-clause-command
-returns-clause-command g c never = usage_is_two _ _ _ _ (status_is _ _ _ _ _ c.answer.ensures c.note-said.ensures.cause) (c.run_command-end.ensures.command never).0
+returns-clause-command g c never = two_or_eight _ _ _ _ (status_is _ _ _ _ _ c.answer.ensures c.note-said.ensures.cause) (c.run_command-end.ensures.command never).0
 
 pub returns-clause-untouched : goal.returns-clause-untouched
 returns-clause-untouched g c never = (c.run_command-end.ensures.command never).1
 
 pub returns-clause-prompt : goal.returns-clause-prompt
-returns-clause-prompt g c file is files tells = text_prompt _ _ _ _ _ _ c.run_command-end.result (c.run_command-end.ensures.ran file is files tells)
+returns-clause-prompt g c file budget v is files tells = text_prompt _ _ _ _ _ _ c.run_command-end.result (c.run_command-end.ensures.ran file budget v is files tells)
 
 pub returns-clause-limit : goal.returns-clause-limit
-returns-clause-limit g c file is files tells = text_within _ _ _ _ _ _ c.run_command-end.result (c.run_command-end.ensures.ran file is files tells)
+returns-clause-limit g c file budget v is files tells = text_within _ _ _ _ _ _ c.run_command-end.result (c.run_command-end.ensures.ran file budget v is files tells)
 
 pub returns-clause-answer : goal.returns-clause-answer
 returns-clause-answer g c = (
   c.run_command-end.result,
   status_is _ _ _ _ _ c.answer.ensures c.note-said.ensures.cause,
-  λ file is files tells. text_return _ _ _ _ _ _ c.run_command-end.result (c.run_command-end.ensures.ran file is files tells),
+  λ file budget v is files tells. text_return _ _ _ _ _ _ c.run_command-end.result (c.run_command-end.ensures.ran file budget v is files tells),
+  λ v is. by_either (frames_of_lines (frames_of v)) _ _ _ _ c.run_command-end.result (c.run_command-end.ensures.framed v is),
   c.run_command-end.ensures.file,
   c.run_command-end.ensures.read,
   c.run_command-end.ensures.write,
@@ -37,6 +42,11 @@ returns-clause-still g c =
     status_still _ _ _ _ _ _ _ _ _ _ (status_is _ _ _ _ _ c.answer.ensures c.note-said.ensures.cause) c.run_command-end.ensures.file c.run_command-end.ensures.read c.run_command-end.ensures.write
 
 pub returns-clause-complete : goal.returns-clause-complete
-returns-clause-complete g c file is files tells file_still read write note =
-    text_complete _ _ _ _ _ _ _ _ _ _ _ _ _ _ file_still read write note _ _ c.note-said.ensures.cause c.run_command-end.result (c.run_command-end.ensures.ran file is files tells)
+returns-clause-complete g c file budget v is files tells file_still read write note =
+    text_complete _ _ _ _ _ _ _ _ _ _ _ _ _ _ file_still read write note _ _ c.note-said.ensures.cause c.run_command-end.result (c.run_command-end.ensures.ran file budget v is files tells)
     c.run_command-end.ensures.file c.run_command-end.ensures.read c.run_command-end.ensures.write c.answer.ensures
+
+pub returns-clause-frames_complete : goal.returns-clause-frames_complete
+returns-clause-frames_complete g c v is read write note all tells short good =
+    either_well (frames_of v) all short good _ _ _ _ tells _ _ _ _ _ _ read write note _ _ c.note-said.ensures.cause c.run_command-end.result (c.run_command-end.ensures.framed v is)
+    c.run_command-end.ensures.read c.run_command-end.ensures.write c.answer.ensures

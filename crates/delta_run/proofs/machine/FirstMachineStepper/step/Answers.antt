@@ -18,7 +18,7 @@ returns-in_ok-advance-in-Ok-clause-ok c P word now =
     let admitted = c.in-Ok.ensures.ok.0 refl in
     let one = c.in_ok-input-in-Ok.ensures.value in (
       may_come c.args.self.now P word now c.args.event (prefix_of c.in_ok-input-in-Ok.input) admitted one,
-      stands_next c.args.self.now P word now c.args.event (prefix_of c.in_ok-input-in-Ok.input) admitted one c.advance.new.machine c.in_ok-advance-in-Ok.ensures.left c.in_ok-advance-in-Ok.ensures.rest,
+      stands_next c.args.self.now P word now c.args.event (prefix_of c.in_ok-input-in-Ok.input) admitted one c.advance.new.machine c.advance.ensures.version c.in_ok-advance-in-Ok.ensures.left c.in_ok-advance-in-Ok.ensures.rest,
       answered c.args.self.now P word now c.args.event (prefix_of c.in_ok-input-in-Ok.input) admitted one c.in_ok-advance-in-Ok.field-0.items c.in_ok-advance-in-Ok.ensures.frames,
     )
 

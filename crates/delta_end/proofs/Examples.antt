@@ -1,0 +1,21 @@
+-- Worked examples: the lines of some ends.
+use Rattle.std.proofs.Common.{◌≡◌, ℕ, List, [], ◌∷◌, ◌++◌, Some, refl, ap, ◌∙◌, arith}
+use Rattle.std.specs.Prelude.{codes}
+use Rattle.std.proofs.lemmas.Fmt.{decimal_step, decimal_digit}
+use Rattle.event_word.specs.declared.fault.EventFault.TheVariants.{Ended}
+use Rattle.event_frame.specs.declared.fault.FrameFault.TheVariants.{Truncated}
+use Rattle.delta_end.specs.declared.refusal.RefusalName.TheVariants.{Expected}
+use Rattle.delta_end.specs.declared.refusal.Refusal.{Refusal}
+use Rattle.delta_end.specs.declared.end.InputFault.TheVariants.{Frame, Event}
+use Rattle.delta_end.specs.declared.end.End.TheVariants.{Input, Refused}
+use Rattle.delta_end.specs.Note.{note_of}
+
+note_of_event : note_of (Input (Event (Ended 0) 6)) ≡ codes "delta: input refused: Ended at 6\n"
+note_of_event = ap (λ (digits : List ℕ). (codes "delta: input refused: " ++ codes "Ended") ++ (codes " at " ++ digits ++ 10 ∷ [])) (decimal_digit 6 (omega arith))
+
+note_of_cut : note_of (Input (Frame (Truncated 13))) ≡ codes "delta: input refused: Truncated at 13\n"
+note_of_cut = ap (λ (digits : List ℕ). (codes "delta: input refused: " ++ codes "Truncated") ++ (codes " at " ++ digits ++ 10 ∷ []))
+    (decimal_step 13 (omega arith) (omega arith) ∙ ap (λ (digits : List ℕ). digits ++ 51 ∷ []) (decimal_digit 1 (omega arith)))
+
+note_of_program : note_of (Refused (Some (record { name = Expected; at = 7 }))) ≡ codes "delta: program refused: Expected at 7\n"
+note_of_program = ap (λ (digits : List ℕ). (codes "delta: program refused: " ++ codes "Expected") ++ (codes " at " ++ digits ++ 10 ∷ [])) (decimal_digit 7 (omega arith))

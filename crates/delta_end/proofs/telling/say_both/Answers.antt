@@ -1,0 +1,12 @@
+use Rattle.std.proofs.Common.{◌≡◌, true, false, refl}
+use Rattle.delta_end.proofs.Notes.{says_then, says_part}
+use Rattle.delta_end.proofs.telling.say_both.Goals as goal
+
+never : false ≡ true → ⊥
+never e = cc
+
+pub returns-in-Ok-clause-said : goal.returns-in-Ok-clause-said
+returns-in-Ok-clause-said g c = says_then _ _ _ (c.args.first.now) (c.args.second.now) (true ≡ true) _ refl c.in-Ok.ensures.said c.say-in-Ok.ensures.said
+
+pub returns-in-Err-clause-said : goal.returns-in-Err-clause-said
+returns-in-Err-clause-said g c = says_part _ _ (c.args.first.now) (c.args.second.now) (false ≡ true) _ never c.in-Err.ensures.said

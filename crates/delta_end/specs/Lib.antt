@@ -1,0 +1,4 @@
+-- What the contracts cite.
+pub mod End
+pub mod Status
+pub mod Note

@@ -1,0 +1,107 @@
+-- The line that tells how a command ended.
+use Rattle.std.specs.Prelude.{◌≡◌, ℕ, List, [], ◌∷◌, ◌++◌, Option, Some, None, codes, decimal}
+use Rattle.port.specs.Told.{Grows}
+use Rattle.event_word.specs.declared.fault.EventFault.{EventFault}
+use Rattle.event_word.specs.declared.fault.EventFault.TheVariants.{Ended, WrongStep, WrongLeaf, EarlyCut}
+use Rattle.event_frame.specs.declared.fault.FrameFault.{FrameFault}
+use Rattle.event_frame.specs.declared.fault.FrameFault.TheVariants.{BadMagic, LongPath, BadStep, BadLeaf, Truncated}
+use Rattle.event_text.specs.declared.fault.LineFault.{LineFault}
+use Rattle.event_text.specs.declared.fault.LineFault.TheVariants.{BadWord, BigNumber as BigNumberOfLine, LongPath as LongPathOfLine, NoLeaf, Extra}
+use Rattle.delta_end.specs.declared.refusal.RefusalName.{RefusalName}
+use Rattle.delta_end.specs.declared.refusal.RefusalName.TheVariants.{LongText, BadUtf8, BadChar, BigNumber, Deep, Expected, Twice, Many, NoMain, Unbound, NoFunction, NoType, TooTall, TooWide, Mismatch, OutOfOrder, Jumpy, WaitNull, Arity, History, NotStream, WideOutput}
+use Rattle.delta_end.specs.declared.end.InputFault.{InputFault}
+use Rattle.delta_end.specs.declared.end.InputFault.TheVariants.{Frame, Event, Line, LongLine}
+use Rattle.delta_end.specs.declared.end.End.{End}
+use Rattle.delta_end.specs.declared.end.End.TheVariants.{Done, Usage, Refused, Input, Open, FileFailed, ReadFailed, WriteFailed, Memory, Long}
+
+-- the name of a fault of frames
+abbrev pub frame_name : FrameFault → List ℕ
+frame_name (BadMagic at) = codes "BadMagic"
+frame_name (LongPath at byte) = codes "LongPath"
+frame_name (BadStep at byte) = codes "BadStep"
+frame_name (BadLeaf at byte) = codes "BadLeaf"
+frame_name (Truncated at) = codes "Truncated"
+
+-- the name of an event's fault
+abbrev pub event_name : EventFault → List ℕ
+event_name (Ended depth) = codes "Ended"
+event_name (WrongStep depth) = codes "WrongStep"
+event_name (WrongLeaf depth) = codes "WrongLeaf"
+event_name (EarlyCut depth) = codes "EarlyCut"
+
+-- the name of a line's fault
+abbrev pub line_name : LineFault → List ℕ
+line_name (BadWord column) = codes "BadWord"
+line_name (BigNumberOfLine column) = codes "BigNumber"
+line_name LongPathOfLine = codes "LongPath"
+line_name NoLeaf = codes "NoLeaf"
+line_name (Extra column) = codes "Extra"
+
+-- the name of an input's fault
+abbrev pub name_of : InputFault → List ℕ
+name_of (Frame fault) = frame_name fault
+name_of (Event fault at) = event_name fault
+name_of (Line fault at) = line_name fault
+name_of (LongLine at) = codes "LongLine"
+
+-- its place in bytes
+abbrev pub place_of : InputFault → ℕ
+place_of (Frame (BadMagic at)) = at
+place_of (Frame (LongPath at byte)) = at
+place_of (Frame (BadStep at byte)) = at
+place_of (Frame (BadLeaf at byte)) = at
+place_of (Frame (Truncated at)) = at
+place_of (Event fault at) = at
+place_of (Line fault at) = at
+place_of (LongLine at) = at
+
+-- the name of a fault of a program
+abbrev pub refusal_name : RefusalName → List ℕ
+refusal_name LongText = codes "LongText"
+refusal_name BadUtf8 = codes "BadUtf8"
+refusal_name BadChar = codes "BadChar"
+refusal_name BigNumber = codes "BigNumber"
+refusal_name Deep = codes "Deep"
+refusal_name Expected = codes "Expected"
+refusal_name Twice = codes "Twice"
+refusal_name Many = codes "Many"
+refusal_name NoMain = codes "NoMain"
+refusal_name Unbound = codes "Unbound"
+refusal_name NoFunction = codes "NoFunction"
+refusal_name NoType = codes "NoType"
+refusal_name TooTall = codes "TooTall"
+refusal_name TooWide = codes "TooWide"
+refusal_name Mismatch = codes "Mismatch"
+refusal_name OutOfOrder = codes "OutOfOrder"
+refusal_name Jumpy = codes "Jumpy"
+refusal_name WaitNull = codes "WaitNull"
+refusal_name Arity = codes "Arity"
+refusal_name History = codes "History"
+refusal_name NotStream = codes "NotStream"
+refusal_name WideOutput = codes "WideOutput"
+
+-- what is refused, by which name and at which place
+abbrev pub refusal_note : List ℕ → List ℕ → ℕ → List ℕ
+refusal_note what name at = (what ++ name) ++ (codes " at " ++ decimal at ++ 10 ∷ [])
+
+-- the line; none at the end of a command that did all it was to do
+abbrev pub note_of : End → List ℕ
+note_of Done = []
+note_of Usage = codes "delta: usage\n"
+note_of (Refused None) = codes "delta: program refused\n"
+note_of (Refused (Some why)) = refusal_note (codes "delta: program refused: ") (refusal_name why.name) why.at
+note_of (Input fault) = refusal_note (codes "delta: input refused: ") (name_of fault) (place_of fault)
+note_of Open = codes "delta: input open\n"
+note_of FileFailed = codes "delta: outside fault: file\n"
+note_of ReadFailed = codes "delta: outside fault: input\n"
+note_of WriteFailed = codes "delta: outside fault: output\n"
+note_of Memory = codes "delta: no memory\n"
+note_of Long = codes "delta: input too long\n"
+
+-- a part of the text was added, and all of it if `all` holds
+pub record Says (old new : Option (List ℕ)) (text : List ℕ) (all : Type 0) : Type 0 where
+  pub sent : List ℕ
+  pub rest : List ℕ
+  pub split : text ≡ sent ++ rest
+  pub whole : all → rest ≡ []
+  pub added : Grows old new sent

@@ -1,0 +1,15 @@
+//! How a command ends: the ends, the exit status of each, and the note that tells it.
+#![tactic(auto)]
+
+mod answering;
+mod end;
+mod name;
+mod refusal;
+mod telling;
+#[cfg(test)]
+mod tests;
+
+pub use answering::answer;
+pub use end::{End, InputFault};
+pub use refusal::{Refusal, RefusalName};
+pub use telling::note;

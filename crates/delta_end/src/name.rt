@@ -1,0 +1,90 @@
+//! The names of faults, as notes tell them.
+
+ghost use Rattle.std.specs.Prelude.{◌≡◌};
+ghost use Rattle.delta_end.specs.Note.{frame_name as name_of_frame, event_name as name_of_event, line_name as name_of_line, refusal_name as name_of_refusal, name_of as name_of_input};
+
+use crate::end::InputFault;
+use crate::refusal::RefusalName;
+use event_frame::FrameFault;
+use event_text::LineFault;
+use event_word::EventFault;
+
+/// The name of a fault of frames.
+pub fn frame_name(fault: FrameFault) -> &'static [u8]
+    ensures { result.now ≡ name_of_frame fault }
+{
+    match fault {
+        FrameFault::BadMagic(_) => b"BadMagic",
+        FrameFault::LongPath(_, _) => b"LongPath",
+        FrameFault::BadStep(_, _) => b"BadStep",
+        FrameFault::BadLeaf(_, _) => b"BadLeaf",
+        FrameFault::Truncated(_) => b"Truncated",
+    }
+}
+
+/// The name of an event's fault.
+pub fn event_name(fault: EventFault) -> &'static [u8]
+    ensures { result.now ≡ name_of_event fault }
+{
+    match fault {
+        EventFault::Ended(_) => b"Ended",
+        EventFault::WrongStep(_) => b"WrongStep",
+        EventFault::WrongLeaf(_) => b"WrongLeaf",
+        EventFault::EarlyCut(_) => b"EarlyCut",
+    }
+}
+
+/// The name of a line's fault.
+pub fn line_name(fault: LineFault) -> &'static [u8]
+    ensures { result.now ≡ name_of_line fault }
+{
+    match fault {
+        LineFault::BadWord(_) => b"BadWord",
+        LineFault::BigNumber(_) => b"BigNumber",
+        LineFault::LongPath => b"LongPath",
+        LineFault::NoLeaf => b"NoLeaf",
+        LineFault::Extra(_) => b"Extra",
+    }
+}
+
+/// The name of an input's fault.
+pub fn input_name(fault: InputFault) -> &'static [u8]
+    ensures { result.now ≡ name_of_input fault }
+{
+    match fault {
+        InputFault::Frame(fault) => frame_name(fault),
+        InputFault::Event(fault, _) => event_name(fault),
+        InputFault::Line(fault, _) => line_name(fault),
+        InputFault::LongLine(_) => b"LongLine",
+    }
+}
+
+/// The name of a program's fault.
+pub fn refusal_name(name: RefusalName) -> &'static [u8]
+    ensures { result.now ≡ name_of_refusal name }
+{
+    match name {
+        RefusalName::LongText => b"LongText",
+        RefusalName::BadUtf8 => b"BadUtf8",
+        RefusalName::BadChar => b"BadChar",
+        RefusalName::BigNumber => b"BigNumber",
+        RefusalName::Deep => b"Deep",
+        RefusalName::Expected => b"Expected",
+        RefusalName::Twice => b"Twice",
+        RefusalName::Many => b"Many",
+        RefusalName::NoMain => b"NoMain",
+        RefusalName::Unbound => b"Unbound",
+        RefusalName::NoFunction => b"NoFunction",
+        RefusalName::NoType => b"NoType",
+        RefusalName::TooTall => b"TooTall",
+        RefusalName::TooWide => b"TooWide",
+        RefusalName::Mismatch => b"Mismatch",
+        RefusalName::OutOfOrder => b"OutOfOrder",
+        RefusalName::Jumpy => b"Jumpy",
+        RefusalName::WaitNull => b"WaitNull",
+        RefusalName::Arity => b"Arity",
+        RefusalName::History => b"History",
+        RefusalName::NotStream => b"NotStream",
+        RefusalName::WideOutput => b"WideOutput",
+    }
+}

@@ -1,0 +1,11 @@
+-- Lemmas, each file named for what it is about.
+pub mod Logs
+pub mod Lefts
+pub mod Outputs
+pub mod Findings
+pub mod Feeding
+pub mod Serving
+pub mod Opening
+pub mod Returning
+pub mod Completeness
+mod Examples

@@ -1,0 +1,17 @@
+use Rattle.std.proofs.Common.{◌++◌, take, ◌∙◌}
+use Rattle.delta_loop.proofs.Logs.{writes_more}
+use Rattle.delta_end.proofs.Growing.{split_more}
+use Rattle.delta_loop.proofs.sending.send.Goals as goal
+
+pub loop-rest-preserved : goal.loop-rest-preserved
+loop-rest-preserved g c =
+    let so_far = c.loop-rest.invariant.0 in (
+      (
+        so_far.0 ++ take c.in-Ok.count c.loop-rest.rest.now,
+        split_more _ so_far.0 c.loop-rest.rest.now c.in-Ok.count so_far.1,
+        writes_more _ _ _ so_far.0 _ so_far.2 c.in-Ok.ensures.moved,
+      ),
+      c.write.ensures.left ∙ c.loop-rest.invariant.1,
+      c.in-Ok.ensures.cause ∙ c.loop-rest.invariant.2,
+      c.write.ensures.other ∙ c.loop-rest.invariant.3,
+    )

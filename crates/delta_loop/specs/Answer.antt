@@ -1,0 +1,45 @@
+-- What a run answers, and what stands behind it.
+use Rattle.std.specs.Prelude.{◌≡◌, ◌⊎◌, ℕ, ◌+◌, ◌^◌, ◌≤◌, List, [], ◌++◌, Option, Some, length}
+use Rattle.port.specs.declared.link.Move.{Move}
+use Rattle.port.specs.Moves.{bytes_read, bytes_written}
+use Rattle.event_word.specs.StreamEvent.{StreamEvent}
+use Rattle.event_frame.specs.declared.version.Version.{Version}
+use Rattle.event_frame.specs.Frames.{header, frames, AllFit}
+use Rattle.delta_end.specs.declared.end.End.{End}
+use Rattle.delta_end.specs.declared.end.End.TheVariants.{Usage, Refused, FileFailed}
+use Rattle.delta_loop.specs.Meaning.{Meaning}
+use Rattle.delta_loop.specs.Output.{accepted, output}
+use Rattle.delta_loop.specs.Prompt.{has_ended}
+use Rattle.delta_loop.specs.Return.{MayEnd}
+
+-- where the old log is told, it was added to, and this holds of the moves that were added
+abbrev pub Adds : Option (List Move) → Option (List Move) → (List Move → Type 0) → Type 0
+Adds old new Q = (told : List Move) → old ≡ Some told → (moves : List Move) × (new ≡ Some (told ++ moves)) × Q moves
+
+-- what holds of a run's moves at its end; there are none where no program was run
+abbrev pub AtReturn : Meaning → End → List Move → Type 0
+AtReturn P Usage moves = moves ≡ []
+AtReturn P (Refused why) moves = moves ≡ []
+AtReturn P FileFailed moves = moves ≡ []
+AtReturn P end moves = MayEnd P (bytes_read moves) (has_ended moves) (bytes_written moves) end
+
+-- at most 2^40 bytes were read, and one more that tells that there are too many
+abbrev pub IsWithinLimit : List Move → Type 0
+IsWithinLimit moves = length (bytes_read moves) ≤ 2 ^ 40 + 1
+
+-- the whole input is a header and, in its version, the frames of a word that the program accepts
+pub record IsGood (P : Meaning) (v : Version) (all : List ℕ) (word : List StreamEvent) : Type 0 where
+  pub input : all ≡ header v ++ frames v word
+  pub fit : AllFit v word
+  pub short : length all ≤ 2 ^ 40
+  pub admitted : accepted P word ≡ word
+
+-- the output of the word was written, and nothing else
+abbrev pub WroteAll : Meaning → List StreamEvent → List Move → Type 0
+WroteAll P word moves = bytes_written moves ≡ output P word
+
+-- over an input that is good in whole, the run is done or open with all of the output written, or memory ran out
+abbrev pub IsComplete : Meaning → Option (List ℕ) → Option (List Move) → Option (List Move) → ℕ → Type 0
+IsComplete P left old new status =
+    (v : Version) (all : List ℕ) (word : List StreamEvent) → left ≡ Some all → IsGood P v all word
+    → (status ≡ 8) ⊎ (((status ≡ 0) ⊎ (status ≡ 6)) × Adds old new (WroteAll P word))

@@ -1,0 +1,95 @@
+//! Runs a program that was read: the call on which every command that runs a program stands.
+
+ghost use Rattle.std.specs.Prelude.{◌≡◌, ◌≢◌, ◌⊎◌};
+ghost use Rattle.port.specs.Faults.{Rose};
+ghost use Rattle.delta_end.specs.declared.end.End.{End};
+ghost use Rattle.delta_loop.specs.Answer.{Adds, AtReturn, IsComplete, IsWithinLimit};
+ghost use Rattle.delta_end.specs.Status.{AnswerOf, IsStatus, IsStill};
+ghost use Rattle.delta_end.specs.End.{IsOfLoop, ReadCause, WriteCause};
+ghost use Rattle.delta_loop.specs.Loop.{Ran};
+ghost use Rattle.delta_loop.specs.Meaning.{Meaning, Stands, HasBegun};
+ghost use Rattle.delta_end.specs.Note.{note_of, Says};
+ghost use Rattle.delta_loop.specs.Output.{due};
+ghost use Rattle.delta_loop.specs.Prompt.{IsPrompt};
+
+use crate::open::open;
+use crate::serve::serve;
+use crate::stepper::Stepper;
+use delta_end::{End, answer, note};
+use event_frame::{Reader, Version};
+use port::{IoFault, Link, Sink};
+use std::alloc::Global;
+
+/// The most bytes that a reader of a run keeps: those of a part of a frame, and a piece.
+const ROOM: u64 = 4137;
+
+/// Runs a program over a link, up to its end. The machine stands for the program before any event, and
+/// `first` are the bytes that come before the first read, behind a header of the version. The reader's room is taken before anything is
+/// written.
+pub fn run_machine<M: Stepper, L: Link>(
+    alloc: Global,
+    machine: M,
+    version: Version,
+    first: &[u8],
+    link: &mut L,
+) -> End
+    requires { Stands M.stands machine }
+    ensures ran { (P : Meaning) → HasBegun M.stands P machine version first.now → Ran P (L.log link.old) (L.log link.new) (L.left link.old) (L.left link.new) result }
+    ensures end { IsOfLoop result }
+    ensures read { ReadCause result (L.read_faults link.old) (L.read_faults link.new) }
+    ensures write { WriteCause result (L.write_faults link.old) (L.write_faults link.new) }
+{
+    let mut reader = Reader::new(alloc);
+    match reader.reserve(ROOM) {
+        Ok(()) => {}
+        Err(_) => return End::Memory,
+    }
+    match open(link, version, first) {
+        Ok(()) => {
+            let mut machine = machine;
+            serve(alloc, &mut machine, &mut reader, link)
+        }
+        Err(IoFault::Memory) => End::Memory,
+        Err(IoFault::Failed) => End::WriteFailed,
+    }
+}
+
+/// Runs a program that was read over a link, and answers the exit status: 0 where the input ended and
+/// the program may end there, 4 where the input is refused, 6 where the input ended and the program awaits
+/// more, 7 at a fault outside, 8 for want of memory, and 9 for more than 2^40 input bytes. The note is
+/// the last thing that is written. The machine stands for the program before any event, and `first` are the
+/// bytes that come before the first read, behind a header of the version.
+pub fn run_program<M: Stepper, L: Link, N: Sink>(
+    alloc: Global,
+    machine: M,
+    version: Version,
+    first: &[u8],
+    link: &mut L,
+    notes: &mut N,
+) -> u8
+    requires { Stands M.stands machine }
+    // Before each read, what was written is what is due for what was read.
+    ensures prompt { (P : Meaning) → HasBegun M.stands P machine version first.now → Adds (L.log link.old) (L.log link.new) (IsPrompt (due P)) }
+    // At most 2^40 bytes are read, and one more.
+    ensures limit { (P : Meaning) → HasBegun M.stands P machine version first.now → Adds (L.log link.old) (L.log link.new) IsWithinLimit }
+    // The status is that of an end, and the end is shown by the bytes, the counts and the note.
+    ensures answer { (end : End) × IsOfLoop end × IsStatus end result (N.faults notes.old) (N.faults notes.new)
+        × ((P : Meaning) → HasBegun M.stands P machine version first.now → Adds (L.log link.old) (L.log link.new) (AtReturn P end))
+        × ReadCause end (L.read_faults link.old) (L.read_faults link.new)
+        × WriteCause end (L.write_faults link.old) (L.write_faults link.new)
+        × Says (N.told notes.old) (N.told notes.new) (note_of end) ((result ≢ 8) × IsStill (N.faults notes.old) (N.faults notes.new)) }
+    // An outside fault is answered only where one of the counts rose.
+    ensures outside { result ≡ 7 → Rose (L.read_faults link.old) (L.read_faults link.new)
+        ⊎ Rose (L.write_faults link.old) (L.write_faults link.new) ⊎ Rose (N.faults notes.old) (N.faults notes.new) }
+    // Where the link's count of reads or of writes rose, the status is 7 or 8.
+    ensures still { (result ≡ 7) ⊎ (result ≡ 8) ⊎ ((L.read_faults link.new ≡ L.read_faults link.old) × (L.write_faults link.new ≡ L.write_faults link.old)) }
+    // Over an input that is good in whole, with no fault counted: done or open with all written, or want of memory.
+    ensures complete { (P : Meaning) → HasBegun M.stands P machine version first.now
+        → IsStill (L.read_faults link.old) (L.read_faults link.new) → IsStill (L.write_faults link.old) (L.write_faults link.new)
+        → IsStill (N.faults notes.old) (N.faults notes.new)
+        → IsComplete P (L.left link.old) (L.log link.old) (L.log link.new) result }
+{
+    let end = run_machine(alloc, machine, version, first, link);
+    let said = note(notes, end);
+    answer(end, said)
+}

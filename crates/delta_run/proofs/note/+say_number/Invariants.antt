@@ -1,4 +1,0 @@
-use Rattle.delta_run.proofs.note.+say_number.Given as goal
-
-abbrev pub decreases-say_number : goal.decreases-say_number
-decreases-say_number g l = l.number

@@ -1,0 +1,4 @@
+mod Examples
+pub mod Feeding
+pub mod Serving
+pub mod Refusals

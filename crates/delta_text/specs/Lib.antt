@@ -1,0 +1,7 @@
+pub mod LineState
+pub mod Reading
+pub mod Reads
+pub mod Fault
+pub mod Conversion
+pub mod Loop
+pub mod Sending
