@@ -1,0 +1,26 @@
+use Rattle.std.proofs.Common.{◌≡◌, ◌∙◌, ◌+◌, ◌≤◌, ◌<◌, ◌++◌, ◌∷◌, [], ap, sym, map, length, drop, arith, string_bytes}
+use Rattle.std.proofs.lemmas.List.{map-append}
+use Rattle.delta_lex.specs.Tokens.{lexeme_of, lexemes}
+use Rattle.delta_parse.specs.Terminals.{plains, plain_of}
+use Rattle.delta_parse.specs.Plain.{token_with, numbered, texts_of}
+use Rattle.delta_parse.proofs.Numbers.{numbered_step, names_step, few_after}
+use Rattle.delta_parse.proofs.numbering.plain_tokens.Goals as goal
+
+pub loop-token-preserved : goal.loop-token-preserved
+loop-token-preserved c =
+    let ts = c.args.tokens.now in
+    let i = c.loop-token.token-index in
+    let below : i < length ts = omega arith in
+    let found = c.loop-token.found.items in
+    let names = texts_of c.loop-token.names in
+    let more = texts_of c.plain_token.new.names in
+    let plain = c.in_ok-plain.plain in
+    let longer : plains c.push.new.self.items ≡ plains found ++ (plain_of plain ∷ []) = ap plains c.in_ok-push.ensures.items ∙ map-append plain_of found (plain ∷ []) in
+    let held = few_after names more _ _ c.in_ok-plain.ensures.names in
+    let few = c.loop-token.invariant.few in
+    record {
+      so_far = ap (λ xs. xs ++ numbered more (lexemes (drop (i + 1) ts))) longer ∙ numbered_step ts i _ (plains found) names more (plain_of plain) _ below c.in_ok-plain.ensures.plain c.in_ok-plain.ensures.names c.loop-token.invariant.so_far;
+      rest = names_step ts i _ names more _ below c.in_ok-plain.ensures.names c.loop-token.invariant.rest;
+      same = c.in_ok-plain.ensures.same;
+      few = omega arith;
+    }

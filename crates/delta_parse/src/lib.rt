@@ -1,0 +1,29 @@
+//! The grammar of programs, stated apart from the code, and readers of the parts of a program's tokens
+//! that are proved against it.
+#![tactic(auto)]
+
+mod checked_reader;
+mod context_reader;
+mod cursor;
+mod expression_reader;
+mod fault;
+mod history_reader;
+pub mod laws;
+mod marks;
+mod numbering;
+mod pattern_reader;
+mod plain;
+mod terminal;
+mod type_reader;
+mod whole_reader;
+
+pub use context_reader::{read_entry, read_parameters};
+pub use cursor::Halt;
+pub use fault::ParseFault;
+pub use history_reader::{read_histories, read_history};
+pub use marks::first_deep;
+pub use numbering::plain_tokens;
+pub use pattern_reader::{Pattern, read_pattern};
+pub use plain::Plain;
+pub use terminal::Terminal;
+pub use type_reader::read_type;
