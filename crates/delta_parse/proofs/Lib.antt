@@ -10,4 +10,6 @@ pub mod Numbers
 pub mod Shorts
 pub mod NameSets
 pub mod MarkSteps
+pub mod BindingSteps
+mod BindingExamples
 pub mod OneAnswer

@@ -1,7 +1,6 @@
 -- Lists that a loop reads, an item at a time.
-use Rattle.std.proofs.Common.{◌≡◌, ◌∙◌, ℕ, ◌+◌, ◌-◌, ◌<◌, ◌≤◌, Bool, true, false, List, Some, None, [], ◌∷◌, ◌++◌, ◌||◌, refl, sym, ap, map, length, take, drop, arith, append_assoc, append-nil, length-drop, take_all, subst}
-use Rattle.std.proofs.lemmas.List.{drop-map, drop-drop, length-map}
-use Rattle.std.proofs.Math.Seq.{drop-append_seam}
+use Rattle.std.proofs.Common.{◌≡◌, ◌∙◌, ℕ, ◌+◌, ◌-◌, ◌<◌, ◌≤◌, Bool, true, false, List, [], ◌∷◌, ◌++◌, ◌||◌, refl, sym, ap, length, take, drop, arith, append_assoc, append-nil, length-drop, take_all, subst}
+use Rattle.std.proofs.lemmas.List.{drop-map, drop-drop}
 use Rattle.grammar.specs.Reading.{Outcome, got, stuck, out, ◌>>=◌, starts}
 use Rattle.grammar.proofs.Exact.{rest_is}
 use Rattle.delta_tree.specs.SyntaxTree.{WrittenType, WrittenHist, Expression, Declaration}

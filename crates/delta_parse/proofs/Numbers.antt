@@ -1,16 +1,16 @@
 -- The numbers of names, token by token, and the places of tokens.
-use Rattle.std.proofs.Common.{◌≡◌, ◌∙◌, ℕ, zero, suc, ◌+◌, ◌-◌, ◌<◌, ◌≤◌, Bool, true, false, List, [], ◌∷◌, ◌++◌, refl, sym, ap, length, take, drop, map, get_or, arith, append_assoc, append-nil, subst, cond, add-one, length-append, drop-cons}
-use Rattle.std.proofs.lemmas.List.{drop_all, length-map, length-take-le}
+use Rattle.std.proofs.Common.{◌≡◌, ◌∙◌, ℕ, zero, suc, ◌+◌, ◌-◌, ◌<◌, ◌≤◌, Bool, true, false, List, [], ◌∷◌, ◌++◌, refl, sym, ap, length, drop, get_or, arith, append_assoc, append-nil, cond, add-one, length-append, drop-cons}
+use Rattle.std.proofs.lemmas.List.{drop_all}
 use Rattle.std.specs.Prelude.{ℤ}
-use Rattle.std.specs.List.{list_any, position_or_len, All}
-use Rattle.std.specs.Str.{bytes_eq, chars}
+use Rattle.std.specs.List.{list_any}
+use Rattle.std.specs.Str.{bytes_eq}
 use Rattle.delta_lex.specs.declared.token.Kind.{Kind}
 use Rattle.delta_lex.specs.declared.token.Kind.TheVariants.{Name, Word, Number, Sign}
 use Rattle.delta_lex.specs.declared.token.Token.{Token}
-use Rattle.delta_lex.specs.Tokens.{Lexeme, lexeme_of, lexemes, HasTokens, AreSlices, AreInOrder}
+use Rattle.delta_lex.specs.Tokens.{lexeme_of, lexemes}
 use Rattle.delta_parse.specs.declared.terminal.Terminal.{Terminal}
 use Rattle.delta_parse.specs.Terminals.{Tok}
-use Rattle.delta_parse.specs.Plain.{with_name, add_name, token_with, numbered, names_from, names_in, name_of, terminal_of, worth_of}
+use Rattle.delta_parse.specs.Plain.{with_name, add_name, token_with, numbered, names_from, name_of, terminal_of, worth_of}
 use Rattle.delta_parse.specs.Places.{place_from, place_at}
 
 -- the tokens from one on

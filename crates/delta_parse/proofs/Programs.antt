@@ -1,17 +1,16 @@
 -- Whole programs, and the first token that no program has there.
-use Rattle.std.proofs.Common.{◌≡◌, ◌∙◌, ℕ, ◌+◌, ◌-◌, ◌<◌, ◌≤◌, List, [], ◌∷◌, ◌++◌, refl, sym, ap, length, take, arith, append-nil, subst}
+use Rattle.std.proofs.Common.{◌≡◌, ◌∙◌, ℕ, ◌-◌, ◌≤◌, List, [], ◌∷◌, refl, ap, length, take, arith}
 use Rattle.std.proofs.Math.Seq.{take-length}
-use Rattle.grammar.specs.Reading.{Outcome, got, stuck, out}
-use Rattle.grammar.specs.Sentences.{IsSentence, Begins, IsMisfit}
-use Rattle.grammar.proofs.Exact.{sentence_read, one_sentence, read_whole, misfit_front, stops_behind, stops_within}
+use Rattle.grammar.specs.Reading.{got, stuck}
+use Rattle.grammar.specs.Sentences.{Begins, IsMisfit}
+use Rattle.grammar.proofs.Exact.{sentence_read, one_sentence, read_whole, stops_behind, stops_within}
 use Rattle.delta_tree.specs.SyntaxTree.{WrittenFunction, Declaration}
-use Rattle.delta_parse.specs.declared.plain.Plain.{Plain}
-use Rattle.delta_parse.specs.Terminals.{Tok, plains}
-use Rattle.delta_parse.specs.Parts.{a_program, declarations, a_main, delta, Meant, stands_for}
+use Rattle.delta_parse.specs.Terminals.{Tok}
+use Rattle.delta_parse.specs.Parts.{a_program, declarations, a_main, delta}
 use Rattle.delta_parse.specs.Tables.{delta_grammar, reading}
 use Rattle.delta_parse.specs.Programs.{IsProgram, BeginsProgram, AreDeclarations, IsUnexpected}
 use Rattle.delta_parse.proofs.Samples.{delta_checked}
-use Rattle.delta_parse.proofs.Steps.{program_is, main_is, plains_length}
+use Rattle.delta_parse.proofs.Steps.{program_is, main_is}
 
 abbrev Found : Type 0
 Found = List Declaration × WrittenFunction

@@ -1,13 +1,13 @@
 -- A sentence of each part of the grammar, and all that is checked of it.
-use Rattle.std.proofs.Common.{◌≡◌, ℕ, Bool, true, List, [], ◌∷◌, refl, pos, sym, ap, ◌∙◌}
+use Rattle.std.proofs.Common.{◌≡◌, Bool, true, List, [], ◌∷◌, refl, pos}
 use Rattle.std.proofs.lemmas.Bool.{eq-eqb}
-use Rattle.grammar.specs.Rules.{Sort, token, Rule, one_of, part}
-use Rattle.grammar.specs.Grammar.{Derives, by_token, by_part, by_both, by_left, by_right, by_none, by_some, by_placed, by_make}
+use Rattle.grammar.specs.Rules.{token, one_of, part}
+use Rattle.grammar.specs.Grammar.{Derives, by_token, by_part, by_both, by_left, by_right, by_none, by_placed, by_make}
 use Rattle.grammar.proofs.Checked.{Sample, IsSound, Checked}
 use Rattle.delta_parse.specs.declared.terminal.Terminal.{Terminal}
-use Rattle.delta_parse.specs.declared.terminal.Terminal.TheVariants.{FunWord, MainWord, TypeWord, LetWord, InWord, CaseWord, OfWord, InlWord, InrWord, NilWord, WaitWord, EpsWord, IfWord, ThenWord, ElseWord, FoldWord, FromWord, WithWord, IntWord, FstWord, SndWord, Open, Close, OpenBrace, CloseBrace, Comma, Semicolon, Colon, Colons, Equals, Arrow, Bar, Bars, Plus, Minus, Times, Slash, Less, Dot, NameToken, OneToken, NumberToken, Other}
+use Rattle.delta_parse.specs.declared.terminal.Terminal.TheVariants.{FunWord, MainWord, TypeWord, LetWord, InWord, CaseWord, OfWord, InlWord, InrWord, NilWord, WaitWord, EpsWord, IfWord, ThenWord, ElseWord, FoldWord, FromWord, WithWord, IntWord, FstWord, Open, Close, OpenBrace, CloseBrace, Comma, Semicolon, Colon, Colons, Equals, Arrow, Bar, Bars, Plus, Minus, Times, Less, Dot, NameToken, OneToken, NumberToken}
 use Rattle.delta_parse.specs.Terminals.{Tok, code_of, is_kind}
-use Rattle.delta_parse.specs.Parts.{Part, a_program, declarations, a_declaration, a_main, a_past, an_entry, more_entries, parameters, a_context, more_commas, more_semicolons, an_item, a_type, a_par, a_cat, a_star, more_stars, a_base, an_expression, a_pattern, a_head, an_application, an_atom, an_ending, the_arms, arguments, more_histories, more_expressions, a_history, a_comparison, a_sum, more_summands, a_product, more_factors, a_unary, a_history_atom, stands_for, delta, Meant, RuleFor}
+use Rattle.delta_parse.specs.Parts.{Part, a_program, declarations, a_declaration, a_main, a_past, an_entry, more_entries, parameters, a_context, more_commas, more_semicolons, an_item, a_type, a_par, a_cat, a_star, more_stars, a_base, an_expression, a_pattern, a_head, an_application, an_atom, an_ending, the_arms, arguments, more_histories, more_expressions, a_history, a_comparison, a_sum, more_summands, a_product, more_factors, a_unary, a_history_atom, stands_for, delta, Meant}
 use Rattle.delta_parse.specs.Rules.{rule_of}
 use Rattle.delta_parse.specs.Tables.{delta_grammar}
 use Rattle.delta_parse.proofs.Tables.{every, every_is, part_next, nullable_is, first_is, next_is, decided, ranked, rank_below}

@@ -1,10 +1,10 @@
 -- The tokens of a text are few and end within it.
-use Rattle.std.proofs.Common.{◌≡◌, ◌∙◌, ℕ, zero, suc, ◌+◌, ◌-◌, ◌<◌, ◌≤◌, min, List, [], ◌∷◌, refl, sym, ap, length, take, drop, get_or, arith, length-drop}
+use Rattle.std.proofs.Common.{◌≡◌, ◌∙◌, ℕ, zero, suc, ◌+◌, ◌-◌, ◌<◌, ◌≤◌, min, List, [], ◌∷◌, sym, ap, length, take, drop, get_or, arith, length-drop}
 use Rattle.std.proofs.lemmas.List.{length-take}
 use Rattle.std.proofs.lemmas.Str.{encodes-chars}
 use Rattle.std.specs.Str.{chars}
 use Rattle.delta_lex.specs.declared.token.Token.{Token}
-use Rattle.delta_lex.specs.Tokens.{Lexeme, lexeme_of, lexemes, AreSlices, AreInOrder}
+use Rattle.delta_lex.specs.Tokens.{Lexeme, lexemes, AreSlices, AreInOrder}
 use Rattle.delta_lex.proofs.Places.{reads_in_order, reads_slices}
 use Rattle.delta_parse.specs.Places.{AreOfText, AreWithin, AreShort}
 

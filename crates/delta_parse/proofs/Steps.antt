@@ -1,5 +1,5 @@
 -- Reading a part is reading its rule: a lemma for each part, so that a reader's proof unfolds its own part alone.
-use Rattle.std.proofs.Common.{◌≡◌, ◌<◌, ℕ, List, length}
+use Rattle.std.proofs.Common.{◌≡◌, List, length}
 use Rattle.std.proofs.lemmas.List.{length-map}
 use Rattle.grammar.proofs.Levels.{reading_is}
 use Rattle.delta_parse.specs.declared.plain.Plain.{Plain}

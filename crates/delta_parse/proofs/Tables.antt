@@ -1,16 +1,13 @@
 -- The grammar's tables are right, and one token decides each of its choices.
-use Rattle.std.proofs.Common.{◌≡◌, ℕ, Bool, true, false, List, Option, Some, None, [], ◌∷◌, ◌++◌, ◌||◌, ◌&&◌, refl, nat_lt}
-use Rattle.std.proofs.lemmas.Bool.{eq-eqb}
-use Rattle.grammar.specs.Rules.{Sort, part}
-use Rattle.grammar.specs.Grammar.{Derives, by_token, by_part, by_both, by_left, by_right, by_none, by_some, by_placed, by_make}
+use Rattle.std.proofs.Common.{◌≡◌, Bool, true, false, ◌||◌, ◌&&◌, refl, nat_lt}
 use Rattle.grammar.specs.Reading.{nullable, first}
 use Rattle.grammar.proofs.Tests.{and_true, implied}
-use Rattle.grammar.proofs.Checked.{Sample, IsSound, left_below, next, is_decided, Checked}
+use Rattle.grammar.proofs.Checked.{left_below, next, is_decided}
 use Rattle.delta_parse.specs.declared.terminal.Terminal.{Terminal}
 use Rattle.delta_parse.specs.declared.terminal.Terminal.TheVariants.{FunWord, MainWord, TypeWord, LetWord, InWord, CaseWord, OfWord, InlWord, InrWord, NilWord, WaitWord, EpsWord, IfWord, ThenWord, ElseWord, FoldWord, FromWord, WithWord, IntWord, FstWord, SndWord, Open, Close, OpenBrace, CloseBrace, Comma, Semicolon, Colon, Colons, Equals, Arrow, Bar, Bars, Plus, Minus, Times, Slash, Less, Dot, NameToken, OneToken, NumberToken, Other}
-use Rattle.delta_parse.specs.Terminals.{Tok, is_kind}
-use Rattle.delta_parse.specs.Parts.{Part, a_program, declarations, a_declaration, a_main, a_past, an_entry, more_entries, parameters, a_context, more_commas, more_semicolons, an_item, a_type, a_par, a_cat, a_star, more_stars, a_base, an_expression, a_pattern, a_head, an_application, an_atom, an_ending, the_arms, arguments, more_histories, more_expressions, a_history, a_comparison, a_sum, more_summands, a_product, more_factors, a_unary, a_history_atom, stands_for, delta, Meant, RuleFor}
-use Rattle.delta_parse.specs.Rules.{is_separator, is_comparison, is_sum, is_product, is_prefix, is_number, rule_of}
+use Rattle.delta_parse.specs.Terminals.{is_kind}
+use Rattle.delta_parse.specs.Parts.{Part, a_program, declarations, a_declaration, a_main, a_past, an_entry, more_entries, parameters, a_context, more_commas, more_semicolons, an_item, a_type, a_par, a_cat, a_star, more_stars, a_base, an_expression, a_pattern, a_head, an_application, an_atom, an_ending, the_arms, arguments, more_histories, more_expressions, a_history, a_comparison, a_sum, more_summands, a_product, more_factors, a_unary, a_history_atom, delta}
+use Rattle.delta_parse.specs.Rules.{is_separator, is_comparison, is_sum, is_product, rule_of}
 use Rattle.delta_parse.specs.Tables.{part_nullable, part_first, rank, delta_grammar, starts_declaration}
 
 -- each terminal passes the test

@@ -1,15 +1,14 @@
 -- One more of what a rule repeats.
-use Rattle.std.proofs.Common.{◌≡◌, ◌∙◌, ℕ, ◌+◌, ◌-◌, ◌≤◌, Bool, true, false, List, Some, None, [], ◌∷◌, ◌++◌, ◌||◌, refl, sym, ap, length, take, drop, arith, append_assoc, length-drop, take_all}
-use Rattle.grammar.specs.Reading.{Outcome, got, stuck, out, starts}
+use Rattle.std.proofs.Common.{◌≡◌, ◌∙◌, ℕ, true, List, ◌∷◌, ◌||◌, refl, ap}
+use Rattle.grammar.specs.Reading.{Outcome, got, stuck, out}
 use Rattle.delta_tree.specs.SyntaxTree.{WrittenType, star_written, WrittenHist}
 use Rattle.hist_value.specs.HistExpr.{reckoned}
 use Rattle.delta_parse.specs.declared.terminal.Terminal.TheVariants.{Plus, Minus, Times, Slash}
-use Rattle.delta_parse.specs.declared.plain.Plain.{Plain}
-use Rattle.delta_parse.specs.Terminals.{Tok, is_kind, plains}
+use Rattle.delta_parse.specs.Terminals.{Tok, is_kind}
 use Rattle.delta_parse.specs.Parts.{more_stars, more_summands, more_factors, a_product, a_unary}
 use Rattle.delta_parse.specs.Actions.{operator, hist_with}
 use Rattle.delta_parse.specs.Tables.{reading}
-use Rattle.delta_parse.specs.Readers.{with_stars, with_operands, behind}
+use Rattle.delta_parse.specs.Readers.{with_stars, with_operands}
 use Rattle.delta_parse.proofs.Steps.{stars_is, summands_is, factors_is}
 
 pub one_star : (at : ℕ) (y : WrittenType) (ts : List Tok) (t : Tok) (mid : List Tok) → ts ≡ t ∷ mid → is_kind Times t.kind ≡ true

@@ -1,11 +1,11 @@
 -- What the parts of a rule make together: the actions of the grammar.
-use Rattle.std.specs.Prelude.{ℕ, ℤ, List, Option, Some, None, [], ◌∷◌, map, neg_ℤ}
+use Rattle.std.specs.Prelude.{ℕ, List, Option, Some, None, [], ◌∷◌, neg_ℤ}
 use Rattle.hist_value.specs.declared.expr.Op.{Op}
 use Rattle.hist_value.specs.declared.expr.Op.TheVariants.{Add, Sub, Mul, Div, Less as LessOp, Same}
 use Rattle.hist_value.specs.HistExpr.{HistExpr, variable, literal, unit_expr, reckoned, pair_expr, first_expr, second_expr, left_expr, right_expr, choice, nil_expr, cons_expr, fold_expr}
-use Rattle.delta_tree.specs.SyntaxTree.{WrittenType, star_written, named_written, WrittenContext, no_parameters, parameter, side_by_side, in_sequence, WrittenHist, Expression, name_at, eps_at, unit_at, nil_at, hist_at, par_at, cat_at, cons_at, inl_at, inr_at, typed_at, let_at, let_par_at, let_cat_at, case_sum_at, case_star_at, wait_at, if_at, call_at, Head, name_head, call_head, typed_head, Expressions, no_expressions, expression_before, WrittenFunction, WrittenAlias, Declaration, alias_declared, function_declared}
+use Rattle.delta_tree.specs.SyntaxTree.{WrittenType, star_written, WrittenContext, parameter, side_by_side, in_sequence, WrittenHist, Expression, name_at, eps_at, unit_at, nil_at, hist_at, par_at, cat_at, cons_at, inl_at, inr_at, typed_at, let_at, let_par_at, let_cat_at, case_sum_at, case_star_at, wait_at, if_at, call_at, Head, name_head, call_head, typed_head, Expressions, no_expressions, expression_before, WrittenFunction, Declaration, alias_declared, function_declared}
 use Rattle.delta_parse.specs.declared.terminal.Terminal.{Terminal}
-use Rattle.delta_parse.specs.declared.terminal.Terminal.TheVariants.{FstWord, SndWord, InlWord, InrWord, Comma, Semicolon, Plus, Minus, Times, Slash, Less}
+use Rattle.delta_parse.specs.declared.terminal.Terminal.TheVariants.{FstWord, SndWord, InlWord, Semicolon, Plus, Minus, Times, Slash, Less}
 use Rattle.delta_parse.specs.Terminals.{Tok}
 use Rattle.delta_parse.specs.Parts.{Pattern, one_name, two_at_once, two_in_turn, Arms, sum_arms, star_arms, Ending, plain_ending, at_once, in_turn, of_type}
 

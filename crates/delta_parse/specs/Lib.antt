@@ -7,6 +7,7 @@ pub mod Tables
 pub mod Readers
 pub mod Plain
 pub mod Marks
+pub mod Bindings
 pub mod Programs
 pub mod Places
 pub mod Causes

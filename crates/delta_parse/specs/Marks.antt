@@ -1,5 +1,5 @@
 -- How many marks are open before a token.
-use Rattle.std.specs.Prelude.{◌≡◌, ℕ, ◌+◌, ◌-◌, ◌<◌, ◌≤◌, List, [], ◌∷◌, length, take, reverse}
+use Rattle.std.specs.Prelude.{ℕ, ◌+◌, ◌-◌, ◌<◌, ◌≤◌, List, [], ◌∷◌, length, take, reverse}
 use Rattle.delta_parse.specs.declared.terminal.Terminal.{Terminal}
 use Rattle.delta_parse.specs.declared.terminal.Terminal.TheVariants.{InWord, ThenWord, ElseWord, Arrow, Colons, Bars, Plus, Minus, Times, Slash, Less, Equals, Dot, InlWord, InrWord, FstWord, SndWord, OfWord, FromWord, WithWord, FoldWord, CaseWord, Open, OpenBrace, Close, CloseBrace, Comma, Semicolon, Bar, FunWord, TypeWord, MainWord, NameToken}
 use Rattle.delta_parse.specs.declared.marks.Effect.{Effect}

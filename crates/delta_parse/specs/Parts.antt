@@ -1,6 +1,6 @@
 -- The parts of the grammar that have a name, and what each stands for.
-use Rattle.std.specs.Prelude.{ℕ, List}
-use Rattle.grammar.specs.Rules.{Token, Sort, token, place, thing, pair, option, list, Language, Value, Rule}
+use Rattle.std.specs.Prelude.{ℕ}
+use Rattle.grammar.specs.Rules.{Sort, token, thing, pair, list, Language, Value, Rule}
 use Rattle.delta_tree.specs.SyntaxTree.{WrittenType, WrittenContext, WrittenHist, Expression, Head, WrittenFunction, Declaration}
 use Rattle.delta_parse.specs.declared.terminal.Terminal.{Terminal}
 use Rattle.delta_parse.specs.Terminals.{Worth}

@@ -1,6 +1,6 @@
 -- Which tokens are a program, and which tree is theirs.
-use Rattle.std.specs.Prelude.{◌≡◌, ℕ, ◌+◌, ◌-◌, ◌<◌, ◌≤◌, List, ◌++◌, length, take}
-use Rattle.grammar.specs.Sentences.{IsSentence, Begins, IsMisfit}
+use Rattle.std.specs.Prelude.{◌≡◌, ℕ, ◌+◌, ◌-◌, ◌<◌, ◌≤◌, List, length, take}
+use Rattle.grammar.specs.Sentences.{IsSentence, Begins}
 use Rattle.delta_lex.specs.Tokens.{Lexeme}
 use Rattle.delta_tree.specs.SyntaxTree.{WrittenFunction, Declaration, ProgramTree}
 use Rattle.delta_parse.specs.Terminals.{Tok}

@@ -1,6 +1,6 @@
 -- What the parser's readers answer, against what reading gives.
-use Rattle.std.specs.Prelude.{◌≡◌, ℕ, List, [], ◌∷◌, ◌++◌, Result, Ok, Err}
-use Rattle.grammar.specs.Reading.{Outcome, got, stuck, out, ◌>>=◌}
+use Rattle.std.specs.Prelude.{◌≡◌, ℕ, List, ◌++◌, Result, Ok, Err}
+use Rattle.grammar.specs.Reading.{Outcome, got, stuck, ◌>>=◌}
 use Rattle.delta_tree.specs.SyntaxTree.{WrittenType, WrittenHist, Expression}
 use Rattle.delta_tree.specs.Tree.{expression_of}
 use Rattle.delta_parse.specs.declared.cursor.Halt.{Halt}

@@ -3,15 +3,14 @@
 -- It is written so that one token decides each choice. So what begins alike stands together: a name and the arguments that may
 -- follow it, the four brackets that begin with `(` and an expression, the two lists of parameters. What is repeated is a part of
 -- its own that may derive no token.
-use Rattle.std.specs.Prelude.{ℕ, Bool, true, false, ◌||◌, Option, List}
-use Rattle.grammar.specs.Rules.{Sort, token, place, thing, pair, option, list, Rule, one_of, part, both, either, maybe, placed, make}
-use Rattle.grammar.specs.Grammar.{Grammar, Derives}
+use Rattle.std.specs.Prelude.{ℕ, Bool, ◌||◌}
+use Rattle.grammar.specs.Rules.{token, thing, pair, option, list, one_of, part, both, either, maybe, placed, make}
 use Rattle.delta_tree.specs.SyntaxTree.{WrittenType, eps_written, one_written, int_written, named_written, cat_written, par_written, sum_written, no_parameters}
 use Rattle.delta_parse.specs.declared.terminal.Terminal.{Terminal}
-use Rattle.delta_parse.specs.declared.terminal.Terminal.TheVariants.{FunWord, MainWord, TypeWord, LetWord, InWord, CaseWord, OfWord, InlWord, InrWord, NilWord, WaitWord, EpsWord, IfWord, ThenWord, ElseWord, FoldWord, FromWord, WithWord, IntWord, FstWord, SndWord, Open, Close, OpenBrace, CloseBrace, Comma, Semicolon, Colon, Colons, Equals, Arrow, Bar, Bars, Plus, Minus, Times, Slash, Less, Dot, NameToken, OneToken, NumberToken, Other}
-use Rattle.delta_parse.specs.Terminals.{Tok, is_kind}
-use Rattle.delta_parse.specs.Parts.{type_thing, context_thing, entry_thing, branch_thing, history_thing, expression_thing, head_thing, pattern_thing, arms_thing, ending_thing, function_thing, declaration_thing, Part, a_program, declarations, a_declaration, a_main, a_past, an_entry, more_entries, parameters, a_context, more_commas, more_semicolons, an_item, a_type, a_par, a_cat, a_star, more_stars, a_base, an_expression, a_pattern, a_head, an_application, an_atom, an_ending, the_arms, arguments, more_histories, more_expressions, a_history, a_comparison, a_sum, more_summands, a_product, more_factors, a_unary, a_history_atom, stands_for, delta, RuleFor}
-use Rattle.delta_parse.specs.Actions.{alias_from, arguments_of, atom_from, bracketed, bracketed_context, bracketed_hist, bracketed_type, branch_of, case_of, case_with, chosen, compared, consed, context_from, context_with, ended, ended_at_once, ended_in_turn, ended_of_type, ended_plain, entry_of, eps_of, expression_list, first_of, folded, function_from, function_with, grouped, head_from, hist_consed, hist_with, between, given_or_none, items_of, if_of, inl_of, inr_of, joined, let_of, let_with, main_from, more_behind, more_of, name_pattern, named_hist, negative_hist, nil_hist, nil_of, no_arguments, nothing_inside, number_hist, operator, pair_inside, parameter_of, past_atom, pattern_of, pattern_with, prefixed, prefixed_expr, second_of, something_inside, star_arms_of, star_of, starred, sum_arms_of, to_left, typed_head_of, unit_inside, wait_of}
+use Rattle.delta_parse.specs.declared.terminal.Terminal.TheVariants.{FunWord, MainWord, TypeWord, LetWord, InWord, CaseWord, OfWord, InlWord, InrWord, NilWord, WaitWord, EpsWord, IfWord, ThenWord, ElseWord, FoldWord, FromWord, WithWord, IntWord, FstWord, SndWord, Open, Close, OpenBrace, CloseBrace, Comma, Semicolon, Colon, Colons, Equals, Arrow, Bar, Bars, Plus, Minus, Times, Slash, Less, Dot, NameToken, OneToken, NumberToken}
+use Rattle.delta_parse.specs.Terminals.{is_kind}
+use Rattle.delta_parse.specs.Parts.{type_thing, context_thing, entry_thing, branch_thing, history_thing, expression_thing, head_thing, pattern_thing, arms_thing, ending_thing, function_thing, declaration_thing, Part, a_program, declarations, a_declaration, a_main, a_past, an_entry, more_entries, parameters, a_context, more_commas, more_semicolons, an_item, a_type, a_par, a_cat, a_star, more_stars, a_base, an_expression, a_pattern, a_head, an_application, an_atom, an_ending, the_arms, arguments, more_histories, more_expressions, a_history, a_comparison, a_sum, more_summands, a_product, more_factors, a_unary, a_history_atom, stands_for, RuleFor}
+use Rattle.delta_parse.specs.Actions.{alias_from, arguments_of, atom_from, bracketed, bracketed_context, bracketed_hist, bracketed_type, branch_of, case_of, chosen, compared, consed, context_from, ended_at_once, ended_in_turn, ended_of_type, ended_plain, entry_of, eps_of, first_of, folded, function_from, grouped, head_from, hist_consed, between, given_or_none, items_of, if_of, inl_of, inr_of, joined, let_of, main_from, more_behind, more_of, name_pattern, named_hist, negative_hist, nil_hist, nil_of, no_arguments, nothing_inside, number_hist, pair_inside, parameter_of, past_atom, pattern_of, prefixed, second_of, something_inside, star_arms_of, star_of, sum_arms_of, typed_head_of, unit_inside, wait_of}
 
 -- a token of this kind
 abbrev pub sign : Terminal → RuleFor token

@@ -1,14 +1,14 @@
 -- The tables by which the grammar is read, and reading with them.
-use Rattle.std.specs.Prelude.{◌≡◌, ℕ, Bool, true, false, ◌||◌, List, [], ◌∷◌, ◌++◌, Option, Result, Ok, Err}
+use Rattle.std.specs.Prelude.{ℕ, Bool, true, false, ◌||◌, List}
 use Rattle.grammar.specs.Rules.{Sort}
 use Rattle.grammar.specs.Grammar.{Grammar}
 use Rattle.grammar.specs.Reading.{Outcome, got, stuck, out, ◌>>=◌}
 use Rattle.grammar.specs.Reading as general
 use Rattle.delta_parse.specs.declared.terminal.Terminal.{Terminal}
-use Rattle.delta_parse.specs.declared.terminal.Terminal.TheVariants.{FunWord, MainWord, TypeWord, LetWord, InWord, CaseWord, OfWord, InlWord, InrWord, NilWord, WaitWord, EpsWord, IfWord, ThenWord, ElseWord, FoldWord, FromWord, WithWord, IntWord, FstWord, SndWord, Open, Close, OpenBrace, CloseBrace, Comma, Semicolon, Colon, Colons, Equals, Arrow, Bar, Bars, Plus, Minus, Times, Slash, Less, Dot, NameToken, OneToken, NumberToken, Other}
+use Rattle.delta_parse.specs.declared.terminal.Terminal.TheVariants.{FunWord, MainWord, TypeWord, LetWord, CaseWord, InlWord, InrWord, NilWord, WaitWord, EpsWord, IfWord, FoldWord, IntWord, Open, Close, OpenBrace, Comma, Colon, Minus, Times, NameToken, OneToken}
 use Rattle.delta_parse.specs.Terminals.{Tok, is_kind}
 use Rattle.delta_parse.specs.Parts.{Part, a_program, declarations, a_declaration, a_main, a_past, an_entry, more_entries, parameters, a_context, more_commas, more_semicolons, an_item, a_type, a_par, a_cat, a_star, more_stars, a_base, an_expression, a_pattern, a_head, an_application, an_atom, an_ending, the_arms, arguments, more_histories, more_expressions, a_history, a_comparison, a_sum, more_summands, a_product, more_factors, a_unary, a_history_atom, stands_for, delta, Meant, RuleFor}
-use Rattle.delta_parse.specs.Rules.{is_separator, is_comparison, is_sum, is_product, is_prefix, is_number, rule_of}
+use Rattle.delta_parse.specs.Rules.{is_separator, is_sum, is_product, is_prefix, is_number, rule_of}
 
 -- the parts that may derive no token
 abbrev pub part_nullable : Part → Bool

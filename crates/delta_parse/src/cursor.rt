@@ -45,6 +45,17 @@ pub(crate) fn starts_with(kind: Terminal, tokens: &[Plain]) -> bool
     }
 }
 
+/// Whether a token of one of these kinds stands next.
+pub(crate) fn starts_with_either(a: Terminal, b: Terminal, tokens: &[Plain]) -> bool
+    ensures value { result ≡ starts (λ k. is_kind a k || is_kind b k) (plains tokens.now) }
+    ensures more { IsTrue result → 0 < length tokens.now }
+{
+    match tokens {
+        [first, ..] => same_kind(a, first.kind) || same_kind(b, first.kind),
+        [] => false,
+    }
+}
+
 /// The first token and those after it, where it is of this kind.
 pub(crate) fn accept<'a>(kind: Terminal, tokens: &'a [Plain]) -> Option<(Plain, &'a [Plain])>
     ensures none { IfNone result (starts (is_kind kind) (plains tokens.now) ≡ false) }

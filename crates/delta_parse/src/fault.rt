@@ -20,6 +20,14 @@ pub enum ParseFault {
     /// neither a program nor whole declarations.
     #[error("Expected at {0}")]
     Expected(u32),
+    /// The name here is declared or bound together with the same name before: among the types or the
+    /// functions of the text, the parameters of one header, or the two names of a pattern, of an arm
+    /// or of a `with`.
+    #[error("Twice at {0}")]
+    Twice(u32),
+    /// The name here is that of the 1,001st function, or the 1,025th that its declaration binds.
+    #[error("Many at {0}")]
+    Many(u32),
     /// The tokens end here, behind whole declarations.
     #[error("NoMain at {0}")]
     NoMain(u32),

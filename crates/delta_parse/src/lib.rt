@@ -2,27 +2,34 @@
 //! that are proved against it.
 #![tactic(auto)]
 
+mod bindings;
 mod checked_reader;
 mod context_reader;
 mod cursor;
+mod declaration_reader;
 mod expression_reader;
 mod fault;
 mod history_reader;
 pub mod laws;
 mod marks;
 mod numbering;
+mod parsing;
 mod pattern_reader;
 mod plain;
 mod terminal;
+#[cfg(test)]
+mod tests;
 mod type_reader;
 mod whole_reader;
 
+pub use bindings::{NameFault, first_name_fault};
 pub use context_reader::{read_entry, read_parameters};
 pub use cursor::Halt;
 pub use fault::ParseFault;
 pub use history_reader::{read_histories, read_history};
 pub use marks::first_deep;
 pub use numbering::plain_tokens;
+pub use parsing::parse;
 pub use pattern_reader::{Pattern, read_pattern};
 pub use plain::Plain;
 pub use terminal::Terminal;

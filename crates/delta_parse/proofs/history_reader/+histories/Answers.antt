@@ -1,4 +1,3 @@
-use Rattle.std.proofs.Common.{◌≡◌, refl}
 use Rattle.delta_tree.specs.Tree.{hist_of}
 use Rattle.delta_parse.specs.Terminals.{plain_of, plains}
 use Rattle.delta_parse.proofs.Tails.{one_summand, one_factor}

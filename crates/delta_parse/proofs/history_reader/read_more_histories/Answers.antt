@@ -1,12 +1,11 @@
-use Rattle.std.proofs.Common.{◌≡◌, ◌∙◌, sym, ap, true, false, ◌+◌, ◌-◌, ◌<◌, ◌≤◌, ◌||◌, [], ◌∷◌, ◌++◌, map, length, drop, arith}
+use Rattle.std.proofs.Common.{◌≡◌, ◌∙◌, ap, true, false, ◌+◌, ◌-◌, ◌<◌, ◌≤◌, [], ◌∷◌, ◌++◌, map, length, drop, arith}
 use Rattle.std.proofs.lemmas.List.{map-append}
 use Rattle.delta_tree.specs.Tree.{hist_of}
 use Rattle.delta_parse.specs.declared.terminal.Terminal.TheVariants.{Comma}
 use Rattle.delta_parse.specs.Terminals.{is_kind, plains}
 use Rattle.delta_parse.specs.Parts.{a_history, more_histories}
 use Rattle.delta_parse.specs.Tables.{reading}
-use Rattle.delta_parse.specs.Readers.{behind}
-use Rattle.delta_parse.proofs.Loops.{histories_at, histories_end, test_at, inside, read_at, halts_at, shorter_at, left_at, kept, ends, over, behind-none}
+use Rattle.delta_parse.proofs.Loops.{histories_at, histories_end, test_at, inside, read_at, halts_at, shorter_at, left_at, kept, ends, over}
 use Rattle.delta_parse.proofs.history_reader.read_more_histories.Goals as goal
 
 pub returns-in-Err-clause-given : goal.returns-in-Err-clause-given

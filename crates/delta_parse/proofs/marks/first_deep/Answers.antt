@@ -1,4 +1,4 @@
-use Rattle.std.proofs.Common.{◌≡◌, ℕ, ◌+◌, ◌≤◌, ◌<◌, ◌∙◌, ap, sym, take, length, below_more, arith}
+use Rattle.std.proofs.Common.{◌≡◌, ◌+◌, ◌≤◌, ◌<◌, ◌∙◌, ap, sym, take, length, below_more, arith}
 use Rattle.std.proofs.lemmas.List.{length-map}
 use Rattle.delta_parse.specs.Terminals.{plains, plain_of}
 use Rattle.delta_parse.specs.Marks.{Opened, opened, opened_of, none_open, marks_before, after_token}

@@ -1,8 +1,8 @@
-use Rattle.std.proofs.Common.{◌≡◌, ◌∙◌, ◌+◌, ◌≤◌, ◌<◌, ◌++◌, ◌∷◌, [], ap, sym, map, length, drop, arith, string_bytes}
+use Rattle.std.proofs.Common.{◌≡◌, ◌∙◌, ◌+◌, ◌<◌, ◌++◌, ◌∷◌, [], ap, length, drop, arith}
 use Rattle.std.proofs.lemmas.List.{map-append}
-use Rattle.delta_lex.specs.Tokens.{lexeme_of, lexemes}
+use Rattle.delta_lex.specs.Tokens.{lexemes}
 use Rattle.delta_parse.specs.Terminals.{plains, plain_of}
-use Rattle.delta_parse.specs.Plain.{token_with, numbered, texts_of}
+use Rattle.delta_parse.specs.Plain.{numbered, texts_of}
 use Rattle.delta_parse.proofs.Numbers.{numbered_step, names_step, few_after}
 use Rattle.delta_parse.proofs.numbering.plain_tokens.Goals as goal
 

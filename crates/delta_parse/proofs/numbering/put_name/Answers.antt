@@ -1,4 +1,4 @@
-use Rattle.std.proofs.Common.{◌≡◌, ◌∙◌, ◌≤◌, ◌<◌, ◌++◌, ◌∷◌, [], ap, sym, map, length, arith, string_bytes}
+use Rattle.std.proofs.Common.{◌∙◌, ◌++◌, ◌∷◌, [], ap, sym, map, arith, string_bytes}
 use Rattle.std.proofs.lemmas.List.{map-append}
 use Rattle.delta_parse.specs.Plain.{texts_of}
 use Rattle.delta_parse.proofs.NameSets.{same_place, added_texts, grown, place_within}
