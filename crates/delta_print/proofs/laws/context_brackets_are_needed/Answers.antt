@@ -1,0 +1,6 @@
+-- By which way of deriving each rule derived what it did.
+use Rattle.delta_print.proofs.NeededInHistories.{context_brackets_are_needed}
+use Rattle.delta_print.proofs.laws.context_brackets_are_needed.Goals as goal
+
+pub returns : goal.returns
+returns c = context_brackets_are_needed
