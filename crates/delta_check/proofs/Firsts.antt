@@ -7,8 +7,8 @@ use Rattle.core_term.specs.CoreTerm.{CoreTerm, CoreTerms, CoreBody, var_term, ep
 use Rattle.core_term.specs.Typing.{Context, with_name_like, with_fact, with_parts, waited, with_let, type_at}
 use Rattle.core_term.specs.Parts.{par_left, par_right, cat_first, cat_second, sum_left, sum_right, star_item, star_items}
 use Rattle.stream_type.specs.StreamType.{eps}
-use Rattle.core_term.specs.TypeFaults.{Cause, NodeAt, first_some, nodes_of, nodes_among, first_broken_of}
-use Rattle.delta_check.specs.Refused.{hist_refusal, rule_broken}
+use Rattle.core_term.specs.TypeFaults.{Cause, expr_refusal, NodeAt, first_some, nodes_of, nodes_among, first_broken_of}
+use Rattle.delta_check.specs.Refused.{rule_broken}
 
 some_assoc : {A : Type 0} (a b d : Option A) → first_some a (first_some b d) ≡ first_some (first_some a b) d
 some_assoc None b d = refl
@@ -17,7 +17,7 @@ some_assoc (Some a) b d = refl
 module _ (funs : List CoreBody) (counts : ℕ → Bool) where
   -- the first broken rule of the list, whose nodes are counted from n
   abbrev pub first_in : ℕ → List NodeAt → Option (ℕ × Cause HistRefusal)
-  first_in n js = first_broken_of funs counts hist_refusal n js
+  first_in n js = first_broken_of funs counts expr_refusal n js
 
   -- that of a node itself
   abbrev pub own_at : ℕ → Context → CoreTerm → StreamType → Option (ℕ × Cause HistRefusal)

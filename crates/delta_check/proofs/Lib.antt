@@ -5,8 +5,11 @@ pub mod Rounds
 pub mod Entries
 pub mod Once
 pub mod Arguments
-pub mod Types
 pub mod RuleForms
-pub mod Choices
 pub mod Firsts
 pub mod Counts
+pub mod Joined
+pub mod NodePlaces
+pub mod Known
+pub mod Turns
+pub mod Whole

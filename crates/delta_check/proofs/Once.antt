@@ -7,7 +7,7 @@ use Rattle.core_term.specs.FreeNames.{add_new, once}
 use Rattle.core_term.specs.Typing.{Context, is_before}
 use Rattle.core_term.specs.TypeFaults.{first_some, first_found, found_where, first_pair}
 use Rattle.core_term.proofs.Sides.{all-holds}
-use Rattle.delta_check.proofs.Choices.{each_none}
+use Rattle.core_term.proofs.Causes.{first_found-none}
 
 some_assoc : {A : Type 0} (a b d : Option A) → first_some a (first_some b d) ≡ first_some (first_some a b) d
 some_assoc None b d = refl
@@ -22,7 +22,7 @@ again : {B : Type 0} (f : ℕ → Option B) (found xs : List ℕ) (x : ℕ) → 
 again {B = B} f found xs x h = first_found-append f found (x ∷ xs) ∙ go (first_found f found) refl ∙ sym (first_found-append f found xs)
   where
     go : (o : Option B) → first_found f found ≡ o → first_some (first_found f found) (first_some (f x) (first_found f xs)) ≡ first_some (first_found f found) (first_found f xs)
-    go None e = ap (λ u. first_some (first_found f found) (first_some u (first_found f xs))) (each_none f found e x h)
+    go None e = ap (λ u. first_some (first_found f found) (first_some u (first_found f xs))) (first_found-none f found e x h)
     go (Some b) e = ap (λ u. first_some u (first_some (f x) (first_found f xs))) e ∙ sym (ap (λ u. first_some u (first_found f xs)) e)
 
 none_more : (ys : List ℕ) → ys ≡ ys ++ []

@@ -14,11 +14,11 @@ use Rattle.bunch.specs.declared.name.Name.{Name}
 use Rattle.hist_value.specs.declared.expr.Expr.{Expr}
 use Rattle.hist_value.specs.HistExpr.{expr_of}
 use Rattle.core_term.specs.CoreTerm.{typed_names_of}
-use Rattle.delta_check.specs.Refused.{hist_refusal}
+use Rattle.core_term.specs.TypeFaults.{expr_refusal}
 use Rattle.delta_check.specs.declared.fault.TypeCause.{TypeCause}
 use Rattle.delta_check.specs.Faults.{cause_of, Tells}
 use Rattle.delta_check.specs.Forms.{missing}
-use Rattle.delta_check.proofs.Types.{same_is, is_same}
+use Rattle.core_term.proofs.Causes.{is_same_type-same, is_same_type-true}
 
 no_stream : (x : ℕ) (rule : StreamType → Option (Cause HistRefusal)) (h : Option HistType) → of_stream x rule None h ≡ Some (missing x h)
 no_stream x rule (Some t) = refl
@@ -30,11 +30,15 @@ subject_none c x rule h = ap (λ o. of_stream x rule o (c.past x)) h ∙ no_stre
 pub subject_some : (c : Context) (x : ℕ) (rule : StreamType → Option (Cause HistRefusal)) (t : StreamType) → c.types x ≡ Some t → of_subject c x rule ≡ rule t
 subject_some c x rule t h = ap (λ o. of_stream x rule o (c.past x)) h
 
+-- equal types pass the test
+pub is_same : (s t : StreamType) → s ≡ t → is_same_type s t ≡ true
+is_same s t e = cc (is_same_type-same s, e)
+
 pub differs : (s t : StreamType) → (s ≡ t → ⊥) → is_same_type s t ≡ false
 differs s t h = go (is_same_type s t) refl
   where
     go : (b : Bool) → is_same_type s t ≡ b → is_same_type s t ≡ false
-    go true e = absurd (h (same_is s t e))
+    go true e = absurd (h (is_same_type-true s t e))
     go false e = e
 
 pub ruleset rules = (subject_none, subject_some, is_same, differs)
@@ -72,17 +76,17 @@ tells_first a None q h = absurd (cc h)
 tells_first a (Some k) q h = h
 
 abbrev pub pasts_of : (ℕ → Option HistType) → List Expr → List (Name × Ty) → Option (Cause HistRefusal)
-pasts_of env ms ps = of_pasts [] (λ _. false) hist_refusal env (map expr_of ms) (map (λ e. e.1) (typed_names_of ps))
+pasts_of env ms ps = of_pasts [] (λ _. false) expr_refusal env (map expr_of ms) (map (λ e. e.1) (typed_names_of ps))
 
 -- the next historical argument decides first
 pub pasts_of-next : (env : ℕ → Option HistType) (ms : List Expr) (ps : List (Name × Ty)) (i : ℕ) (m : Expr) (p : Name × Ty) → i < length ms → true ≡ nat_lt i (length ps) → m ≡ get_or ms i m → p ≡ get_or ps i p
-    → pasts_of env (drop i ms) (drop i ps) ≡ first_some (option_map history_fault (hist_refusal env (expr_of m) (past (type_of p.1)))) (pasts_of env (drop (i + 1) ms) (drop (i + 1) ps))
+    → pasts_of env (drop i ms) (drop i ps) ≡ first_some (option_map history_fault (expr_refusal env (expr_of m) (past (type_of p.1)))) (pasts_of env (drop (i + 1) ms) (drop (i + 1) ps))
 pasts_of-next env ms ps i m p h k em ep =
     let rest = pasts_of env (drop (i + 1) ms) (drop (i + 1) ps) in
     at_drop_more (λ l. pasts_of env l (drop i ps)) ms i m h
     ∙ at_drop_more (λ l. pasts_of env (get_or ms i m ∷ drop (i + 1) ms) l) ps i p (ltb-true i (length ps) (sym k))
-    ∙ ap (λ v. first_some (option_map history_fault (hist_refusal env (expr_of v) (past (type_of (get_or ps i p).1)))) rest) (sym em)
-    ∙ ap (λ v. first_some (option_map history_fault (hist_refusal env (expr_of m) (past (type_of v.1)))) rest) (sym ep)
+    ∙ ap (λ v. first_some (option_map history_fault (expr_refusal env (expr_of v) (past (type_of (get_or ps i p).1)))) rest) (sym em)
+    ∙ ap (λ v. first_some (option_map history_fault (expr_refusal env (expr_of m) (past (type_of v.1)))) rest) (sym ep)
 
 pub none_told : (p : Option (Cause HistRefusal)) (o : Option TypeCause) → o ≡ None → Tells o p → p ≡ None
 none_told None o e h = refl

@@ -6,3 +6,4 @@ pub mod Refused
 pub mod Faults
 pub mod Forms
 pub mod Scopes
+pub mod Checking

@@ -1,7 +1,8 @@
-//! The rules of typing of the core language, as far as they are built: which terms and functions are inert, and
-//! which rule a node itself breaks.
+//! The rules of typing of the core language: which terms and functions are inert, and the check of a
+//! program, with the first rule that it breaks.
 #![tactic(auto)]
 
+mod checking;
 mod fault;
 mod forms;
 mod inertness;
@@ -11,6 +12,9 @@ mod passing;
 mod pasts;
 mod rules;
 mod scope;
+#[cfg(test)]
+mod tests;
 
+pub use checking::check;
 pub use fault::{TypeCause, TypeFault};
 pub use inertness::{inert, inert_funs};

@@ -22,7 +22,7 @@ pub fn is_historical(scope: &Scope<'_>, x: Name) -> bool
 {
     match scope {
         Scope::Params(b) => type_of_param(&b.past, x).is_some(),
-        Scope::Like(y, _, _, outer) | Scope::Let(y, _, _, _, outer) => {
+        Scope::Like(y, _, _, outer) | Scope::Let(y, _, _, outer) => {
             x.0 != y.0 && is_historical(outer, x)
         }
         Scope::Fact(_, _, outer) => is_historical(outer, x),
@@ -75,7 +75,7 @@ fn add_past_names(scope: &Scope<'_>, names: &mut Vec<Name>) -> Result<(), Memory
 {
     match scope {
         Scope::Params(b) => add_param_names(&b.past, names),
-        Scope::Like(_, _, _, outer) | Scope::Let(_, _, _, _, outer) | Scope::Fact(_, _, outer) => {
+        Scope::Like(_, _, _, outer) | Scope::Let(_, _, _, outer) | Scope::Fact(_, _, outer) => {
             add_past_names(outer, names)
         }
         Scope::Waited(x, outer) => {
@@ -106,7 +106,7 @@ fn past_type(alloc: Global, scope: &Scope<'_>, x: Name) -> Result<Option<HTy>, M
             Some(t) => Ok(Some(past(alloc, t)?)),
             None => Ok(None),
         },
-        Scope::Like(y, _, _, outer) | Scope::Let(y, _, _, _, outer) => {
+        Scope::Like(y, _, _, outer) | Scope::Let(y, _, _, outer) => {
             if x.0 == y.0 {
                 Ok(None)
             } else {

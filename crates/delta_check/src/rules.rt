@@ -9,11 +9,11 @@ ghost use Rattle.hist_value.specs.Refusal.{HistRefusal};
 ghost use Rattle.core_term.specs.CoreTerm.{term_of, terms_from, core_body_of, core_of, typed_names_of, call_term};
 ghost use Rattle.core_term.specs.FreeNames.{free_names};
 ghost use Rattle.core_term.specs.Inert.{has_arity};
-ghost use Rattle.core_term.specs.TypeFaults.{Cause, cause_number, lower, of_subject, of_form, of_term, of_type, of_order, of_pasts, of_passing, found_where, wait_null, other_arity, out_of_order, jumpy, history_fault, first_passed, first_jumpy};
+ghost use Rattle.core_term.specs.TypeFaults.{Cause, expr_refusal, cause_number, lower, of_subject, of_form, of_term, of_type, of_order, of_pasts, of_passing, found_where, wait_null, other_arity, out_of_order, jumpy, history_fault, first_passed, first_jumpy};
 ghost use Rattle.delta_check.specs.Counting.{counts_in};
 ghost use Rattle.delta_check.specs.Faults.{cause_of, Tells};
 ghost use Rattle.delta_check.specs.Forms.{form_test, missing};
-ghost use Rattle.delta_check.specs.Refused.{hist_refusal, rule_broken};
+ghost use Rattle.delta_check.specs.Refused.{rule_broken};
 ghost use Rattle.delta_check.specs.Scopes.{context_in};
 
 use crate::fault::TypeCause;
@@ -266,7 +266,7 @@ fn past_rule(
     m: &Expr,
     r: &Ty,
 ) -> Result<Option<TypeCause>, Memory>
-    ensures { IfOk result (λ o. Tells o (option_map history_fault (hist_refusal (context_in scope.now).past (expr_of m.now) (past (type_of r.now))))) }
+    ensures { IfOk result (λ o. Tells o (option_map history_fault (expr_refusal (context_in scope.now).past (expr_of m.now) (past (type_of r.now))))) }
 {
     let types = past_types(alloc, scope)?;
     refusal(alloc, &types, m, r)
@@ -279,7 +279,7 @@ fn refusal(
     m: &Expr,
     r: &Ty,
 ) -> Result<Option<TypeCause>, Memory>
-    ensures { IfOk result (λ o. Tells o (option_map history_fault (hist_refusal (types_of types.now) (expr_of m.now) (past (type_of r.now))))) }
+    ensures { IfOk result (λ o. Tells o (option_map history_fault (expr_refusal (types_of types.now) (expr_of m.now) (past (type_of r.now))))) }
 {
     let wanted = past(alloc, r)?;
     match type_of(alloc, m, types, Some(&wanted)) {
@@ -296,7 +296,7 @@ fn pasts_rule(
     past: &[Expr],
     params: &[(Name, Ty)],
 ) -> Result<Option<TypeCause>, Memory>
-    ensures { IfOk result (λ o. Tells o (of_pasts [] (λ _. false) hist_refusal (context_in scope.now).past (map expr_of past.now) (map (λ e. e.1) (typed_names_of params.now)))) }
+    ensures { IfOk result (λ o. Tells o (of_pasts [] (λ _. false) expr_refusal (context_in scope.now).past (map expr_of past.now) (map (λ e. e.1) (typed_names_of params.now)))) }
 {
     let types = past_types(alloc, scope)?;
     refusal_of_all(alloc, &types, past, params)
@@ -309,7 +309,7 @@ fn refusal_of_all(
     past: &[Expr],
     params: &[(Name, Ty)],
 ) -> Result<Option<TypeCause>, Memory>
-    ensures { IfOk result (λ o. Tells o (of_pasts [] (λ _. false) hist_refusal (types_of types.now) (map expr_of past.now) (map (λ e. e.1) (typed_names_of params.now)))) }
+    ensures { IfOk result (λ o. Tells o (of_pasts [] (λ _. false) expr_refusal (types_of types.now) (map expr_of past.now) (map (λ e. e.1) (typed_names_of params.now)))) }
 {
     for (i, m) in past.iter().enumerate() {
         match params.get(i) {
@@ -366,7 +366,7 @@ fn passing_rule(
     past: &[Expr],
     arguments: &[Node],
 ) -> Result<Option<TypeCause>, Memory>
-    ensures { IfOk result (λ o. Tells o (of_passing (core_of c.now).funs (counts_in (core_of c.now).funs marks.now) hist_refusal (context_in scope.now) (core_body_of b.now) (map expr_of past.now) (terms_from (map term_of arguments.now)))) }
+    ensures { IfOk result (λ o. Tells o (of_passing (core_of c.now).funs (counts_in (core_of c.now).funs marks.now) expr_refusal (context_in scope.now) (core_body_of b.now) (map expr_of past.now) (terms_from (map term_of arguments.now)))) }
 {
     let order = passed_rule(alloc, scope, b, arguments)?;
     let jumpy = jumpy_rule(alloc, c, marks, b, arguments)?;
@@ -386,7 +386,7 @@ fn arguments_rule(
     arguments: &[Node],
 ) -> Result<Option<TypeCause>, Memory>
     ensures { IfOk result (λ o. Tells o (if has_arity (core_body_of b.now) (map expr_of past.now) (terms_from (map term_of arguments.now))
-        then of_passing (core_of c.now).funs (counts_in (core_of c.now).funs marks.now) hist_refusal (context_in scope.now) (core_body_of b.now) (map expr_of past.now) (terms_from (map term_of arguments.now))
+        then of_passing (core_of c.now).funs (counts_in (core_of c.now).funs marks.now) expr_refusal (context_in scope.now) (core_body_of b.now) (map expr_of past.now) (terms_from (map term_of arguments.now))
         else Some (other_arity f))) }
 {
     if has_arity(b, past, arguments) {
