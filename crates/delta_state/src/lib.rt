@@ -1,0 +1,15 @@
+//! States: core terms that were partly run. What they are, what they mean, what it is for one to stand for a
+//! program, and what a machine owes that runs a program event by event.
+#![tactic(auto)]
+
+mod counting;
+mod machine;
+mod place;
+mod state;
+#[cfg(test)]
+mod tests;
+
+pub use counting::{count_states, held_events};
+pub use machine::{Machine, StepRefusal};
+pub use place::Place;
+pub use state::{Argument, Held, Later, State};
