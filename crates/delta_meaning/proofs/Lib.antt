@@ -11,4 +11,9 @@ pub mod Counts
 pub mod Limits
 pub mod KeptTypes
 pub mod FreeStreams
+pub mod StarForms
+pub mod Scopes
+pub mod Splittings
+pub mod Evaluations
+pub mod Declarations
 mod Examples

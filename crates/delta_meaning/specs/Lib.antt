@@ -9,3 +9,8 @@ pub mod NodePlaces
 pub mod Faults
 pub mod Elaborated
 pub mod Laws
+pub mod Evaluated
+pub mod Scope
+pub mod Functions
+pub mod Weights
+pub mod Splitting

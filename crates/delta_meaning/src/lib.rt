@@ -2,7 +2,13 @@
 //! Both are definitions in `specs/`, over the syntax trees of programs.
 #![tactic(auto)]
 
+mod evaluated;
+mod functions;
 pub mod laws;
+mod parts;
+mod refusal;
+mod scope;
+mod splitting;
 #[cfg(test)]
 mod tests;
 mod types;
