@@ -1,0 +1,4 @@
+-- Definitions that the contracts cite.
+pub mod Fault
+pub mod ProgramText
+pub mod Laws
