@@ -5,11 +5,10 @@ use Rattle.port.specs.declared.link.Move.TheVariants.{In}
 use Rattle.event_word.specs.StreamEvent.{StreamEvent}
 use Rattle.event_frame.specs.declared.version.Version.{Version}
 use Rattle.event_frame.specs.FrameReader.{FrameReader}
-use Rattle.event_frame.specs.Frames.{header}
 use Rattle.event_frame.specs.Reads.{Reads, SameBytes, CanTake, taken_bytes}
 use Rattle.delta_end.specs.declared.end.End.TheVariants.{WriteFailed, Memory}
 use Rattle.delta_loop.specs.Meaning.{Meaning, HasBegun}
-use Rattle.delta_loop.specs.Output.{output, due}
+use Rattle.delta_loop.specs.Output.{opening, output, due}
 use Rattle.delta_loop.specs.Prompt.{IsPrompt}
 use Rattle.delta_loop.specs.History.{History, Writes}
 use Rattle.delta_loop.specs.Return.{Begins}
@@ -33,18 +32,18 @@ prompt_none due before after bytes split = absurd (no_read before after bytes sp
 pub fresh : (due : List ℕ → List ℕ) (log : Option (List Move)) → History due log log [] [] false
 fresh due log = record { moves = []; logged = λ told is. is ∙ ap Some (sym (append-nil told)); read = refl; written = refl; at_end = refl; prompt = prompt_none due }
 
-module _ {M : Type 0} (stands : M → Meaning → List StreamEvent → Type 0) (P : Meaning) (old new : Option (List Move)) (m : M) (v : Version) (first sent rest : List ℕ) (begun : HasBegun stands P m v first) (split : header v ++ first ≡ sent ++ rest) (writes : Writes old new sent) where
+module _ {M : Type 0} (stands : M → Meaning → List StreamEvent → Type 0) (P : Meaning) (old new : Option (List Move)) (m : M) (v : Option Version) (first sent rest : List ℕ) (begun : HasBegun stands P m v first) (split : opening v ++ first ≡ sent ++ rest) (writes : Writes old new sent) where
   -- the header and all that comes first were written
   pub opened : rest ≡ [] → Serves stands P old new m [] []
   opened none =
-      let all : sent ≡ output P [] = sym (append-nil sent) ∙ ap (λ (bs : List ℕ). sent ++ bs) (sym none) ∙ sym split ∙ ap₂ (λ (w : Version) (bs : List ℕ). header w ++ bs) begun.version begun.bytes ∙ sym (append-nil (header P.version ++ P.first)) in record {
+      let all : sent ≡ output P [] = sym (append-nil sent) ∙ ap (λ (bs : List ℕ). sent ++ bs) (sym none) ∙ sym split ∙ ap₂ (λ (w : Option Version) (bs : List ℕ). opening w ++ bs) begun.version begun.bytes ∙ sym (append-nil (opening P.version ++ P.first)) in record {
         history = subst (λ (bs : List ℕ). History (due P) old new [] bs false) all (writes (due P) old [] [] false (fresh (due P) old));
         accepts = refl;
         state = begun.state;
       }
 
   part_opened : Begins sent (due P [])
-  part_opened = (rest, append-nil (header P.version ++ P.first) ∙ sym (ap₂ (λ (w : Version) (bs : List ℕ). header w ++ bs) begun.version begun.bytes) ∙ split)
+  part_opened = (rest, append-nil (opening P.version ++ P.first) ∙ sym (ap₂ (λ (w : Option Version) (bs : List ℕ). opening w ++ bs) begun.version begun.bytes) ∙ split)
 
   -- a part of them, and then the link failed
   pub ran_failing : (left0 left1 : Option (List ℕ)) → left1 ≡ left0 → Ran P old new left0 left1 WriteFailed

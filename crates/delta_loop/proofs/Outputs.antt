@@ -2,11 +2,10 @@
 use Rattle.std.proofs.Common.{◌≡◌, ℕ, List, [], ◌∷◌, ◌++◌, Option, Some, None, ◌∙◌, ap, sym, refl, append_assoc, append-nil}
 use Rattle.event_word.specs.StreamEvent.{StreamEvent}
 use Rattle.event_word.specs.declared.fault.EventFault.{EventFault}
-use Rattle.event_frame.specs.Frames.{header}
 use Rattle.event_frame.specs.Reading.{whole}
 use Rattle.event_frame.proofs.MoreBytes.{more_bytes}
 use Rattle.delta_loop.specs.Meaning.{Meaning}
-use Rattle.delta_loop.specs.Output.{up_to_fault, accepted, accepted_after, answers_after, output, due}
+use Rattle.delta_loop.specs.Output.{up_to_fault, accepted, accepted_after, answers_after, opening, output, due}
 use Rattle.delta_loop.specs.Return.{Begins}
 
 -- the answers to two words, one after the other
@@ -21,8 +20,8 @@ answers-append P before (x ∷ word) more =
 -- the output of a longer word goes on from that of its front
 pub output-append : (P : Meaning) (word more : List StreamEvent) → output P (word ++ more) ≡ output P word ++ answers_after P word more
 output-append P word more =
-    ap (λ (bs : List ℕ). (header P.version ++ P.first) ++ bs) (answers-append P [] word more)
-    ∙ sym (append_assoc (header P.version ++ P.first) (answers_after P [] word) (answers_after P word more))
+    ap (λ (bs : List ℕ). (opening P.version ++ P.first) ++ bs) (answers-append P [] word more)
+    ∙ sym (append_assoc (opening P.version ++ P.first) (answers_after P [] word) (answers_after P word more))
 
 -- by the answer to the one event more
 pub output_more : (P : Meaning) (word : List StreamEvent) (x : StreamEvent) → output P (word ++ x ∷ []) ≡ output P word ++ P.answer word x

@@ -26,7 +26,7 @@ module _ (P : Meaning) (old new : Option (List Move)) (left0 left1 : Option (Lis
   ran_within end ran told is = (ran.at.history.moves, ran.at.history.logged told is, subst (λ (bs : List ℕ). length bs ≤ 2 ^ 40 + 1) (sym ran.at.history.read) ran.limit)
 
   -- what holds of the bytes, said of the moves
-  ran_may_end : (end : End) (ran : Ran P old new left0 left1 end)
+  pub ran_may_end : (end : End) (ran : Ran P old new left0 left1 end)
       → MayEnd P (bytes_read ran.at.history.moves) (has_ended ran.at.history.moves) (bytes_written ran.at.history.moves) end
   ran_may_end end ran =
       let h = ran.at.history in

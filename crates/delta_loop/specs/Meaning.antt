@@ -5,8 +5,8 @@ use Rattle.event_word.specs.declared.fault.EventFault.{EventFault}
 use Rattle.event_frame.specs.declared.version.Version.{Version}
 
 pub record Meaning : Type 0 where
-  -- the version of the frames that the program writes
-  pub version : Version
+  -- the version of the frames that the program writes behind a header, or none where it writes something else and no header
+  pub version : Option Version
   -- the fault of this event after this word, or none where it may come
   pub fault : List StreamEvent → StreamEvent → Option EventFault
   -- the bytes that come before the first read, behind the header
@@ -22,8 +22,8 @@ pub record Stands {M : Type 0} (stands : M → Meaning → List StreamEvent → 
   pub word : List StreamEvent
   pub state : stands machine program word
 
--- the machine stands for the program before any event, and the bytes that come first are a header of this version and these
-pub record HasBegun {M : Type 0} (stands : M → Meaning → List StreamEvent → Type 0) (P : Meaning) (machine : M) (v : Version) (first : List ℕ) : Type 0 where
+-- the machine stands for the program before any event, and the bytes that come first are the header of this version, if it is one, and these
+pub record HasBegun {M : Type 0} (stands : M → Meaning → List StreamEvent → Type 0) (P : Meaning) (machine : M) (v : Option Version) (first : List ℕ) : Type 0 where
   pub state : stands machine P []
   pub version : v ≡ P.version
   pub bytes : first ≡ P.first

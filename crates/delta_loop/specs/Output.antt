@@ -2,6 +2,7 @@
 use Rattle.std.specs.Prelude.{ℕ, List, [], ◌∷◌, ◌++◌, Option, Some, None}
 use Rattle.event_word.specs.StreamEvent.{StreamEvent}
 use Rattle.event_word.specs.declared.fault.EventFault.{EventFault}
+use Rattle.event_frame.specs.declared.version.Version.{Version}
 use Rattle.event_frame.specs.Frames.{header}
 use Rattle.event_frame.specs.Reading.{whole}
 use Rattle.delta_loop.specs.Meaning.{Meaning}
@@ -25,9 +26,14 @@ abbrev pub answers_after : Meaning → List StreamEvent → List StreamEvent →
 answers_after P before [] = []
 answers_after P before (x ∷ word) = P.answer before x ++ answers_after P (before ++ x ∷ []) word
 
+-- the header of a version, or nothing
+abbrev pub opening : Option Version → List ℕ
+opening None = []
+opening (Some v) = header v
+
 -- the header, what comes first, and then each answer
 abbrev pub output : Meaning → List StreamEvent → List ℕ
-output P word = (header P.version ++ P.first) ++ answers_after P [] word
+output P word = (opening P.version ++ P.first) ++ answers_after P [] word
 
 -- what is to be written once these bytes were read: the output of the accepted events of the whole frames
 abbrev pub due : Meaning → List ℕ → List ℕ

@@ -24,12 +24,12 @@ use std::alloc::Global;
 const ROOM: u64 = 4137;
 
 /// Runs a program over a link, up to its end. The machine stands for the program before any event, and
-/// `first` are the bytes that come before the first read, behind a header of the version. The reader's room is taken before anything is
+/// `first` are the bytes that come before the first read, behind a header of the version, if there is one. The reader's room is taken before anything is
 /// written.
 pub fn run_machine<M: Stepper, L: Link>(
     alloc: Global,
     machine: M,
-    version: Version,
+    version: Option<Version>,
     first: &[u8],
     link: &mut L,
 ) -> End
@@ -58,11 +58,11 @@ pub fn run_machine<M: Stepper, L: Link>(
 /// the program may end there, 4 where the input is refused, 6 where the input ended and the program awaits
 /// more, 7 at a fault outside, 8 for want of memory, and 9 for more than 2^40 input bytes. The note is
 /// the last thing that is written. The machine stands for the program before any event, and `first` are the
-/// bytes that come before the first read, behind a header of the version.
+/// bytes that come before the first read, behind a header of the version, if there is one.
 pub fn run_program<M: Stepper, L: Link, N: Sink>(
     alloc: Global,
     machine: M,
-    version: Version,
+    version: Option<Version>,
     first: &[u8],
     link: &mut L,
     notes: &mut N,

@@ -7,3 +7,5 @@ pub mod CommandLines
 pub mod TextRuns
 pub mod Conversions
 mod FirstExamples
+pub mod Lined
+pub mod Printed

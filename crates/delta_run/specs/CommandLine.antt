@@ -22,8 +22,8 @@ abbrev pub is_built : CommandTask → Bool
 is_built (run file budget v) = true
 is_built (eval file budget v) = false
 is_built (check file) = false
-is_built (print file) = false
-is_built text = false
+is_built (print file) = true
+is_built text = true
 is_built (frames v) = true
 is_built (gen start items) = false
 

@@ -1,5 +1,5 @@
 -- What a program means to the loop: at each event, the frames of the increment of its one-shot meaning.
-use Rattle.std.specs.Prelude.{◌≡◌, ℕ, List, [], ◌∷◌, ◌++◌, ⊤}
+use Rattle.std.specs.Prelude.{◌≡◌, ℕ, List, [], ◌∷◌, ◌++◌, ⊤, Some}
 use Rattle.stream_type.specs.StreamType.{StreamType, null_of}
 use Rattle.stream_prefix.specs.StreamPrefix.{StreamPrefix, der}
 use Rattle.stream_prefix.specs.Increment.{increment}
@@ -31,7 +31,7 @@ frames_of v p = frames v (canon p)
 -- an event may come where the type that is left admits it, and is answered by the frames of the increment, in a version
 abbrev pub meaning_of : Version → FirstProgram → Meaning
 meaning_of v P = record {
-  version = v;
+  version = Some v;
   fault = λ word x. fault_of x (left P word);
   first = frames_of v (said P []);
   answer = λ word x. frames_of v (increment (said P word) (said P (word ++ x ∷ [])));

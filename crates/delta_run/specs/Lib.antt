@@ -8,3 +8,5 @@ pub mod FirstMeaning
 pub mod Environment
 pub mod FirstMachine
 pub mod FirstLaws
+pub mod Lined
+pub mod Printed

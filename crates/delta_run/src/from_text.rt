@@ -1,6 +1,6 @@
 //! A program that is made of a text.
 
-ghost use Rattle.std.specs.Prelude.{List, ℕ, IfOk, IsErrOf};
+ghost use Rattle.std.specs.Prelude.{List, ℕ, Some, IfOk, IsErrOf};
 ghost use Rattle.event_frame.specs.declared.version.Version.{Version};
 ghost use Rattle.delta_loop.specs.Meaning.{Meaning, HasBegun};
 
@@ -27,6 +27,6 @@ pub trait FromText: Stepper {
 
     /// The program of a text before any event, and the bytes that come before the first read.
     fn start(alloc: Global, text: &[u8], version: Version) -> Result<(Self, Vec<u8>), StartFault>
-        ensures ok { IfOk result (λ begun. (P : Meaning) × means text.now version P × HasBegun Self.stands P begun.0 version begun.1.items) }
+        ensures ok { IfOk result (λ begun. (P : Meaning) × means text.now version P × HasBegun Self.stands P begun.0 (Some version) begun.1.items) }
         ensures refused { IsErrOf result StartFault.Refused → refuses text.now };
 }

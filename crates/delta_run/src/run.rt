@@ -7,9 +7,11 @@ ghost use Rattle.delta_end.specs.declared.end.End.{End};
 ghost use Rattle.delta_loop.specs.Answer.{Adds, IsComplete, IsWithinLimit};
 ghost use Rattle.delta_end.specs.Status.{IsStatus, IsStill};
 ghost use Rattle.delta_words.specs.declared.task.Version.{Version as WrittenVersion};
-ghost use Rattle.delta_words.specs.CommandTask.{run, frames};
+ghost use Rattle.delta_words.specs.CommandTask.{run, print, text, frames};
 ghost use Rattle.delta_text.specs.Conversion.{frames_of_lines, all_due};
 ghost use Rattle.delta_run.specs.Converted.{Converts};
+ghost use Rattle.delta_run.specs.Lined.{MakesLines, IsLined};
+ghost use Rattle.delta_run.specs.Printed.{PrintsText, PrintsWell, RefusesWell};
 ghost use Rattle.delta_run.specs.CommandLine.{Asks, AskNothing, frames_of};
 ghost use Rattle.delta_end.specs.End.{FileCause, ReadCause, WriteCause};
 ghost use Rattle.delta_run.specs.FirstMeaning.{IsMeant, MayRefuse};
@@ -51,6 +53,8 @@ pub fn delta<S: Shelf, L: Link, N: Sink>(
     ensures answer { (end : End) × IsStatus end result (N.faults notes.old) (N.faults notes.new)
         × ((file : List ℕ) (budget : ℕ) (v : WrittenVersion) → Asks words.now (run file budget v) → OfFile (S.holds shelf.old) file (λ text. Adds (L.log link.old) (L.log link.new) (RunsText (IsMeant (frames_of v)) (MayRefuse text) end)))
         × ((v : WrittenVersion) → Asks words.now (frames v) → Adds (L.log link.old) (L.log link.new) (Converts (frames_of_lines (frames_of v)) end))
+        × (Asks words.now text → Adds (L.log link.old) (L.log link.new) (MakesLines end))
+        × ((file : List ℕ) → Asks words.now (print file) → OfFile (S.holds shelf.old) file (λ text. Adds (L.log link.old) (L.log link.new) (PrintsText text end)))
         × FileCause end (S.faults shelf.old) (S.faults shelf.new)
         × ReadCause end (L.read_faults link.old) (L.read_faults link.new)
         × WriteCause end (L.write_faults link.old) (L.write_faults link.new)
@@ -72,6 +76,20 @@ pub fn delta<S: Shelf, L: Link, N: Sink>(
         → IsStill (L.read_faults link.old) (L.read_faults link.new) → IsStill (L.write_faults link.old) (L.write_faults link.new) → IsStill (N.faults notes.old) (N.faults notes.new)
         → (all : List ℕ) → L.left link.old ≡ Some all → length all ≤ 2 ^ 40 → (frames_of_lines (frames_of v)).finding true all ≡ None
         → (result ≡ 8) ⊎ ((result ≡ 0) × Adds (L.log link.old) (L.log link.new) (λ moves. bytes_written moves ≡ all_due (frames_of_lines (frames_of v)) true all)) }
+    // Over a header and whole frames, with no fault counted: done with all lines written, or want of memory.
+    ensures lines_complete { Asks words.now text
+        → IsStill (L.read_faults link.old) (L.read_faults link.new) → IsStill (L.write_faults link.old) (L.write_faults link.new) → IsStill (N.faults notes.old) (N.faults notes.new)
+        → IsLined (L.left link.old) (L.log link.old) (L.log link.new) result }
+    // The text of a program, with no fault counted: done with its canonical text written, or want of memory.
+    ensures print_complete { (file : List ℕ) → Asks words.now (print file) → OfFile (S.holds shelf.old) file (λ text.
+        IsStill (S.faults shelf.old) (S.faults shelf.new) → IsStill (L.write_faults link.old) (L.write_faults link.new) → IsStill (N.faults notes.old) (N.faults notes.new)
+        → PrintsWell text (L.log link.old) (L.log link.new) result) }
+    // Any other text, with no fault counted: refused, or want of memory.
+    ensures print_refused { (file : List ℕ) → Asks words.now (print file) → OfFile (S.holds shelf.old) file (λ text.
+        IsStill (S.faults shelf.old) (S.faults shelf.new) → IsStill (L.write_faults link.old) (L.write_faults link.new) → IsStill (N.faults notes.old) (N.faults notes.new)
+        → RefusesWell text result) }
+    // Printing leaves the link's input as it is.
+    ensures print_unread { (file : List ℕ) → Asks words.now (print file) → L.left link.new ≡ L.left link.old }
     // What the shelf holds stays.
     ensures held { S.holds shelf.new ≡ S.holds shelf.old }
 {

@@ -290,3 +290,31 @@ fn lines_become_frames(rt: HostRuntime) -> Result<(), Fail> {
     check(&rt, rt.alloc(), &["text", "--frames"], bad)?;
     check(&rt, rt.alloc(), &["text", "--v2", "--frames"], two)
 }
+
+#[test]
+fn frames_become_lines(rt: HostRuntime) -> Result<(), Fail> {
+    let good = Row {
+        input: b"DEV1\0\x15\x01\x03\x11\0\0\0\0\0\0\0\x03",
+        output: b"item\nF int 3\n",
+        ..ROW
+    };
+    let cut = Row {
+        input: b"DEV1\0\x15\0",
+        output: b"item\n",
+        note: b"delta: input refused: Truncated at 7\n",
+        status: 4,
+        ..ROW
+    };
+    check(&rt, rt.alloc(), &["text"], good)?;
+    check(&rt, rt.alloc(), &["text"], cut)?;
+    check(
+        &rt,
+        rt.alloc(),
+        &["text"],
+        Row {
+            piece: 1,
+            most: 1,
+            ..good
+        },
+    )
+}

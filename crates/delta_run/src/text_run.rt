@@ -7,9 +7,13 @@ ghost use Rattle.delta_end.specs.declared.end.End.{End};
 ghost use Rattle.delta_loop.specs.Answer.{Adds, IsComplete, IsWithinLimit};
 ghost use Rattle.delta_end.specs.Status.{IsStatus, IsStill};
 ghost use Rattle.delta_words.specs.declared.task.Version.{Version as WrittenVersion};
-ghost use Rattle.delta_words.specs.CommandTask.{run, frames};
+ghost use Rattle.delta_words.specs.CommandTask.{run, print, text, frames};
 ghost use Rattle.delta_text.specs.Conversion.{frames_of_lines, all_due, Ran as Converted};
+ghost use Rattle.delta_text.specs.Lines.{lines_of_frames};
+ghost use Rattle.delta_loop.specs.Loop.{Ran as Lined};
 ghost use Rattle.delta_run.specs.Converted.{Converts};
+ghost use Rattle.delta_run.specs.Lined.{MakesLines, IsLined};
+ghost use Rattle.delta_run.specs.Printed.{PrintedText, PrintsText, PrintsWell, RefusesWell};
 ghost use Rattle.delta_run.specs.CommandLine.{Asks, AskNothing, frames_of};
 ghost use Rattle.delta_end.specs.End.{FileCause, ReadCause, WriteCause};
 ghost use Rattle.delta_loop.specs.Meaning.{Meaning};
@@ -22,7 +26,8 @@ ghost use Rattle.delta_run.specs.Text.{RanText};
 use crate::from_text::{FromText, StartFault};
 use delta_end::{End, answer, note};
 use delta_loop::run_machine;
-use delta_text::write_frames;
+use delta_source::print_source;
+use delta_text::{write_frames, write_lines};
 use delta_words::{Task, WordsFault, read_words};
 use event_frame::Version;
 use port::{IoFault, Link, Shelf, Sink};
@@ -49,9 +54,26 @@ fn run_file<M: FromText, S: Shelf, L: Link>(
         Err(IoFault::Failed) => return End::FileFailed,
     };
     match M::start(alloc, &text, version) {
-        Ok((machine, first)) => run_machine(alloc, machine, version, &first, link),
+        Ok((machine, first)) => run_machine(alloc, machine, Some(version), &first, link),
         Err(StartFault::Memory) => End::Memory,
         Err(StartFault::Refused) => End::Refused(None),
+    }
+}
+
+// Prints the program of a file.
+fn print_file<S: Shelf, L: Link>(alloc: Global, file: &str, shelf: &mut S, link: &mut L) -> End
+    ensures printed { OfFile (S.holds shelf.old) file.now (λ text. PrintedText text (L.log link.old) (L.log link.new) result) }
+    ensures prints { result ≢ End.Usage }
+    ensures unread { L.left link.new ≡ L.left link.old }
+    ensures held { S.holds shelf.new ≡ S.holds shelf.old }
+    ensures file { FileCause result (S.faults shelf.old) (S.faults shelf.new) }
+    ensures read { ReadCause result (L.read_faults link.old) (L.read_faults link.new) }
+    ensures write { WriteCause result (L.write_faults link.old) (L.write_faults link.new) }
+{
+    match shelf.read(file) {
+        Ok(text) => print_source(alloc, &text, link),
+        Err(IoFault::Memory) => End::Memory,
+        Err(IoFault::Failed) => End::FileFailed,
     }
 }
 
@@ -79,6 +101,10 @@ fn run_command<M: FromText, S: Shelf, L: Link>(
     ensures framed { (v : WrittenVersion) → Asks words.now (frames v)
         → ((result ≡ End.Memory) × IsUntouched (L.log link.old) (L.log link.new) (L.left link.old) (L.left link.new))
         ⊎ Converted (frames_of_lines (frames_of v)) (L.log link.old) (L.log link.new) (L.left link.old) (L.left link.new) result }
+    ensures lined { Asks words.now text → ((result ≡ End.Memory) × IsUntouched (L.log link.old) (L.log link.new) (L.left link.old) (L.left link.new))
+        ⊎ Lined lines_of_frames (L.log link.old) (L.log link.new) (L.left link.old) (L.left link.new) result }
+    ensures printed { (file : List ℕ) → Asks words.now (print file) → OfFile (S.holds shelf.old) file (λ text. PrintedText text (L.log link.old) (L.log link.new) result) }
+    ensures unread { (file : List ℕ) → Asks words.now (print file) → L.left link.new ≡ L.left link.old }
     ensures held { S.holds shelf.new ≡ S.holds shelf.old }
     ensures file { FileCause result (S.faults shelf.old) (S.faults shelf.new) }
     ensures read { ReadCause result (L.read_faults link.old) (L.read_faults link.new) }
@@ -89,9 +115,9 @@ fn run_command<M: FromText, S: Shelf, L: Link>(
             run_file::<M, S, L>(alloc, &file, frame_version(version), shelf, link)
         }
         Ok(Task::Frames(version)) => write_frames(alloc, frame_version(version), link),
-        Ok(Task::Eval(..) | Task::Check(_) | Task::Print(_) | Task::Text | Task::Gen(..)) => {
-            End::Usage
-        }
+        Ok(Task::Text) => write_lines(alloc, link),
+        Ok(Task::Print(file)) => print_file(alloc, &file, shelf, link),
+        Ok(Task::Eval(..) | Task::Check(_) | Task::Gen(..)) => End::Usage,
         Err(WordsFault::Usage) => End::Usage,
         Err(WordsFault::Memory) => End::Memory,
     }
@@ -122,6 +148,8 @@ pub fn run_words<M: FromText, S: Shelf, L: Link, N: Sink>(
     ensures answer { (end : End) × IsStatus end result (N.faults notes.old) (N.faults notes.new)
         × ((file : List ℕ) (budget : ℕ) (v : WrittenVersion) → Asks words.now (run file budget v) → OfFile (S.holds shelf.old) file (λ text. Adds (L.log link.old) (L.log link.new) (RunsText (M.means text (frames_of v)) (M.refuses text) end)))
         × ((v : WrittenVersion) → Asks words.now (frames v) → Adds (L.log link.old) (L.log link.new) (Converts (frames_of_lines (frames_of v)) end))
+        × (Asks words.now text → Adds (L.log link.old) (L.log link.new) (MakesLines end))
+        × ((file : List ℕ) → Asks words.now (print file) → OfFile (S.holds shelf.old) file (λ text. Adds (L.log link.old) (L.log link.new) (PrintsText text end)))
         × FileCause end (S.faults shelf.old) (S.faults shelf.new)
         × ReadCause end (L.read_faults link.old) (L.read_faults link.new)
         × WriteCause end (L.write_faults link.old) (L.write_faults link.new)
@@ -142,6 +170,20 @@ pub fn run_words<M: FromText, S: Shelf, L: Link, N: Sink>(
         → IsStill (L.read_faults link.old) (L.read_faults link.new) → IsStill (L.write_faults link.old) (L.write_faults link.new) → IsStill (N.faults notes.old) (N.faults notes.new)
         → (all : List ℕ) → L.left link.old ≡ Some all → length all ≤ 2 ^ 40 → (frames_of_lines (frames_of v)).finding true all ≡ None
         → (result ≡ 8) ⊎ ((result ≡ 0) × Adds (L.log link.old) (L.log link.new) (λ moves. bytes_written moves ≡ all_due (frames_of_lines (frames_of v)) true all)) }
+    // Over a header and whole frames, with no fault counted: done with all lines written, or want of memory.
+    ensures lines_complete { Asks words.now text
+        → IsStill (L.read_faults link.old) (L.read_faults link.new) → IsStill (L.write_faults link.old) (L.write_faults link.new) → IsStill (N.faults notes.old) (N.faults notes.new)
+        → IsLined (L.left link.old) (L.log link.old) (L.log link.new) result }
+    // The text of a program, with no fault counted: done with its canonical text written, or want of memory.
+    ensures print_complete { (file : List ℕ) → Asks words.now (print file) → OfFile (S.holds shelf.old) file (λ text.
+        IsStill (S.faults shelf.old) (S.faults shelf.new) → IsStill (L.write_faults link.old) (L.write_faults link.new) → IsStill (N.faults notes.old) (N.faults notes.new)
+        → PrintsWell text (L.log link.old) (L.log link.new) result) }
+    // Any other text, with no fault counted: refused, or want of memory.
+    ensures print_refused { (file : List ℕ) → Asks words.now (print file) → OfFile (S.holds shelf.old) file (λ text.
+        IsStill (S.faults shelf.old) (S.faults shelf.new) → IsStill (L.write_faults link.old) (L.write_faults link.new) → IsStill (N.faults notes.old) (N.faults notes.new)
+        → RefusesWell text result) }
+    // Printing leaves the link's input as it is.
+    ensures print_unread { (file : List ℕ) → Asks words.now (print file) → L.left link.new ≡ L.left link.old }
     // What the shelf holds stays.
     ensures held { S.holds shelf.new ≡ S.holds shelf.old }
 {

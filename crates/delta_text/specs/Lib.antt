@@ -5,3 +5,4 @@ pub mod Fault
 pub mod Conversion
 pub mod Loop
 pub mod Sending
+pub mod Lines

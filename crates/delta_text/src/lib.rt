@@ -3,7 +3,9 @@
 
 mod fault;
 mod frame_writer;
+pub mod laws;
 mod line_reader;
+mod line_writer;
 mod pull;
 mod serve;
 #[cfg(test)]
@@ -13,4 +15,5 @@ mod writing;
 pub use delta_end::{End, InputFault};
 pub use fault::LineRefusal;
 pub use line_reader::{LineReader, ReadStop};
+pub use line_writer::write_lines;
 pub use writing::write_frames;

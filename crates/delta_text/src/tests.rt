@@ -1,7 +1,7 @@
 //! Lines and the frames that they become.
 
-use crate::{End, InputFault, write_frames};
-use event_frame::Version;
+use crate::{End, InputFault, write_frames, write_lines};
+use event_frame::{FrameFault, Version};
 use event_text::LineFault;
 use port::{Link, MemLink, Move};
 use std::alloc::Global;
@@ -87,5 +87,33 @@ fn steps_of_each_version(rt: HostRuntime) -> Result<(), Fail> {
     let mut second = link_of(alloc, &line, 10)?;
     let end = write_frames(alloc, Version::V2, &mut second);
     assert_eq!(rt; end, End::Done);
+    Ok(())
+}
+
+#[test]
+fn frames_become_lines(rt: HostRuntime) -> Result<(), Fail> {
+    let alloc = rt.alloc();
+    let one = b"DEV1\x00\x15\x01\x03\x11\x00\x00\x00\x00\x00\x00\x00\x03".as_slice();
+    for most in [1, 5, 100] {
+        let mut link = link_of(alloc, one, most)?;
+        let end = write_lines(alloc, &mut link);
+        assert_eq!(rt; end, End::Done);
+        let bytes = written(alloc, &link)?;
+        assert_eq!(rt; bytes.as_slice(), b"item\nF int 3\n".as_slice());
+    }
+    Ok(())
+}
+
+#[test]
+fn cut_frame_is_refused_behind_the_lines_before(rt: HostRuntime) -> Result<(), Fail> {
+    let alloc = rt.alloc();
+    let mut link = link_of(alloc, b"DEV1\x00\x15\x01", 3)?;
+    let end = write_lines(alloc, &mut link);
+    assert_eq!(rt;
+        end,
+        End::Input(InputFault::Frame(FrameFault::Truncated(7)))
+    );
+    let bytes = written(alloc, &link)?;
+    assert_eq!(rt; bytes.as_slice(), b"item\n".as_slice());
     Ok(())
 }

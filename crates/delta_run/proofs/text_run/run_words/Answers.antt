@@ -4,6 +4,8 @@ use Rattle.delta_end.proofs.Statuses.{two_is_usage}
 use Rattle.delta_text.specs.Conversion.{frames_of_lines}
 use Rattle.delta_run.specs.CommandLine.{frames_of}
 use Rattle.delta_run.proofs.Conversions.{by_either, either_well}
+use Rattle.delta_run.proofs.Lined.{lined, lines_well}
+use Rattle.delta_run.proofs.Printed.{prints_text, printed_well, refused_well}
 use Rattle.delta_run.proofs.text_run.run_words.Goals as goal
 
 pub returns-clause-usage : goal.returns-clause-usage
@@ -27,6 +29,8 @@ returns-clause-answer g c = (
   status_is _ _ _ _ _ c.answer.ensures c.note-said.ensures.cause,
   λ file budget v is files tells. text_return _ _ _ _ _ _ c.run_command-end.result (c.run_command-end.ensures.ran file budget v is files tells),
   λ v is. by_either (frames_of_lines (frames_of v)) _ _ _ _ c.run_command-end.result (c.run_command-end.ensures.framed v is),
+  λ is. lined _ _ _ _ c.run_command-end.result (c.run_command-end.ensures.lined is),
+  λ file is files tells. prints_text _ _ _ c.run_command-end.result (c.run_command-end.ensures.printed file is files tells),
   c.run_command-end.ensures.file,
   c.run_command-end.ensures.read,
   c.run_command-end.ensures.write,
@@ -50,3 +54,21 @@ pub returns-clause-frames_complete : goal.returns-clause-frames_complete
 returns-clause-frames_complete g c v is read write note all tells short good =
     either_well (frames_of v) all short good _ _ _ _ tells _ _ _ _ _ _ read write note _ _ c.note-said.ensures.cause c.run_command-end.result (c.run_command-end.ensures.framed v is)
     c.run_command-end.ensures.read c.run_command-end.ensures.write c.answer.ensures
+
+pub returns-clause-lines_complete : goal.returns-clause-lines_complete
+returns-clause-lines_complete g c is read write note =
+    lines_well _ _ _ _ _ _ _ _ _ _ read write note _ _ c.note-said.ensures.cause c.run_command-end.result (c.run_command-end.ensures.lined is) c.run_command-end.ensures.read
+    c.run_command-end.ensures.write c.answer.ensures
+
+pub returns-clause-print_complete : goal.returns-clause-print_complete
+returns-clause-print_complete g c file is files tells file_still write note =
+    printed_well _ _ _ _ _ _ _ _ _ file_still write note _ _ c.note-said.ensures.cause c.run_command-end.result (c.run_command-end.ensures.printed file is files tells)
+    c.run_command-end.ensures.file c.run_command-end.ensures.write c.answer.ensures
+
+pub returns-clause-print_refused : goal.returns-clause-print_refused
+returns-clause-print_refused g c file is files tells file_still write note =
+    refused_well _ _ _ _ _ _ _ _ _ file_still write note _ _ c.note-said.ensures.cause c.run_command-end.result (c.run_command-end.ensures.printed file is files tells)
+    c.run_command-end.ensures.file c.run_command-end.ensures.write c.answer.ensures
+
+pub returns-clause-print_unread : goal.returns-clause-print_unread
+returns-clause-print_unread g c file is = c.run_command-end.ensures.unread file is
