@@ -178,7 +178,7 @@ pub fn run_words<M: FromText, S: Shelf, L: Link, N: Sink>(
     ensures print_complete { (file : List ℕ) → Asks words.now (print file) → OfFile (S.holds shelf.old) file (λ text.
         IsStill (S.faults shelf.old) (S.faults shelf.new) → IsStill (L.write_faults link.old) (L.write_faults link.new) → IsStill (N.faults notes.old) (N.faults notes.new)
         → PrintsWell text (L.log link.old) (L.log link.new) result) }
-    // Any other text, with no fault counted: refused, or want of memory.
+    // A text that is refused for something, with no fault counted: status 3, or want of memory.
     ensures print_refused { (file : List ℕ) → Asks words.now (print file) → OfFile (S.holds shelf.old) file (λ text.
         IsStill (S.faults shelf.old) (S.faults shelf.new) → IsStill (L.write_faults link.old) (L.write_faults link.new) → IsStill (N.faults notes.old) (N.faults notes.new)
         → RefusesWell text result) }
