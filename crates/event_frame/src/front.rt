@@ -61,23 +61,13 @@ pub(crate) fn front_of(version: Version, bytes: &[u8], at: u64) -> Front
     let Some((count, rest)) = bytes.split_first() else {
         return Front::Part;
     };
-    if *count > longest(version) {
+    if *count > version.longest() {
         return Front::Fault(FrameFault::LongPath(at, *count));
     }
     match read_path(version, *count as usize, rest, at + 1) {
         Front::Frame(event, used) => Front::Frame(event, used + 1),
         Front::Part => Front::Part,
         Front::Fault(fault) => Front::Fault(fault),
-    }
-}
-
-// The most steps of a path.
-fn longest(version: Version) -> u8
-    ensures { result ≡ longest version }
-{
-    match version {
-        Version::V1 => 31,
-        Version::V2 => 63,
     }
 }
 

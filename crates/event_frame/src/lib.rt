@@ -13,4 +13,4 @@ mod write;
 pub use fault::FrameFault;
 pub use reader::Reader;
 pub use version::Version;
-pub use write::{encode, encode2};
+pub use write::{encode, encode_in, encode2};

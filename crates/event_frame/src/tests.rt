@@ -2,7 +2,7 @@
 
 ghost use Rattle.std.specs.Prelude.{◌≤◌, length};
 
-use crate::{FrameFault, Reader, encode, encode2};
+use crate::{FrameFault, Reader, Version, encode, encode_in, encode2};
 use event_word::{Event, Leaf, Step};
 use std::alloc::Global;
 use std::test::Fail;
@@ -15,6 +15,10 @@ fn end_is_written(rt: HostRuntime) -> Result<(), Fail> {
         out.as_slice(),
         [0x44, 0x45, 0x56, 0x31, 0x00, 0x16].as_slice()
     );
+    let mut again = vec![in rt.alloc()]?;
+    again.extend_from_slice(Version::V1.header())?;
+    encode_in(Version::V1, &Event::new(Leaf::End), &mut again)?;
+    assert_eq!(rt; again.as_slice(), out.as_slice());
     Ok(())
 }
 

@@ -3,7 +3,7 @@
 ghost use Rattle.std.specs.Prelude.{◌≡◌, ◌+◌, ◌<◌, ◌≤◌, ◌++◌, length, map, slice_get, vec_len, vec_capacity, OnOk, OnErr};
 ghost use Rattle.std.specs.Option.{option_map_or};
 ghost use Rattle.event_frame.specs.declared.version.Version.TheVariants.{V1, V2};
-ghost use Rattle.event_frame.specs.Frames.{step_code, packed, leaf_bytes, frame};
+ghost use Rattle.event_frame.specs.Frames.{step_code, packed, leaf_bytes, frame, longest};
 
 use crate::version::Version;
 use event_word::{Event, Leaf, Step};
@@ -26,6 +26,16 @@ pub fn encode2(x: &Event, out: &mut Vec<u8>) -> Result<(), Memory>
     ensures room { OnErr result (vec_capacity out.new ≡ vec_capacity out.old) }
 {
     write_frame(Version::V2, x, out)
+}
+
+/// Appends the one frame of a version. After `Memory` all is unchanged.
+pub fn encode_in(version: Version, x: &Event, out: &mut Vec<u8>) -> Result<(), Memory>
+    requires { length x.now.path ≤ longest version }
+    ensures ok { OnOk result (out.new.items ≡ out.old.items ++ frame version x.now) }
+    ensures err { OnErr result (out.new.items ≡ out.old.items) }
+    ensures room { OnErr result (vec_capacity out.new ≡ vec_capacity out.old) }
+{
+    write_frame(version, x, out)
 }
 
 // The room is taken first, so that nothing after it can be refused.
