@@ -15,3 +15,10 @@ pub mod ReadTypes
 pub mod Inverting
 pub mod NeededBrackets
 pub mod NeededInHistories
+pub mod Items
+pub mod ItemsOfRows
+pub mod KeptItems
+pub mod ItemsOfTokens
+pub mod MadeTrees
+pub mod NumberedNames
+pub mod ParsedTrees

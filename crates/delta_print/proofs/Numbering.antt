@@ -62,10 +62,10 @@ numeral_is m small = cases (m == 1) refl
 
 -- NAMES
 
-name_text-read : (names : List (List ℕ)) (x : ℕ) → x < length names → name_text names x ≡ get_or names x []
+pub name_text-read : (names : List (List ℕ)) (x : ℕ) → x < length names → name_text names x ≡ get_or names x []
 name_text-read names x h = unwrap_or-slice_get names x []
 
-any_at : (p : List ℕ → Bool) (xs : List (List ℕ)) (i : ℕ) → i < length xs → p (get_or xs i []) ≡ true → list_any p xs ≡ true
+pub any_at : (p : List ℕ → Bool) (xs : List (List ℕ)) (i : ℕ) → i < length xs → p (get_or xs i []) ≡ true → list_any p xs ≡ true
 any_at p [] i h e = absurd (omega arith)
 any_at p (x ∷ xs) zero h e = rw e refl
 any_at p (x ∷ xs) (suc i) h e = either_true (p x) (list_any p xs) (any_at p xs i (omega arith) e)

@@ -1,6 +1,6 @@
 -- The laws of canonical texts.
 use Rattle.std.specs.Prelude.{◌≡◌, ℕ, List, map}
-use Rattle.std.specs.Str.{chars}
+use Rattle.std.specs.Str.{chars, IsUtf8}
 use Rattle.stream_type.specs.StreamType.{StreamType}
 use Rattle.delta_tree.specs.SyntaxTree.{WrittenType, WrittenFunction, Declaration, ProgramTree}
 use Rattle.delta_tree.specs.Unplaced.{unplaced_type, unplaced_declaration, unplaced_function}
@@ -11,7 +11,7 @@ use Rattle.delta_parse.specs.Tables.{delta_grammar}
 use Rattle.delta_lex.specs.Tokens.{Lexeme}
 use Rattle.delta_lex.specs.Division.{Divides}
 use Rattle.delta_parse.specs.Plain.{grammar_tokens}
-use Rattle.delta_parse.specs.Programs.{IsProgram}
+use Rattle.delta_parse.specs.Programs.{IsProgram, IsTreeOf}
 use Rattle.delta_print.specs.Rows.{type_row}
 use Rattle.delta_print.specs.Canonical.{written, canonical_text, type_text}
 use Rattle.delta_print.specs.Printable.{AreTokensOf, program_row, IsMade}
@@ -57,3 +57,11 @@ pub record IsReadAsType (text : List ℕ) (t : StreamType) : Type 0 where
 -- the canonical text of a type is read as that type
 abbrev pub ShownIsRead : Type 0
 ShownIsRead = (t : StreamType) → IsReadAsType (type_text t) t
+
+-- the tree of the tokens of a text can be printed
+abbrev pub ParsedIsPrintable : Type 0
+ParsedIsPrintable = (text : List ℕ) (tokens : List Lexeme) (tree : ProgramTree) → IsUtf8 text → Divides 0 (chars text) tokens → IsTreeOf tokens tree → IsPrintable tree
+
+-- and its canonical text is read as that tree, but for places
+abbrev pub ParsedIsRead : Type 0
+ParsedIsRead = (text : List ℕ) (tokens : List Lexeme) (tree : ProgramTree) → IsUtf8 text → Divides 0 (chars text) tokens → IsTreeOf tokens tree → IsReadAs (canonical_text tree) tree

@@ -4,6 +4,8 @@ ghost use Rattle.delta_print.specs.Laws.{
   CanonicalDivides,
   CanonicalIsDerived,
   CanonicalIsRead,
+  ParsedIsPrintable,
+  ParsedIsRead,
   ShownIsDerived,
   ShownIsRead,
 };
@@ -32,6 +34,16 @@ pub fn canonical_divides()
 /// The canonical text of a program, read without any limit, is that program but for places.
 pub fn canonical_is_read()
     ensures { CanonicalIsRead }
+{}
+
+/// The tree that is parsed of the tokens of a text can be printed: `canonical_is_read` speaks of it.
+pub fn parsed_is_printable()
+    ensures { ParsedIsPrintable }
+{}
+
+/// The canonical text of a tree that is parsed, read without any limit, is that tree but for places.
+pub fn parsed_is_read()
+    ensures { ParsedIsRead }
 {}
 
 /// The canonical text of a type is read as that type.

@@ -11,8 +11,6 @@ pub mod laws;
 mod layout;
 mod place;
 mod printing;
-#[cfg(test)]
-mod tests;
 mod type_rows;
 
 pub use printing::{print, show};
