@@ -1,6 +1,7 @@
 -- Lemmas for the evaluator: calls, and arguments one after the other.
 use Rattle.std.proofs.Common.{◌≡◌, ℕ, zero, suc, pred, ◌+◌, ◌-◌, ◌*◌, ◌<◌, ◌≤◌, ◌^◌, max, Bool, true, false, ◌&&◌, ◌||◌, List, [], ◌∷◌, ◌++◌, refl, sym, ap, ◌∙◌, append_assoc, arith}
 use Rattle.std.proofs.lemmas.List.{append-nil}
+use Rattle.std.proofs.Math.Nat.{suc-mul}
 use Rattle.std.proofs.Math.Bool.{and_assoc}
 use Rattle.stream_prefix.specs.StreamPrefix.{StreamPrefix, is_maximal}
 use Rattle.hist_value.specs.HistValue.{HistValue}
@@ -52,5 +53,13 @@ joined_first as' = same_runs (runs_joined no_runs as') as' refl (omega arith) (o
 -- for functions over arguments
 pub ruleset joined = (joined_none, joined_after, joined_first)
 
+-- a body, with one call less, weighs less than its call
+pub body_weighs_less : (d h w : ℕ) → 0 < d → w ≤ h → (d - 1) * suc h + w < d * suc h + 1
+body_weighs_less zero h w p q = absurd (omega (arith, p))
+body_weighs_less (suc d) h w p q =
+    let e : suc d - 1 ≡ d = omega arith in
+    let m : suc d * suc h ≡ d * suc h + suc h = suc-mul d (suc h) in
+    rw (e, m) (omega (arith, q))
+
 -- for functions over calls
-pub ruleset bodies = (call_with_depth)
+pub ruleset bodies = (call_with_depth, body_weighs_less)

@@ -16,4 +16,6 @@ pub mod Scopes
 pub mod Splittings
 pub mod Evaluations
 pub mod Declarations
+pub mod MainRuns
+pub mod Runs
 mod Examples

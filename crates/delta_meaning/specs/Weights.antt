@@ -19,13 +19,13 @@ abbrev mutual
   weight (cons_at at a b) = 2 + (weight a + weight b)
   weight (inl_at at a) = 1 + weight a
   weight (inr_at at a) = 1 + weight a
-  weight (typed_at at a t) = 1 + weight a
-  weight (let_at at x h e) = 2 + (weight_of_head h + weight e)
-  weight (let_par_at at x y h e) = 2 + (weight_of_head h + weight e)
-  weight (let_cat_at at x y h e) = 2 + (weight_of_head h + weight e)
-  weight (case_sum_at at h x a y b) = 2 + (weight_of_head h + (weight a + weight b))
-  weight (case_star_at at h a y ys b) = 2 + (weight_of_head h + (weight a + weight b))
-  weight (wait_at at x e) = 1 + weight e
+  weight (typed_at at a t) = 2 + weight a
+  weight (let_at at x h e) = 5 + (weight_of_head h + weight e)
+  weight (let_par_at at x y h e) = 5 + (weight_of_head h + weight e)
+  weight (let_cat_at at x y h e) = 5 + (weight_of_head h + weight e)
+  weight (case_sum_at at h x a y b) = 5 + (weight_of_head h + (weight a + weight b))
+  weight (case_star_at at h a y ys b) = 5 + (weight_of_head h + (weight a + weight b))
+  weight (wait_at at x e) = 2 + weight e
   weight (if_at at m a b) = 1 + (weight a + weight b)
   weight (call_at at f ms es) = 4 + weight_of_all es
 
@@ -33,12 +33,21 @@ abbrev mutual
   pub weight_of_head : Head → ℕ
   weight_of_head (name_head at x) = 1
   weight_of_head (call_head at f ms es) = 4 + weight_of_all es
-  weight_of_head (typed_head at e t) = 1 + weight e
+  weight_of_head (typed_head at e t) = 2 + weight e
 
   -- the weight of arguments
   pub weight_of_all : Expressions → ℕ
   weight_of_all no_expressions = 0
   weight_of_all (expression_before e es) = 1 + (weight e + weight_of_all es)
+
+-- the weight of what stands after the head of a form
+abbrev pub weight_after : Expression → ℕ
+weight_after (let_at at x h e) = weight e
+weight_after (let_par_at at x y h e) = weight e
+weight_after (let_cat_at at x y h e) = weight e
+weight_after (case_sum_at at h x a y b) = weight a + weight b
+weight_after (case_star_at at h a y ys b) = weight a + weight b
+weight_after _ = 0
 
 -- the weight of the heaviest of some functions' bodies
 abbrev pub heaviest : List Function → ℕ

@@ -3,14 +3,17 @@
 #![tactic(auto)]
 
 mod evaluated;
+mod evaluation;
 mod functions;
 pub mod laws;
 mod parts;
+mod programs;
 mod refusal;
 mod scope;
 mod splitting;
-#[cfg(test)]
-mod tests;
 mod types;
 
+pub use evaluated::Evaluated;
+pub use programs::{eval, run};
+pub use refusal::EvalRefusal;
 pub use types::{params_meant, past_meant, type_meant};

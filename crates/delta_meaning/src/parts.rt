@@ -1,80 +1,76 @@
 //! The parts of types and of prefixes by their form, as `core_term` defines them.
 
 ghost use Rattle.std.specs.Prelude.{◌≡◌, IfOk};
-ghost use Rattle.stream_type.specs.StreamType.{StreamType, type_of};
-ghost use Rattle.stream_prefix.specs.StreamPrefix.{StreamPrefix};
+ghost use Rattle.stream_type.specs.StreamType.{StreamType, type_of, eps};
+ghost use Rattle.stream_prefix.specs.StreamPrefix.{StreamPrefix, eps_emp};
 ghost use Rattle.stream_prefix.specs.Tree.{prefix_of, end_of};
 ghost use Rattle.core_term.specs.Parts.{par_left, par_right, cat_first, cat_second, sum_left, sum_right, star_item, star_items, left_part, right_part, first_part, second_part};
-ghost use Rattle.core_term.specs.Run.{Run, star_run};
-ghost use Rattle.delta_meaning.specs.Evaluated.{taken_run};
+ghost use Rattle.core_term.specs.Run.{Run, sum_run, star_run};
+ghost use Rattle.delta_meaning.specs.Evaluated.{sided_run, taken_run};
 
 use std::alloc::Global;
 use stream_prefix::{Prefix, StarEnd};
 use stream_type::{Memory, Ty};
 
-/// The two types that come at once, or `eps` twice. Its only error is want of memory.
-pub fn par_types(alloc: Global, t: &Ty) -> Result<(Ty, Ty), Memory>
-    ensures left { IfOk result (λ r. type_of r.0 ≡ par_left (type_of t.now)) }
-    ensures right { IfOk result (λ r. type_of r.1 ≡ par_right (type_of t.now)) }
+/// The two types that come at once, or `eps` twice.
+pub fn par_types<'a>(t: &'a Ty, other: &'a Ty) -> (&'a Ty, &'a Ty)
+    requires { type_of other.now ≡ eps }
+    ensures left { type_of result.0.now ≡ par_left (type_of t.now) }
+    ensures right { type_of result.1.now ≡ par_right (type_of t.now) }
 {
     match t {
-        Ty::Par(a, b) => Ok((stream_type::copy(alloc, a)?, stream_type::copy(alloc, b)?)),
-        Ty::Eps | Ty::One | Ty::Int | Ty::Cat(_, _) | Ty::Sum(_, _) | Ty::Star(_) => {
-            Ok((Ty::Eps, Ty::Eps))
-        }
+        Ty::Par(a, b) => (a, b),
+        Ty::Eps | Ty::One | Ty::Int | Ty::Cat(_, _) | Ty::Sum(_, _) | Ty::Star(_) => (other, other),
     }
 }
 
-/// The two types that come one after the other, or `eps` twice. Its only error is want of memory.
-pub fn cat_types(alloc: Global, t: &Ty) -> Result<(Ty, Ty), Memory>
-    ensures first { IfOk result (λ r. type_of r.0 ≡ cat_first (type_of t.now)) }
-    ensures second { IfOk result (λ r. type_of r.1 ≡ cat_second (type_of t.now)) }
+/// The two types that come one after the other, or `eps` twice.
+pub fn cat_types<'a>(t: &'a Ty, other: &'a Ty) -> (&'a Ty, &'a Ty)
+    requires { type_of other.now ≡ eps }
+    ensures first { type_of result.0.now ≡ cat_first (type_of t.now) }
+    ensures second { type_of result.1.now ≡ cat_second (type_of t.now) }
 {
     match t {
-        Ty::Cat(a, b) => Ok((stream_type::copy(alloc, a)?, stream_type::copy(alloc, b)?)),
-        Ty::Eps | Ty::One | Ty::Int | Ty::Par(_, _) | Ty::Sum(_, _) | Ty::Star(_) => {
-            Ok((Ty::Eps, Ty::Eps))
-        }
+        Ty::Cat(a, b) => (a, b),
+        Ty::Eps | Ty::One | Ty::Int | Ty::Par(_, _) | Ty::Sum(_, _) | Ty::Star(_) => (other, other),
     }
 }
 
-/// The two sides of a sum, or `eps` twice. Its only error is want of memory.
-pub fn sum_types(alloc: Global, t: &Ty) -> Result<(Ty, Ty), Memory>
-    ensures left { IfOk result (λ r. type_of r.0 ≡ sum_left (type_of t.now)) }
-    ensures right { IfOk result (λ r. type_of r.1 ≡ sum_right (type_of t.now)) }
+/// The two sides of a sum, or `eps` twice.
+pub fn sum_types<'a>(t: &'a Ty, other: &'a Ty) -> (&'a Ty, &'a Ty)
+    requires { type_of other.now ≡ eps }
+    ensures left { type_of result.0.now ≡ sum_left (type_of t.now) }
+    ensures right { type_of result.1.now ≡ sum_right (type_of t.now) }
 {
     match t {
-        Ty::Sum(a, b) => Ok((stream_type::copy(alloc, a)?, stream_type::copy(alloc, b)?)),
-        Ty::Eps | Ty::One | Ty::Int | Ty::Par(_, _) | Ty::Cat(_, _) | Ty::Star(_) => {
-            Ok((Ty::Eps, Ty::Eps))
-        }
+        Ty::Sum(a, b) => (a, b),
+        Ty::Eps | Ty::One | Ty::Int | Ty::Par(_, _) | Ty::Cat(_, _) | Ty::Star(_) => (other, other),
     }
 }
 
-/// An item of a star and the items after it, or `eps` twice. Its only error is want of memory.
-pub fn star_types(alloc: Global, t: &Ty) -> Result<(Ty, Ty), Memory>
-    ensures item { IfOk result (λ r. type_of r.0 ≡ star_item (type_of t.now)) }
-    ensures items { IfOk result (λ r. type_of r.1 ≡ star_items (type_of t.now)) }
+/// An item of a star and the items after it, or `eps` twice.
+pub fn star_types<'a>(t: &'a Ty, other: &'a Ty) -> (&'a Ty, &'a Ty)
+    requires { type_of other.now ≡ eps }
+    ensures item { type_of result.0.now ≡ star_item (type_of t.now) }
+    ensures items { type_of result.1.now ≡ star_items (type_of t.now) }
 {
     match t {
-        Ty::Star(a) => Ok((stream_type::copy(alloc, a)?, stream_type::copy(alloc, t)?)),
-        Ty::Eps | Ty::One | Ty::Int | Ty::Par(_, _) | Ty::Cat(_, _) | Ty::Sum(_, _) => {
-            Ok((Ty::Eps, Ty::Eps))
-        }
+        Ty::Star(a) => (a, t),
+        Ty::Eps | Ty::One | Ty::Int | Ty::Par(_, _) | Ty::Cat(_, _) | Ty::Sum(_, _) => (
+            other, other,
+        ),
     }
 }
 
-/// What came on each of two streams at once, or nothing. Its only error is want of memory.
+/// What came on each of two streams at once, or nothing.
 #[tactic(auto, using(crate::proofs::StarForms::star_forms))]
-pub fn par_parts(alloc: Global, p: &Prefix) -> Result<(Prefix, Prefix), Memory>
-    ensures left { IfOk result (λ r. prefix_of r.0 ≡ left_part (prefix_of p.now)) }
-    ensures right { IfOk result (λ r. prefix_of r.1 ≡ right_part (prefix_of p.now)) }
+pub fn par_parts<'a>(p: &'a Prefix, nothing: &'a Prefix) -> (&'a Prefix, &'a Prefix)
+    requires { prefix_of nothing.now ≡ eps_emp }
+    ensures left { prefix_of result.0.now ≡ left_part (prefix_of p.now) }
+    ensures right { prefix_of result.1.now ≡ right_part (prefix_of p.now) }
 {
     match p {
-        Prefix::Par(a, b) => Ok((
-            stream_prefix::copy(alloc, a)?,
-            stream_prefix::copy(alloc, b)?,
-        )),
+        Prefix::Par(a, b) => (a, b),
         Prefix::EpsEmp
         | Prefix::OneEmp
         | Prefix::OneFull
@@ -85,7 +81,7 @@ pub fn par_parts(alloc: Global, p: &Prefix) -> Result<(Prefix, Prefix), Memory>
         | Prefix::SumEmp
         | Prefix::Inl(_)
         | Prefix::Inr(_)
-        | Prefix::Star(_, _) => Ok((Prefix::EpsEmp, Prefix::EpsEmp)),
+        | Prefix::Star(_, _) => (nothing, nothing),
     }
 }
 
@@ -115,6 +111,38 @@ pub fn cat_parts(alloc: Global, t: &Ty, p: &Prefix) -> Result<(Prefix, Prefix), 
         | Prefix::Inl(_)
         | Prefix::Inr(_)
         | Prefix::Star(_, _) => Ok((Prefix::EpsEmp, stream_prefix::empty(alloc, t)?)),
+    }
+}
+
+/// What has come of a sum.
+#[derive(Clone, Copy)]
+pub enum Sided<'a> {
+    /// No side is chosen.
+    Nothing,
+    /// The left side is chosen, and this has come on it.
+    Left(&'a Prefix),
+    /// The right side is chosen, and this has come on it.
+    Right(&'a Prefix),
+}
+
+/// What has come of a sum, by the side that is chosen; nothing, where it is no sum.
+#[tactic(auto, using(crate::proofs::StarForms::star_forms))]
+pub fn side_taken(p: &Prefix) -> Sided<'_>
+    ensures { (r : StreamType) (a b : StreamPrefix → Run) → sum_run r (prefix_of p.now) a b ≡ sided_run result r a b }
+{
+    match p {
+        Prefix::Inl(q) => Sided::Left(q),
+        Prefix::Inr(q) => Sided::Right(q),
+        Prefix::EpsEmp
+        | Prefix::OneEmp
+        | Prefix::OneFull
+        | Prefix::IntEmp
+        | Prefix::IntFull(_)
+        | Prefix::Par(_, _)
+        | Prefix::CatFst(_)
+        | Prefix::CatBoth(_, _)
+        | Prefix::SumEmp
+        | Prefix::Star(_, _) => Sided::Nothing,
     }
 }
 

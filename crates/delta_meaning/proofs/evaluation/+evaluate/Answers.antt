@@ -1,0 +1,149 @@
+-- What a call, a wait, a case on a star and a body are, by the form of their tree.
+use Rattle.std.proofs.Common.{◌≡◌, ℕ, ◌+◌, ◌-◌, ◌<◌, List, map, IfOk, IfErr, refl, sym, ap, ap₂, ◌∙◌, subst, arith, rules}
+use Rattle.std.proofs.lemmas.Result.{IfOk-weaker, MatchResult-weaker, err_from_is_err_and}
+use Rattle.stream_type.specs.StreamType.{type_of}
+use Rattle.stream_prefix.specs.declared.prefix.Prefix.{Prefix}
+use Rattle.stream_prefix.specs.declared.prefix.StarEnd.TheVariants.{Done}
+use Rattle.stream_prefix.specs.Tree.{prefix_of, star_of, end_of}
+use Rattle.stream_prefix.proofs.Rows.{prefix_of-star}
+use Rattle.delta_tree.specs.declared.expressions.Exp.{Exp}
+use Rattle.delta_tree.specs.declared.expressions.Hist.{Hist}
+use Rattle.delta_tree.specs.SyntaxTree.{Expression, Head, wait_at, call_at, call_head}
+use Rattle.delta_tree.specs.Tree.{expression_of, expressions_of, expression_form_of, head_of, head_form_of, hist_of}
+use Rattle.delta_tree.proofs.Rows.{expression_form_of-call, head_form_of-call}
+use Rattle.core_term.specs.Run.{Run, quiet, let_run}
+use Rattle.delta_meaning.specs.declared.refusal.Stop.TheVariants.{Spent}
+use Rattle.delta_meaning.specs.SourceMeaning.{is_name_head}
+use Rattle.delta_meaning.specs.Evaluated.{run_of}
+use Rattle.delta_meaning.specs.Functions.{run_at, head_run_at, head_type_at, run_after}
+use Rattle.delta_meaning.specs.Weights.{weight, weight_of_head, weight_of_all}
+use Rattle.stream_type.specs.declared.ty.Ty.{Ty}
+use Rattle.stream_type.specs.StreamType.{eps}
+use Rattle.stream_prefix.specs.StreamPrefix.{eps_emp}
+use Rattle.bunch.specs.declared.name.Name.{Name}
+use Rattle.bunch.specs.Names.{value_at}
+use Rattle.hist_value.specs.declared.history.Value.{Value}
+use Rattle.hist_value.specs.HistValue.{unit_value, hist_value_of}
+use Rattle.hist_value.specs.Environment.{environment_of}
+use Rattle.core_term.specs.Environment.{by_side}
+use Rattle.core_term.specs.Meaning.{no_past}
+use Rattle.core_term.specs.Run.{one_call}
+use Rattle.delta_meaning.specs.KnownTypes.{names_known}
+use Rattle.delta_meaning.specs.SourceMeaning.{source_run, source_body_run, source_call_at}
+use Rattle.delta_meaning.specs.Scope.{names_in, types_listed}
+use Rattle.delta_meaning.specs.Functions.{functions_at}
+use Rattle.delta_meaning.proofs.Evaluations.{call_with_depth}
+use Rattle.delta_meaning.proofs.Runs.{body_runs}
+use Rattle.delta_meaning.proofs.evaluation.+evaluate.Goals as goal
+
+pub evaluate-returns-in-Nil-clause-run : goal.evaluate-returns-in-Nil-clause-run
+evaluate-returns-in-Nil-clause-run t c =
+    rw c.in-Nil.is (c.quiet-in-Nil.ensures ∙ ap quiet (prefix_of-star c.new.result Done ∙ ap (λ (l : List Prefix). star_of (map prefix_of l) (end_of Done)) c.new.ensures.items))
+
+pub evaluate-returns-in-CaseStar-clause-run : goal.evaluate-returns-in-CaseStar-clause-run
+evaluate-returns-in-CaseStar-clause-run t c =
+    let i = c.args.place.now in
+    let s = c.args.scope.now in
+    let e = c.args.e.now in
+    let r = type_of c.args.ty.now in
+    let h = head_of c.in-CaseStar.h in
+    let a = head_run_at i s h in
+    let same : let_run (is_name_head h) a (run_after i s (expression_of e) r (head_type_at i s h) a.out) ≡ run_at i s (expression_of e) r = rw c.in-CaseStar.is refl in
+    subst (λ (z : Run). IfOk c.evaluate_with_head-in-CaseStar.result (λ b. run_of b ≡ z)) same c.evaluate_with_head-in-CaseStar.ensures.run
+
+pub evaluate-returns-in-Wait-clause-run : goal.evaluate-returns-in-Wait-clause-run
+evaluate-returns-in-Wait-clause-run t c =
+    let e = c.args.e.now in
+    let there : c.in-Wait.e.value ≡ c.deref-in-Wait.result.now = cc in
+    let is : expression_of e ≡ wait_at e.at c.in-Wait.x.0 (expression_of c.deref-in-Wait.result.now) = ap (expression_form_of e.at) c.in-Wait.is ∙ ap (λ (q : Exp). wait_at e.at c.in-Wait.x.0 (expression_of q)) there in
+    rw is (IfOk-weaker c.evaluate_wait.result _ _ (λ a h. h e.at) c.evaluate_wait.ensures.run)
+
+pub evaluate-returns-in-Wait-clause-spent : goal.evaluate-returns-in-Wait-clause-spent
+evaluate-returns-in-Wait-clause-spent t c =
+    let e = c.args.e.now in
+    let there : c.in-Wait.e.value ≡ c.deref-in-Wait.result.now = cc in
+    let is : expression_of e ≡ wait_at e.at c.in-Wait.x.0 (expression_of c.deref-in-Wait.result.now) = ap (expression_form_of e.at) c.in-Wait.is ∙ ap (λ (q : Exp). wait_at e.at c.in-Wait.x.0 (expression_of q)) there in
+    rw is (MatchResult-weaker c.evaluate_wait.result c.evaluate_wait.ensures.spent (λ x u. u) (λ y h p. h p e.at))
+
+pub evaluate-evaluate_call-requires : goal.evaluate-evaluate_call-requires
+evaluate-evaluate_call-requires t c =
+    let e = c.args.e.now in
+    let is : expression_of e ≡ call_at e.at c.in-Call.f.0 (map hist_of c.in-Call.ms.items) (expressions_of c.in-Call.es.items) = ap (expression_form_of e.at) c.in-Call.is ∙ expression_form_of-call e.at c.in-Call.f c.in-Call.ms c.in-Call.es in
+    let heavy : weight (expression_of e) ≡ 4 + weight_of_all (expressions_of c.deref-in-Call-2.result.now) = ap weight is ∙ ap (λ (l : List Exp). 4 + weight_of_all (expressions_of l)) (sym c.deref-in-Call-2.ensures.value) in
+    search rules
+
+pub evaluate-returns-in-Call-clause-run : goal.evaluate-returns-in-Call-clause-run
+evaluate-returns-in-Call-clause-run t c =
+    let e = c.args.e.now in
+    let is : expression_of e ≡ call_at e.at c.in-Call.f.0 (map hist_of c.deref-in-Call.result.now) (expressions_of c.deref-in-Call-2.result.now) =
+    ap (expression_form_of e.at) c.in-Call.is ∙ (expression_form_of-call e.at c.in-Call.f c.in-Call.ms c.in-Call.es ∙ ap₂ (λ (m : List Hist) (l : List Exp). call_at e.at c.in-Call.f.0 (map hist_of m) (expressions_of l)) (sym c.deref-in-Call.ensures.value) (sym c.deref-in-Call-2.ensures.value)) in
+    rw is (IfOk-weaker c.evaluate_call.result _ _ (λ a h. h e.at) c.evaluate_call.ensures.run)
+
+pub evaluate-returns-in-Call-clause-spent : goal.evaluate-returns-in-Call-clause-spent
+evaluate-returns-in-Call-clause-spent t c =
+    let e = c.args.e.now in
+    let is : expression_of e ≡ call_at e.at c.in-Call.f.0 (map hist_of c.deref-in-Call.result.now) (expressions_of c.deref-in-Call-2.result.now) =
+    ap (expression_form_of e.at) c.in-Call.is ∙ (expression_form_of-call e.at c.in-Call.f c.in-Call.ms c.in-Call.es ∙ ap₂ (λ (m : List Hist) (l : List Exp). call_at e.at c.in-Call.f.0 (map hist_of m) (expressions_of l)) (sym c.deref-in-Call.ensures.value) (sym c.deref-in-Call-2.ensures.value)) in
+    rw is (MatchResult-weaker c.evaluate_call.result c.evaluate_call.ensures.spent (λ x u. u) (λ y h p. h p e.at))
+
+pub evaluate_head-evaluate_call-requires : goal.evaluate_head-evaluate_call-requires
+evaluate_head-evaluate_call-requires t c =
+    let h = c.args.h.now in
+    let is : head_of h ≡ call_head h.at c.in-Call.f.0 (map hist_of c.in-Call.ms.items) (expressions_of c.in-Call.es.items) = ap (head_form_of h.at) c.in-Call.is ∙ head_form_of-call h.at c.in-Call.f c.in-Call.ms c.in-Call.es in
+    let heavy : weight_of_head (head_of h) ≡ 4 + weight_of_all (expressions_of c.deref-in-Call.result.now) = ap weight_of_head is ∙ ap (λ (l : List Exp). 4 + weight_of_all (expressions_of l)) (sym c.deref-in-Call.ensures.value) in
+    search rules
+
+pub evaluate_head-returns-in-Call-clause-run : goal.evaluate_head-returns-in-Call-clause-run
+evaluate_head-returns-in-Call-clause-run t c =
+    let h = c.args.h.now in
+    let is : head_of h ≡ call_head h.at c.in-Call.f.0 (map hist_of c.deref.result.now) (expressions_of c.deref-in-Call.result.now) =
+    ap (head_form_of h.at) c.in-Call.is ∙ (head_form_of-call h.at c.in-Call.f c.in-Call.ms c.in-Call.es ∙ ap₂ (λ (m : List Hist) (l : List Exp). call_head h.at c.in-Call.f.0 (map hist_of m) (expressions_of l)) (sym c.deref.ensures.value) (sym c.deref-in-Call.ensures.value)) in
+    rw is (IfOk-weaker c.evaluate_call.result _ _ (λ a k. k h.at) c.evaluate_call.ensures.run)
+
+pub evaluate_head-returns-in-Call-clause-spent : goal.evaluate_head-returns-in-Call-clause-spent
+evaluate_head-returns-in-Call-clause-spent t c =
+    let h = c.args.h.now in
+    let is : head_of h ≡ call_head h.at c.in-Call.f.0 (map hist_of c.deref.result.now) (expressions_of c.deref-in-Call.result.now) =
+    ap (head_form_of h.at) c.in-Call.is ∙ (head_form_of-call h.at c.in-Call.f c.in-Call.ms c.in-Call.es ∙ ap₂ (λ (m : List Hist) (l : List Exp). call_head h.at c.in-Call.f.0 (map hist_of m) (expressions_of l)) (sym c.deref.ensures.value) (sym c.deref-in-Call.ensures.value)) in
+    rw is (MatchResult-weaker c.evaluate_call.result c.evaluate_call.ensures.spent (λ x u. u) (λ y k p. k p h.at))
+
+pub evaluate_body-returns-clause-run : goal.evaluate_body-returns-clause-run
+evaluate_body-returns-clause-run t c =
+    let i = c.args.place.now in
+    let f = c.in-Some.function.now in
+    let fs = functions_at i in
+    let call = source_call_at fs (i.depth - 1) in
+    let vs = map hist_value_of c.args.values.now in
+    let ps = map prefix_of c.args.streams.now in
+    let xs = names_in c.deref-4.result.now in
+    let ts = types_listed c.deref-4.result.now in
+    let past = environment_of c.deref-5.result.now in
+    let hidden : past ≡ by_side xs no_past (value_at unit_value (names_in f.past.items) vs) =
+    ap (λ (l : List (Name × Value)). environment_of l) c.deref-5.ensures.value
+    ∙ (c.in_ok-past.ensures ∙ ap₂ (λ (a b : List (Name × Ty)). by_side (names_in a) no_past (value_at unit_value (names_in b) vs)) (c.deref-2.ensures.value ∙ sym c.deref-4.ensures.value) c.deref.ensures.value) in
+    let whole = body_runs fs call f (fs c.args.f.0) vs ps xs ts past c.in-Some.ensures.named (ap names_in c.deref-4.ensures.value ∙ c.in_ok-params.ensures.names) (ap types_listed c.deref-4.ensures.value ∙ c.in_ok-params.ensures.types) hidden in
+    let run : run_of c.in_ok-run.run' ≡ source_body_run fs call (fs c.args.f.0) vs ps =
+    c.in_ok-run.ensures.run ∙ (ap (λ (l : List (Name × Ty)). source_run fs call (names_known l) (expression_of f.body.now) (value_at eps xs ts) (type_of f.result) (value_at eps_emp xs ps) past) c.deref-3.ensures.value ∙ whole) in
+    c.one_call-2.ensures ∙ (ap one_call run ∙ sym (call_with_depth fs i.depth c.args.f.0 vs ps (omega arith)))
+
+pub evaluate_body-returns-in_err-run-clause-spent : goal.evaluate_body-returns-in_err-run-clause-spent
+evaluate_body-returns-in_err-run-clause-spent t c =
+    let i = c.args.place.now in
+    let f = c.in-Some.function.now in
+    let fs = functions_at i in
+    let call = source_call_at fs (i.depth - 1) in
+    let vs = map hist_value_of c.args.values.now in
+    let ps = map prefix_of c.args.streams.now in
+    let xs = names_in c.deref-4.result.now in
+    let ts = types_listed c.deref-4.result.now in
+    let past = environment_of c.deref-5.result.now in
+    let hidden : past ≡ by_side xs no_past (value_at unit_value (names_in f.past.items) vs) =
+    ap (λ (l : List (Name × Value)). environment_of l) c.deref-5.ensures.value
+    ∙ (c.in_ok-past.ensures ∙ ap₂ (λ (a b : List (Name × Ty)). by_side (names_in a) no_past (value_at unit_value (names_in b) vs)) (c.deref-2.ensures.value ∙ sym c.deref-4.ensures.value) c.deref.ensures.value) in
+    let whole = body_runs fs call f (fs c.args.f.0) vs ps xs ts past c.in-Some.ensures.named (ap names_in c.deref-4.ensures.value ∙ c.in_ok-params.ensures.names) (ap types_listed c.deref-4.ensures.value ∙ c.in_ok-params.ensures.types) hidden in
+    let same = ap (λ (l : List (Name × Ty)). source_run fs call (names_known l) (expression_of f.body.now) (value_at eps xs ts) (type_of f.result) (value_at eps_emp xs ps) past) c.deref-3.ensures.value ∙ whole in
+    let exit = err_from_is_err_and c.from_residual-in_err-run.result c.from_residual-in_err-run.ensures.1 in
+    rw (exit.1, exit.2) (λ q.
+    let less : c.args.left - 1 < (source_body_run fs call (fs c.args.f.0) vs ps).calls = subst (λ (z : Run). c.args.left - 1 < z.calls) same (c.in_err-run.ensures.spent q) in
+    let calls : (source_call_at fs i.depth c.args.f.0 vs ps).calls ≡ 1 + (source_body_run fs call (fs c.args.f.0) vs ps).calls = ap (λ (z : Run). z.calls) (call_with_depth fs i.depth c.args.f.0 vs ps (omega arith)) in
+    omega arith)
