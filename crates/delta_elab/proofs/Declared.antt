@@ -1,5 +1,5 @@
 -- The names of parameters and of functions don't hang on their types.
-use Rattle.std.proofs.Common.{◌≡◌, ℕ, Bool, ◌||◌, List, [], ◌∷◌, ◌++◌, map, refl, ap, ap₂}
+use Rattle.std.proofs.Common.{◌≡◌, ℕ, ◌||◌, List, [], ◌∷◌, ◌++◌, map, refl, ap, ap₂}
 use Rattle.bunch.specs.BunchTree.{leaf_names}
 use Rattle.bunch.specs.Names.{holds}
 use Rattle.delta_tree.specs.SyntaxTree.{WrittenType, WrittenContext, no_parameters, parameter, side_by_side, in_sequence, WrittenFunction, Declaration, alias_declared, function_declared, ProgramTree}

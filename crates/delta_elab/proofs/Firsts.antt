@@ -1,7 +1,9 @@
 -- The first of what is wrong in two lists joined.
-use Rattle.std.proofs.Common.{◌≡◌, List, [], ◌∷◌, ◌++◌, Option, Some, None, refl}
+use Rattle.std.proofs.Common.{◌≡◌, List, [], ◌∷◌, ◌++◌, Option, Some, None, refl, sym}
+use Rattle.std.specs.Prelude.{IfSome}
 use Rattle.delta_meaning.specs.Faults.{Fault, or_else, where_none}
-use Rattle.delta_elab.specs.FirstFault.{to_say}
+use Rattle.delta_elab.specs.declared.fault.ElabFault.{ElabFault}
+use Rattle.delta_elab.specs.FirstFault.{fault_of, to_say, IsFirst}
 
 -- where nothing is to be said nothing is wrong
 pub nothing_wrong : (xs : List Fault) → to_say xs ≡ None → xs ≡ []
@@ -45,5 +47,27 @@ pub earlier : (xs ys : List Fault) (o : Option Fault) → Some o ≡ to_say xs �
 earlier [] ys o h = absurd (cc h)
 earlier (x ∷ xs) ys o h = h
 
+-- an answer's fault says the first of what it says is wrong
+pub is_first : (e : ElabFault) (xs : List Fault) → Some (fault_of e) ≡ to_say xs → IsFirst e xs
+is_first e xs h = go (fault_of e) h
+  where
+    go : (o : Option Fault) → Some o ≡ to_say xs → IfSome o (λ x. to_say xs ≡ Some (Some x))
+    go None h = tt
+    go (Some x) h = sym h
+
+-- so it does of two lists joined
+pub is_first-earlier : (e : ElabFault) (xs ys : List Fault) → IsFirst e xs → IsFirst e (xs ++ ys)
+is_first-earlier e xs ys h = go (fault_of e) h
+  where
+    go : (o : Option Fault) → IfSome o (λ x. to_say xs ≡ Some (Some x)) → IfSome o (λ x. to_say (xs ++ ys) ≡ Some (Some x))
+    go None h = h
+    go (Some x) h = to_say-first xs ys (Some x) h
+
+pub is_first-later : (e : ElabFault) (xs ys : List Fault) → xs ≡ [] → Some (fault_of e) ≡ to_say ys → IsFirst e (xs ++ ys)
+is_first-later e [] ys h k = is_first e ys k
+is_first-later e (x ∷ xs) ys h k = absurd (cc h)
+
 -- for functions that look for the first that is wrong
 pub ruleset firsts = (to_say-second, to_say-first, to_say-or_else, to_say-or_else_first, to_say-where_none, to_say-where_some)
+
+pub ruleset first_in_two = (is_first, is_first-earlier, is_first-later)

@@ -2,6 +2,15 @@
 pub mod Firsts
 pub mod Origins
 pub mod Places
+pub mod NextItems
 pub mod Declared
+pub mod KnownAliases
+pub mod Declaring
+pub mod Accepting
+pub mod ParamNumbers
+pub mod Arguments
+pub mod ArgumentsInTurn
 pub mod Whole
 pub mod Sizes
+pub mod NodeCounts
+pub mod FunctionCores

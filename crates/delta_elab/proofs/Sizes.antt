@@ -1,5 +1,5 @@
 -- The limits of a type that stands at a place, and where a written type stands.
-use Rattle.std.proofs.Common.{◌≡◌, ◌≤◌, ◌<◌, ℕ, Bool, true, false, List, [], ◌∷◌, ◌++◌, Option, Some, None, refl, sym, ap, ap₂, ◌∙◌, true≢false, arith}
+use Rattle.std.proofs.Common.{◌≡◌, ◌≤◌, ◌<◌, ℕ, Bool, true, false, ◌++◌, Some, None, refl, ap, ap₂, arith}
 use Rattle.std.proofs.lemmas.Bool.{leb-true, le-leb}
 use Rattle.std.specs.Prelude.{nat_le}
 use Rattle.stream_type.specs.StreamType.{StreamType, height_of, size_of}
@@ -8,7 +8,7 @@ use Rattle.delta_tree.specs.declared.types.TyForm.{TyForm}
 use Rattle.delta_tree.specs.declared.types.TyForm.TheVariants as types
 use Rattle.delta_tree.specs.Tree.{type_form_of, type_tree_of}
 use Rattle.delta_tree.specs.Places.{place_of_type}
-use Rattle.delta_meaning.specs.Faults.{Fault, too_tall, too_wide, unless, size_faults}
+use Rattle.delta_meaning.specs.Faults.{too_tall, too_wide, unless, size_faults}
 use Rattle.delta_elab.specs.FirstFault.{to_say}
 
 -- a form stands at its place

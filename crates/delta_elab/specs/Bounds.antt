@@ -2,7 +2,7 @@
 use Rattle.std.specs.Prelude.{ℕ, Bool, true, List, [], ◌∷◌, ◌++◌, ◌||◌, map}
 use Rattle.bunch.specs.Names.{put, holds}
 use Rattle.delta_tree.specs.SyntaxTree.{WrittenContext, no_parameters, parameter, side_by_side, in_sequence, WrittenType, Declaration, alias_declared, function_declared}
-use Rattle.delta_tree.specs.Tree.{context_of, past_of, declaration_of}
+use Rattle.delta_tree.specs.Tree.{context_of, past_of}
 use Rattle.delta_elab.specs.declared.bound.Bound.{Bound}
 use Rattle.delta_elab.specs.declared.bound.Bound.TheVariants.{Params, Name'}
 

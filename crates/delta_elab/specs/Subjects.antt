@@ -1,6 +1,6 @@
 -- Cores where the functions and the types that are known stand in tables of the program, and what stands round a
 -- form that takes a head apart.
-use Rattle.std.specs.Prelude.{ℕ, suc, List, [], ◌∷◌, Option, Some, None, option_map}
+use Rattle.std.specs.Prelude.{ℕ, List, [], ◌∷◌, Option, Some, None, option_map}
 use Rattle.std.specs.declared.boxed.Box.{Box}
 use Rattle.std.specs.declared.alloc.Global.{Global}
 use Rattle.stream_type.specs.StreamType.{StreamType}

@@ -3,6 +3,7 @@
 ghost use Rattle.std.specs.Prelude.{◌≡◌};
 
 use bunch::Name;
+use delta_check::TypeFault;
 use std::alloc::{AllocError, AllocFailed};
 use std::fmt::{self, Formatter, Write};
 use stream_type::Memory;
@@ -69,5 +70,53 @@ impl<T: Drop> From<AllocFailed<T>> for ElabFault {
 
     fn from(_: AllocFailed<T>) -> ElabFault {
         ElabFault::Memory
+    }
+}
+
+/// Why a program isn't accepted: want of memory, why it has no core, or why its core isn't typed. The
+/// faults inside are never want of memory. What it says of the program is `SaysWhy`
+/// (`specs/Accepted.antt`).
+#[derive(Drop, Error)]
+pub enum ProgramFault {
+    /// Memory was refused, or there are more variables, functions or nodes than 32 bits number.
+    #[error("Memory")]
+    Memory,
+    /// Something is wrong with its names or its types.
+    #[error("{0}")]
+    Elab(ElabFault),
+    /// It has a core, which isn't typed.
+    #[error("{0}")]
+    Type(TypeFault),
+}
+
+impl fmt::Debug for ProgramFault {
+    fn fmt<W: Write>(&self, f: &mut Formatter<W>) -> Result<(), fmt::Error> {
+        fmt::Display::fmt(self, f)
+    }
+}
+
+impl From<ElabFault> for ProgramFault {
+    ghost use Rattle.delta_elab.specs.ProgramFaults.{of_elab};
+
+    ghost from_gives = { λ e fault. fault ≡ of_elab e };
+
+    fn from(e: ElabFault) -> ProgramFault {
+        match e {
+            ElabFault::Memory => ProgramFault::Memory,
+            e => ProgramFault::Elab(e),
+        }
+    }
+}
+
+impl From<TypeFault> for ProgramFault {
+    ghost use Rattle.delta_elab.specs.ProgramFaults.{of_type};
+
+    ghost from_gives = { λ e fault. fault ≡ of_type e };
+
+    fn from(e: TypeFault) -> ProgramFault {
+        match e {
+            TypeFault::Memory => ProgramFault::Memory,
+            e => ProgramFault::Type(e),
+        }
     }
 }

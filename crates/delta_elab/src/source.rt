@@ -3,15 +3,17 @@
 ghost use Rattle.std.specs.Prelude.{◌≡◌, ◌+◌, length, map, slice_get, [], Some, IfOk, IfErr, IfSome, IfNone};
 ghost use Rattle.stream_type.specs.StreamType.{type_of};
 ghost use Rattle.bunch.specs.BunchTree.{tree_of};
-ghost use Rattle.delta_tree.specs.Tree.{function_of};
-ghost use Rattle.core_term.specs.CoreTerm.{leaf_types};
+ghost use Rattle.delta_tree.specs.Tree.{function_of, declaration_of};
+ghost use Rattle.core_term.specs.CoreTerm.{typed_names_of, leaf_types};
+ghost use Rattle.delta_meaning.specs.TypeNames.{no_type_names};
 ghost use Rattle.delta_meaning.specs.KnownTypes.{names_known};
-ghost use Rattle.delta_meaning.specs.SourceBody.{body_meant, function_named, number_named, no_function};
+ghost use Rattle.delta_meaning.specs.SourceBody.{body_meant, functions_among, function_named, number_named, no_function};
+ghost use Rattle.delta_elab.specs.Aliases.{aliases_among};
 ghost use Rattle.delta_elab.specs.Sources.{source_of, sources_of};
 
 use bunch::{Bunch, Name};
 use delta_meaning::{params_meant, past_meant, type_meant};
-use delta_tree::{Exp, Fun};
+use delta_tree::{Decl, Exp, Fun};
 use std::alloc::Global;
 use stream_type::{Memory, Ty};
 
@@ -78,6 +80,27 @@ pub fn main_meant<'a>(
         result: type_meant(alloc, known, &f.result)?,
         body: &f.body,
     })
+}
+
+/// The functions among declarations with their types, where the table has the types that these declare:
+/// `functions_among` in the specs of delta_meaning. Its only error is want of memory.
+pub fn functions_meant<'a>(
+    alloc: Global,
+    decls: &'a [Decl],
+    known: &'a [(Name, Ty)],
+) -> Result<Vec<Source<'a>>, Memory>
+    requires { typed_names_of known.now ≡ aliases_among no_type_names (map declaration_of decls.now) }
+    ensures { IfOk result (λ v. sources_of v.items ≡ functions_among no_type_names (map declaration_of decls.now)) }
+{
+    let mut functions = Vec::new(alloc);
+    let mut above = 0;
+    for decl in decls {
+        match decl {
+            Decl::Alias(_) => above += 1,
+            Decl::Fun(f) => functions.push(function_meant(alloc, &known[..above], f)?)?,
+        }
+    }
+    Ok(functions)
 }
 
 /// The first function with the name, or None where there is none.

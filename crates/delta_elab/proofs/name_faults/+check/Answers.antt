@@ -1,12 +1,12 @@
 -- What comes before in the order of reading is fine.
-use Rattle.std.proofs.Common.{◌≡◌, true, Some, None, map, ◌∙◌}
+use Rattle.std.proofs.Common.{◌≡◌, true, Some, None, map}
 use Rattle.std.proofs.lemmas.Result.{err_from_is_err_and}
 use Rattle.bunch.specs.Names.{put}
 use Rattle.delta_tree.specs.SyntaxTree.{call_at, call_head}
 use Rattle.delta_tree.specs.Tree.{hist_of, expression_of, head_of, expressions_of, declaration_of}
 use Rattle.delta_tree.proofs.Rows.{expression_form_of-call, head_form_of-call}
 use Rattle.delta_meaning.specs.KnownTypes.{names_known}
-use Rattle.delta_meaning.specs.Faults.{exprs_faults, faults_in, head_faults, argument_faults, unless, no_function}
+use Rattle.delta_meaning.specs.Faults.{exprs_faults, faults_in, argument_faults}
 use Rattle.delta_elab.specs.Bounds.{bound_in, is_declared}
 use Rattle.delta_elab.specs.FirstFault.{fault_of, said, to_say}
 use Rattle.delta_elab.proofs.Firsts.{later, earlier}

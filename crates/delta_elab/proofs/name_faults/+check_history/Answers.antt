@@ -1,5 +1,5 @@
 -- In the second arm of a choice nothing is wrong before it.
-use Rattle.std.proofs.Common.{◌≡◌, true, Some, None, ◌∙◌}
+use Rattle.std.proofs.Common.{◌≡◌, true, Some, None}
 use Rattle.std.proofs.lemmas.Result.{err_from_is_err_and}
 use Rattle.bunch.specs.Names.{put}
 use Rattle.hist_value.specs.HistExpr.{expr_of}

@@ -1,5 +1,5 @@
 -- Those passed stand above the first of those left that has the name.
-use Rattle.std.proofs.Common.{◌≡◌, ◌+◌, drop, length}
+use Rattle.std.proofs.Common.{◌≡◌, ◌+◌, drop}
 use Rattle.delta_meaning.specs.SourceBody.{number_named}
 use Rattle.delta_elab.specs.Sources.{sources_of}
 use Rattle.delta_elab.proofs.source.place_of.Given as goal
