@@ -2,7 +2,7 @@
 use Rattle.std.proofs.Common.{◌≡◌, ℕ, ◌==◌, ◌≤◌, Bool, true, false, ◌||◌, ◌+◌, ℤ, pos, List, [], ◌∷◌, refl, lit≤}
 use Rattle.std.proofs.lemmas.List.Elements.{All-nil, All-cons}
 use Rattle.stream_type.specs.StreamType.{eps, one, int, cat, par, sum}
-use Rattle.stream_prefix.specs.StreamPrefix.{StreamPrefix, eps_emp, one_emp, one_full, int_emp, int_full, par_both, cat_fst, cat_both, sum_emp, in_left, IsPrefix, der, join, emp}
+use Rattle.stream_prefix.specs.StreamPrefix.{StreamPrefix, eps_emp, one_emp, one_full, int_emp, int_full, par_both, cat_fst, cat_both, sum_emp, in_left, IsPrefix, der, join}
 use Rattle.bunch.specs.BunchTree.{BunchTree, leaf, comma, semi, stands_before}
 use Rattle.hist_value.specs.HistType.{past}
 use Rattle.hist_value.specs.HistValue.{HasType as HasValueType}
@@ -17,7 +17,7 @@ use Rattle.delta_state.specs.StateTyping.{HasStateType, IsHeld, IsTypedLater, co
 use Rattle.delta_state.specs.Settled.{is_settled}
 use Rattle.delta_state.specs.PlaceTree.{place_at}
 use Rattle.delta_state.specs.PlainState.{without_marks, events_held, state_count}
-use Rattle.delta_state.specs.Stands.{StandsFor, input_type, output_left, context_after, rest_mean, rest_calls, rest_level}
+use Rattle.delta_state.specs.Stands.{StandsFor, output_left, context_after, rest_mean, rest_calls, rest_level}
 use Rattle.delta_state.specs.Rest.{first_state, next_state}
 
 -- `main(x : Int, y : Int) : Int || Int = (y, x)`, x being 0 and y 1

@@ -1,3 +1,8 @@
 pub mod Counts
 mod Examples
+pub mod FinishedStates
+pub mod GrowingStates
+pub mod HeldNames
 pub mod Rows
+pub mod SettledStates
+pub mod WholeStates

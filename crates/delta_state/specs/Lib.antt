@@ -9,3 +9,4 @@ pub mod PlaceTree
 pub mod Stands
 pub mod Rest
 pub mod MachineView
+pub mod Laws

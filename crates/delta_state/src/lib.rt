@@ -3,6 +3,7 @@
 #![tactic(auto)]
 
 mod counting;
+pub mod laws;
 mod machine;
 mod place;
 mod state;

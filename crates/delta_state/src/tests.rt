@@ -42,19 +42,25 @@ fn case(alloc: Global) -> Result<State, Memory> {
     Ok(State::CaseSum(Name(0), Ty::Int, held, Name(3), left, Name(4), right))
 }
 
-#[test]
-fn a_case_holds_what_came(rt: HostRuntime) -> Result<(), Fail> {
-    let alloc = rt.alloc();
-    let state = case(alloc)?;
-    // Two events on 1; on 2 Item, the number and Cut for each item, and Item for the third.
-    assert_eq!(rt; held_events(&state), 9);
-    assert_eq!(rt; count_states(&state), 3);
-    Ok(())
+// How many events a state holds, and of how many states it is.
+fn counts(state: State) -> (u64, u64) {
+    let events = held_events(&state);
+    let states = count_states(&state);
+    drop(state);
+    (events, states)
 }
 
 #[test]
-fn arguments_and_code_count(rt: HostRuntime) -> Result<(), Fail> {
-    let alloc = rt.alloc();
+fn a_case_holds_what_came(rt: HostRuntime) -> Result<(), Fail> {
+    let (events, states) = counts(case(rt.alloc())?);
+    // Two events on 1; on 2 Item, the number and Cut for each item, and Item for the third.
+    assert_eq!(rt; events, 9);
+    assert_eq!(rt; states, 3);
+    Ok(())
+}
+
+// `0 . 0` in a called body, whose one argument is a case.
+fn frame(alloc: Global) -> Result<State, Memory> {
     let mut arguments = Vec::new(alloc);
     arguments.push(Argument {
         name: Name(0),
@@ -62,8 +68,13 @@ fn arguments_and_code_count(rt: HostRuntime) -> Result<(), Fail> {
     })?;
     let first = Box::new(alloc, State::Var(Name(0)))?;
     let body = Box::new(alloc, State::Cat(first, later(alloc, 0)))?;
-    let state = State::Frame(arguments, body);
-    assert_eq!(rt; held_events(&state), 9);
-    assert_eq!(rt; count_states(&state), 7);
+    Ok(State::Frame(arguments, body))
+}
+
+#[test]
+fn arguments_and_code_count(rt: HostRuntime) -> Result<(), Fail> {
+    let (events, states) = counts(frame(rt.alloc())?);
+    assert_eq!(rt; events, 9);
+    assert_eq!(rt; states, 7);
     Ok(())
 }
