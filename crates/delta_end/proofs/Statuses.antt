@@ -4,7 +4,7 @@ use Rattle.port.specs.declared.fault.IoFault.{IoFault}
 use Rattle.port.specs.declared.fault.IoFault.TheVariants.{Memory as NoMemory, Failed}
 use Rattle.port.specs.Faults.{HasCause, Rose}
 use Rattle.delta_end.specs.declared.end.End.{End}
-use Rattle.delta_end.specs.declared.end.End.TheVariants.{Done, Usage, Refused, Input, Open, FileFailed, ReadFailed, WriteFailed, Memory, Long}
+use Rattle.delta_end.specs.declared.end.End.TheVariants.{Done, Usage, Refused, Input, Budget, Open, FileFailed, ReadFailed, WriteFailed, Memory, Long}
 use Rattle.delta_end.specs.End.{FileCause, ReadCause, WriteCause, IsOfLoop, status_of, status_without_note}
 use Rattle.delta_end.specs.Status.{AnswerOf, IsStatus, IsStill}
 use Rattle.delta_end.specs.Note.{Says}
@@ -15,6 +15,7 @@ file_stands Done before now loop same = same
 file_stands Usage before now loop same = absurd loop
 file_stands (Refused why) before now loop same = absurd loop
 file_stands (Input fault) before now loop same = same
+file_stands (Budget at) before now loop same = same
 file_stands Open before now loop same = same
 file_stands FileFailed before now loop same = absurd loop
 file_stands ReadFailed before now loop same = same
@@ -32,6 +33,7 @@ outside_rose Done file0 file1 read0 read1 write0 write1 is file read write = abs
 outside_rose Usage file0 file1 read0 read1 write0 write1 is file read write = absurd (omega arith)
 outside_rose (Refused why) file0 file1 read0 read1 write0 write1 is file read write = absurd (omega arith)
 outside_rose (Input fault) file0 file1 read0 read1 write0 write1 is file read write = absurd (omega arith)
+outside_rose (Budget at) file0 file1 read0 read1 write0 write1 is file read write = absurd (omega arith)
 outside_rose Open file0 file1 read0 read1 write0 write1 is file read write = absurd (omega arith)
 outside_rose Memory file0 file1 read0 read1 write0 write1 is file read write = absurd (omega arith)
 outside_rose Long file0 file1 read0 read1 write0 write1 is file read write = absurd (omega arith)
@@ -43,6 +45,7 @@ outside_still Done file0 file1 read0 read1 write0 write1 file read write = inr (
 outside_still Usage file0 file1 read0 read1 write0 write1 file read write = inr (file, read, write)
 outside_still (Refused why) file0 file1 read0 read1 write0 write1 file read write = inr (file, read, write)
 outside_still (Input fault) file0 file1 read0 read1 write0 write1 file read write = inr (file, read, write)
+outside_still (Budget at) file0 file1 read0 read1 write0 write1 file read write = inr (file, read, write)
 outside_still Open file0 file1 read0 read1 write0 write1 file read write = inr (file, read, write)
 outside_still FileFailed file0 file1 read0 read1 write0 write1 file read write = inl refl
 outside_still ReadFailed file0 file1 read0 read1 write0 write1 file read write = inl refl
@@ -62,6 +65,7 @@ seven_stays Done seven = seven
 seven_stays Usage seven = seven
 seven_stays (Refused why) seven = seven
 seven_stays (Input fault) seven = seven
+seven_stays (Budget at) seven = seven
 seven_stays Open seven = refl
 seven_stays FileFailed seven = seven
 seven_stays ReadFailed seven = seven
@@ -120,6 +124,26 @@ status_still_in_link end status read0 read1 write0 write1 note0 note1 loop is re
 pub not_rose : (before now : ℕ) → Rose before now → IsStill before now → ⊥
 not_rose before now rose still = omega (arith, rose.risen, still.same, still.room)
 
+-- where the sink's count stands, the status is that of the end, or 8 where memory ran out in the sink
+pub answered : (end : End) (said : Result (Unit {0}) IoFault) (status before now : ℕ) → AnswerOf end said status → HasCause said before now → IsStill before now
+    → (status ≡ 8) ⊎ (status ≡ status_of end)
+answered end (Ok u) status before now is cause still = inr is
+answered end (Err NoMemory) status before now is cause still = inl is
+answered end (Err Failed) status before now is cause still = absurd (not_rose before now cause still)
+
+-- and 8 where memory ran out before
+pub answered_eight : (said : Result (Unit {0}) IoFault) (status before now : ℕ) → AnswerOf Memory said status → HasCause said before now → IsStill before now → status ≡ 8
+answered_eight said status before now is cause still = either (answered Memory said status before now is cause still)
+  where
+    either : (status ≡ 8) ⊎ (status ≡ 8) → status ≡ 8
+    either (inl eight) = eight
+    either (inr eight) = eight
+
+-- with what stands behind that status
+pub with_status : {Q : Type 0} {status n : ℕ} → Q → (status ≡ 8) ⊎ (status ≡ n) → (status ≡ 8) ⊎ ((status ≡ n) × Q)
+with_status q (inl eight) = inl eight
+with_status q (inr is) = inr (is, q)
+
 -- the whole note was written
 pub note_whole : (end : End) (said : Result (Unit {0}) IoFault) (status before now : ℕ) (old new : Option (List ℕ)) (text : List ℕ) → AnswerOf end said status → HasCause said before now
     → Says old new text (IsOk said) → Says old new text ((status ≢ 8) × IsStill before now)
@@ -145,6 +169,7 @@ two_is_usage end status note0 note1 (inl is) two = by_end end (sym is.1 ∙ two)
     by_end Done two = absurd (omega arith)
     by_end (Refused why) two = absurd (omega arith)
     by_end (Input fault) two = absurd (omega arith)
+    by_end (Budget at) two = absurd (omega arith)
     by_end Open two = absurd (omega arith)
     by_end FileFailed two = absurd (omega arith)
     by_end ReadFailed two = absurd (omega arith)
@@ -158,6 +183,7 @@ two_is_usage end status note0 note1 (inr (inl sink)) two = by_end end (sym sink.
     by_end Done two = absurd (omega arith)
     by_end (Refused why) two = absurd (omega arith)
     by_end (Input fault) two = absurd (omega arith)
+    by_end (Budget at) two = absurd (omega arith)
     by_end Open two = absurd (omega arith)
     by_end FileFailed two = absurd (omega arith)
     by_end ReadFailed two = absurd (omega arith)

@@ -12,7 +12,7 @@ use Rattle.delta_end.specs.declared.refusal.RefusalName.TheVariants.{LongText, B
 use Rattle.delta_end.specs.declared.end.InputFault.{InputFault}
 use Rattle.delta_end.specs.declared.end.InputFault.TheVariants.{Frame, Event, Line, LongLine}
 use Rattle.delta_end.specs.declared.end.End.{End}
-use Rattle.delta_end.specs.declared.end.End.TheVariants.{Done, Usage, Refused, Input, Open, FileFailed, ReadFailed, WriteFailed, Memory, Long}
+use Rattle.delta_end.specs.declared.end.End.TheVariants.{Done, Usage, Refused, Input, Budget, Open, FileFailed, ReadFailed, WriteFailed, Memory, Long}
 
 -- the name of a fault of frames
 abbrev pub frame_name : FrameFault → List ℕ
@@ -80,7 +80,7 @@ refusal_name History = codes "History"
 refusal_name NotStream = codes "NotStream"
 refusal_name WideOutput = codes "WideOutput"
 
--- what is refused, by which name and at which place
+-- what is refused or stopped, by which name and at which place
 abbrev pub refusal_note : List ℕ → List ℕ → ℕ → List ℕ
 refusal_note what name at = (what ++ name) ++ (codes " at " ++ decimal at ++ 10 ∷ [])
 
@@ -91,6 +91,7 @@ note_of Usage = codes "delta: usage\n"
 note_of (Refused None) = codes "delta: program refused\n"
 note_of (Refused (Some why)) = refusal_note (codes "delta: program refused: ") (refusal_name why.name) why.at
 note_of (Input fault) = refusal_note (codes "delta: input refused: ") (name_of fault) (place_of fault)
+note_of (Budget at) = refusal_note (codes "delta: stopped: ") (codes "Budget") at
 note_of Open = codes "delta: input open\n"
 note_of FileFailed = codes "delta: outside fault: file\n"
 note_of ReadFailed = codes "delta: outside fault: input\n"

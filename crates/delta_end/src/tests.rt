@@ -31,6 +31,13 @@ fn tells_each_end(rt: HostRuntime) -> Result<(), Fail> {
         b"delta: program refused\n",
         3,
     )?;
+    check(
+        &rt,
+        alloc,
+        End::Budget(0),
+        b"delta: stopped: Budget at 0\n",
+        5,
+    )?;
     check(&rt, alloc, End::Open, b"delta: input open\n", 6)?;
     check(
         &rt,
