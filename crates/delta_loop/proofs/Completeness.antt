@@ -10,7 +10,7 @@ use Rattle.event_frame.specs.Reading.{whole, ending, Ending, Whole, Inside, Bad,
 use Rattle.event_frame.proofs.FrameLaws.{frames_are_read}
 use Rattle.event_frame.proofs.MoreBytes.{more_bytes}
 use Rattle.delta_end.specs.declared.end.End.{End}
-use Rattle.delta_end.specs.declared.end.End.TheVariants.{Done, Usage, Refused, Input, Open, FileFailed, ReadFailed, WriteFailed, Memory, Long}
+use Rattle.delta_end.specs.declared.end.End.TheVariants.{Done, Usage, Refused, Input, Budget, Open, FileFailed, ReadFailed, WriteFailed, Memory, Long}
 use Rattle.delta_loop.specs.Meaning.{Meaning}
 use Rattle.delta_loop.specs.Output.{accepted, output, due}
 use Rattle.delta_loop.specs.Finding.{finding, byte_finding}
@@ -74,6 +74,7 @@ module _ (P : Meaning) (v : Version) (all : List ℕ) (word : List StreamEvent) 
   good_end Memory loop ran read0 read1 write0 write1 read_still write_still read write = is_wanting
   good_end Usage loop ran read0 read1 write0 write1 read_still write_still read write = absurd loop
   good_end (Refused why) loop ran read0 read1 write0 write1 read_still write_still read write = absurd loop
+  good_end (Budget at) loop ran read0 read1 write0 write1 read_still write_still read write = absurd loop
   good_end FileFailed loop ran read0 read1 write0 write1 read_still write_still read write = absurd loop
   good_end ReadFailed loop ran read0 read1 write0 write1 read_still write_still read write = absurd (not_rose read0 read1 read read_still)
   good_end WriteFailed loop ran read0 read1 write0 write1 read_still write_still read write = absurd (not_rose write0 write1 write write_still)

@@ -3,6 +3,7 @@ pub mod Logs
 pub mod Lefts
 pub mod Outputs
 pub mod Findings
+pub mod Early
 pub mod Feeding
 pub mod Serving
 pub mod Opening

@@ -12,7 +12,8 @@ use Rattle.delta_loop.specs.Output.{opening, output, due}
 use Rattle.delta_loop.specs.Prompt.{IsPrompt}
 use Rattle.delta_loop.specs.History.{History, Writes}
 use Rattle.delta_loop.specs.Return.{Begins}
-use Rattle.delta_loop.specs.Loop.{Serves, Ran, IsFresh}
+use Rattle.delta_loop.specs.Loop.{Serves, RanTo, IsFresh}
+use Rattle.delta_loop.proofs.Early.{ran_early}
 use Rattle.delta_loop.proofs.Lefts.{loses_nothing}
 
 -- two pieces written one after the other
@@ -46,37 +47,37 @@ module _ {M : Type 0} (stands : M → Meaning → List StreamEvent → Type 0) (
   part_opened = (rest, append-nil (opening P.version ++ P.first) ∙ sym (ap₂ (λ (w : Option Version) (bs : List ℕ). opening w ++ bs) begun.version begun.bytes) ∙ split)
 
   -- a part of them, and then the link failed
-  pub ran_failing : (left0 left1 : Option (List ℕ)) → left1 ≡ left0 → Ran P old new left0 left1 WriteFailed
-  ran_failing left0 left1 same = record {
+  pub ran_failing : (left0 left1 : Option (List ℕ)) → left1 ≡ left0 → RanTo stands P old new left0 left1 m WriteFailed
+  ran_failing left0 left1 same = ran_early stands P old new left0 left1 m WriteFailed record {
     input = [];
     ended = false;
     at = record { written = sent; history = writes (due P) old [] [] false (fresh (due P) old); may = part_opened };
     limit = omega arith;
     taken = loses_nothing left0 left1 same;
     used_up = λ never. cc;
-  }
+  } refl
 
   -- or memory ran out in the link
-  pub ran_wanting : (left0 left1 : Option (List ℕ)) → left1 ≡ left0 → Ran P old new left0 left1 Memory
-  ran_wanting left0 left1 same = record {
+  pub ran_wanting : (left0 left1 : Option (List ℕ)) → left1 ≡ left0 → RanTo stands P old new left0 left1 m Memory
+  ran_wanting left0 left1 same = ran_early stands P old new left0 left1 m Memory record {
     input = [];
     ended = false;
     at = record { written = sent; history = writes (due P) old [] [] false (fresh (due P) old); may = part_opened };
     limit = omega arith;
     taken = loses_nothing left0 left1 same;
     used_up = λ never. cc;
-  }
+  } refl
 
 -- memory ran out before anything was written
-pub ran_nothing : (P : Meaning) (log : Option (List Move)) (left : Option (List ℕ)) → Ran P log log left left Memory
-ran_nothing P log left = record {
+pub ran_nothing : {M : Type 0} (stands : M → Meaning → List StreamEvent → Type 0) (P : Meaning) (log : Option (List Move)) (left : Option (List ℕ)) (m : M) → RanTo stands P log log left left m Memory
+ran_nothing stands P log left m = ran_early stands P log log left left m Memory record {
   input = [];
   ended = false;
   at = record { written = []; history = fresh (due P) log; may = (due P [], refl) };
   limit = omega arith;
   taken = loses_nothing left left refl;
   used_up = λ never. cc;
-}
+} refl
 
 -- a new reader is as new where only its room grew
 pub still_fresh : (old new : FrameReader) → Reads old [] [] → old.version ≡ None → old.kept ≡ [] → SameBytes old new → 4137 ≤ new.spare → IsFresh new

@@ -17,7 +17,8 @@ use Rattle.delta_loop.specs.Output.{accepted, output, due}
 use Rattle.delta_loop.specs.Finding.{byte_finding, finding}
 use Rattle.delta_loop.specs.History.{History, is_empty}
 use Rattle.delta_loop.specs.Return.{MayEnd}
-use Rattle.delta_loop.specs.Loop.{Serves, Feeds, Settles, Goes, Pulls, PullEnds, Ended, Ran, IsFresh}
+use Rattle.delta_loop.specs.Loop.{Serves, Feeds, Settles, Goes, Pulls, PullEnds, Ended, Ran, RanTo, IsFresh}
+use Rattle.delta_loop.proofs.Early.{ran_early}
 use Rattle.delta_loop.proofs.Findings.{due_all, finding_all}
 use Rattle.delta_loop.proofs.Lefts.{loses_more, read_all, loses_nothing}
 
@@ -103,24 +104,25 @@ module _ {M : Type 0} (stands : M → Meaning → List StreamEvent → Type 0) (
   }
 
   -- or the run ended in it
-  pub ended_in_piece : (log1 log2 : Option (List Move)) (left1 left2 : Option (List ℕ)) (next : FrameReader) (bytes : List ℕ) (end : End) → Pulls log0 log1 left0 left1 r next bytes → left2 ≡ left1
-      → total + length bytes ≤ 2 ^ 40 → Ended P start log2 (now.input ++ bytes) false end → Ran P start log2 left left2 end
-  ended_in_piece log1 log2 left1 left2 next bytes end pulls same within at = record {
+  pub ended_in_piece : (log1 log2 : Option (List Move)) (left1 left2 : Option (List ℕ)) (next : FrameReader) (n : M) (bytes : List ℕ) (end : End) → Pulls log0 log1 left0 left1 r next bytes → left2 ≡ left1
+      → total + length bytes ≤ 2 ^ 40 → Ended P start log2 (now.input ++ bytes) false end → RanTo stands P start log2 left left2 n end
+  ended_in_piece log1 log2 left1 left2 next n bytes end pulls same within at = ran_early stands P start log2 left left2 n end record {
     input = now.input ++ bytes;
     ended = false;
     at = at;
     limit = omega (arith, now.count, within, length-append now.input bytes);
     taken = subst (λ (l : Option (List ℕ)). Loses left l (now.input ++ bytes)) (sym same) (loses_more left left0 left1 now.input bytes now.taken pulls.taken);
     used_up = λ never. cc;
-  }
+  } refl
 
   -- a read that gave nothing ends the input
   pub ran_to_end : (log1 : Option (List Move)) (left1 : Option (List ℕ)) (next : FrameReader) (end : End) → total ≤ 2 ^ 40 → Pulls log0 log1 left0 left1 r next []
       → ((input : List ℕ) (word : List StreamEvent) → accepted P word ≡ word → stands m P word → Reads next input word → whole input ≡ word → ((fault : FrameFault) → ending input ≢ Bad fault) → MayEnd P input true (output P word) end)
-      → Ran P start log1 left left1 end
+      → RanTo stands P start log1 left left1 m end
   ran_to_end log1 left1 next end within pulls finished =
       let same : now.input ++ [] ≡ now.input = append-nil now.input in
-      let reads = subst (λ (bs : List ℕ). Reads next bs now.settles.word) same (pulls.reads now.input now.settles.word now.settles.reads) in record {
+      let reads = subst (λ (bs : List ℕ). Reads next bs now.settles.word) same (pulls.reads now.input now.settles.word now.settles.reads) in
+      let ran : Ran P start log1 left left1 end = record {
         input = now.input;
         ended = true;
         at = record {
@@ -131,11 +133,11 @@ module _ {M : Type 0} (stands : M → Meaning → List StreamEvent → Type 0) (
         limit = omega (arith, now.count, within);
         taken = subst (λ (bs : List ℕ). Loses left left1 bs) same (loses_more left left0 left1 now.input [] now.taken pulls.taken);
         used_up = λ is. read_all left left0 now.input now.taken (pulls.used_up refl);
-      }
+      } in record { ran = ran; state = λ well. subst (stands m P) (sym now.settles.all) now.settles.serves.state }
 
   -- a read that ended the run
-  pub ended_in_pull : (log1 : Option (List Move)) (left1 : Option (List ℕ)) (end : End) → total ≤ 2 ^ 40 → PullEnds log0 log1 left0 left1 end → Ran P start log1 left left1 end
-  ended_in_pull log1 left1 ReadFailed within same = record {
+  pub ended_in_pull : (log1 : Option (List Move)) (left1 : Option (List ℕ)) (end : End) → total ≤ 2 ^ 40 → PullEnds log0 log1 left0 left1 end → RanTo stands P start log1 left left1 m end
+  ended_in_pull log1 left1 ReadFailed within same = ran_early stands P start log1 left left1 m ReadFailed record {
     input = now.input;
     ended = false;
     at = record {
@@ -146,8 +148,8 @@ module _ {M : Type 0} (stands : M → Meaning → List StreamEvent → Type 0) (
     limit = omega (arith, now.count, within);
     taken = subst (λ (l : Option (List ℕ)). Loses left l now.input) (sym same.1) now.taken;
     used_up = λ never. cc;
-  }
-  ended_in_pull log1 left1 Memory within same = record {
+  } refl
+  ended_in_pull log1 left1 Memory within same = ran_early stands P start log1 left left1 m Memory record {
     input = now.input;
     ended = false;
     at = record {
@@ -158,16 +160,16 @@ module _ {M : Type 0} (stands : M → Meaning → List StreamEvent → Type 0) (
     limit = omega (arith, now.count, within);
     taken = subst (λ (l : Option (List ℕ)). Loses left l now.input) (sym same.1) now.taken;
     used_up = λ never. cc;
-  }
+  } refl
   ended_in_pull log1 left1 _ within never = absurd never
 
   -- one byte past the limit
   pub ran_too_long : (log1 : Option (List Move)) (left1 : Option (List ℕ)) (bytes : List ℕ) → total ≡ 2 ^ 40 → 0 < length bytes → length bytes ≤ 1
       → ((due : List ℕ → List ℕ) (input output : List ℕ) → History due start log0 input output false → output ≡ due input → History due start log1 (input ++ bytes) output (is_empty bytes))
-      → Loses left0 left1 bytes → Ran P start log1 left left1 Long
+      → Loses left0 left1 bytes → RanTo stands P start log1 left left1 m Long
   ran_too_long log1 left1 bytes limit some one history taken =
       let front : take (2 ^ 40) (now.input ++ bytes) ≡ now.input = take_at now.input bytes (2 ^ 40) (now.count ∙ limit) in
-      let all : finding P now.input false ≡ None = good in record {
+      let all : finding P now.input false ≡ None = good in ran_early stands P start log1 left left1 m Long record {
         input = now.input ++ bytes;
         ended = false;
         at = record {
@@ -179,7 +181,7 @@ module _ {M : Type 0} (stands : M → Meaning → List StreamEvent → Type 0) (
         limit = omega (arith, now.count, limit, one, length-append now.input bytes);
         taken = loses_more left left0 left1 now.input bytes now.taken taken;
         used_up = λ never. cc;
-      }
+      } refl
 
 -- before the first read
 pub goes_first : {M : Type 0} (stands : M → Meaning → List StreamEvent → Type 0) (P : Meaning) (start log : Option (List Move)) (left : Option (List ℕ)) (m : M) (r : FrameReader)

@@ -19,6 +19,10 @@ abbrev pub Writes : Option (List Move) → Option (List Move) → List ℕ → T
 Writes old new sent = (due : List ℕ → List ℕ) (start : Option (List Move)) (input output : List ℕ) (ended : Bool)
     → History due start old input output ended → History due start new input (output ++ sent) ended
 
+-- the log and what is left of the input are as before
+abbrev pub IsUntouched : Option (List Move) → Option (List Move) → Option (List ℕ) → Option (List ℕ) → Type 0
+IsUntouched old new old_left new_left = (new ≡ old) × (new_left ≡ old_left)
+
 -- no byte
 abbrev pub is_empty : List ℕ → Bool
 is_empty [] = true

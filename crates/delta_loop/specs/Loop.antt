@@ -1,5 +1,5 @@
 -- What stands between the steps of the loop.
-use Rattle.std.specs.Prelude.{◌≡◌, ◌≢◌, ℕ, ◌+◌, ◌≤◌, ◌^◌, List, [], ◌++◌, Bool, true, false, Option, Some, length}
+use Rattle.std.specs.Prelude.{◌≡◌, ◌≢◌, ℕ, ◌+◌, ◌≤◌, ◌^◌, List, [], ◌++◌, Bool, true, false, Option, Some, length, ⊤}
 use Rattle.port.specs.declared.link.Move.{Move}
 use Rattle.port.specs.Told.{Loses, IsUsedUp}
 use Rattle.event_word.specs.StreamEvent.{StreamEvent}
@@ -8,7 +8,7 @@ use Rattle.event_frame.specs.FrameReader.{FrameReader}
 use Rattle.event_frame.specs.Reading.{Bad, whole, ending}
 use Rattle.event_frame.specs.Reads.{Reads}
 use Rattle.delta_end.specs.declared.end.End.{End}
-use Rattle.delta_end.specs.declared.end.End.TheVariants.{ReadFailed, Memory}
+use Rattle.delta_end.specs.declared.end.End.TheVariants.{Done, Open, ReadFailed, Memory}
 use Rattle.delta_loop.specs.Meaning.{Meaning}
 use Rattle.delta_loop.specs.Output.{accepted, output, due}
 use Rattle.delta_loop.specs.History.{History, is_empty}
@@ -84,3 +84,14 @@ pub record Ran (P : Meaning) (start now : Option (List Move)) (old_left new_left
   pub limit : length input ≤ 2 ^ 40 + 1
   pub taken : Loses old_left new_left input
   pub used_up : ended ≡ true → (told : List ℕ) → old_left ≡ Some told → told ≡ input
+
+-- the input ended, and nothing was wrong with it
+abbrev pub IsWellEnded : End → Type 0
+IsWellEnded Done = ⊤
+IsWellEnded Open = ⊤
+IsWellEnded end = ⊥
+
+-- a run that ended so, and what became of its machine: where the input ended well, it stands after the events of all of it
+pub record RanTo {M : Type 0} (stands : M → Meaning → List StreamEvent → Type 0) (P : Meaning) (start now : Option (List Move)) (old_left new_left : Option (List ℕ)) (machine : M) (end : End) : Type 0 where
+  pub ran : Ran P start now old_left new_left end
+  pub state : IsWellEnded end → stands machine P (whole ran.input)

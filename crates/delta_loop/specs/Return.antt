@@ -2,7 +2,7 @@
 use Rattle.std.specs.Prelude.{◌≡◌, ℕ, ◌<◌, ◌^◌, List, ◌++◌, Bool, true, false, Some, None, length, take}
 use Rattle.event_frame.specs.Reading.{whole}
 use Rattle.delta_end.specs.declared.end.End.{End}
-use Rattle.delta_end.specs.declared.end.End.TheVariants.{Done, Usage, Refused, Input, Open, FileFailed, ReadFailed, WriteFailed, Memory, Long}
+use Rattle.delta_end.specs.declared.end.End.TheVariants.{Done, Usage, Refused, Input, Budget, Open, FileFailed, ReadFailed, WriteFailed, Memory, Long}
 use Rattle.delta_loop.specs.Meaning.{Meaning}
 use Rattle.delta_loop.specs.Output.{accepted, due}
 use Rattle.delta_loop.specs.Finding.{finding}
@@ -22,4 +22,5 @@ MayEnd P input ended written Memory = Begins written (due P input)
 MayEnd P input ended written Long = (2 ^ 40 < length input) × (finding P (take (2 ^ 40) input) false ≡ None) × (written ≡ due P (take (2 ^ 40) input))
 MayEnd P input ended written Usage = ⊥
 MayEnd P input ended written (Refused why) = ⊥
+MayEnd P input ended written (Budget at) = ⊥
 MayEnd P input ended written FileFailed = ⊥

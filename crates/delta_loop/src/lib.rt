@@ -2,6 +2,7 @@
 #![tactic(auto)]
 
 mod feed;
+mod framing;
 mod open;
 mod program_run;
 mod pull;
@@ -9,6 +10,7 @@ mod sending;
 mod serve;
 mod stepper;
 
+pub use framing::canonical_frames;
 pub use program_run::{run_machine, run_program};
 pub use sending::send;
 pub use stepper::{StepFault, Stepper};

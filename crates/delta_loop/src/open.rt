@@ -15,8 +15,7 @@ fn opening_of(version: Option<Version>) -> &'static [u8]
 {
     match version {
         None => b"",
-        Some(Version::V1) => b"DEV1",
-        Some(Version::V2) => b"DEV2",
+        Some(version) => version.header(),
     }
 }
 

@@ -6,7 +6,7 @@ ghost use Rattle.delta_end.specs.declared.end.End.{End};
 ghost use Rattle.delta_loop.specs.Answer.{Adds, AtReturn, IsComplete, IsWithinLimit};
 ghost use Rattle.delta_end.specs.Status.{AnswerOf, IsStatus, IsStill};
 ghost use Rattle.delta_end.specs.End.{IsOfLoop, ReadCause, WriteCause};
-ghost use Rattle.delta_loop.specs.Loop.{Ran};
+ghost use Rattle.delta_loop.specs.Loop.{RanTo};
 ghost use Rattle.delta_loop.specs.Meaning.{Meaning, Stands, HasBegun};
 ghost use Rattle.delta_end.specs.Note.{note_of, Says};
 ghost use Rattle.delta_loop.specs.Output.{due};
@@ -24,17 +24,18 @@ use std::alloc::Global;
 const ROOM: u64 = 4137;
 
 /// Runs a program over a link, up to its end. The machine stands for the program before any event, and
-/// `first` are the bytes that come before the first read, behind a header of the version, if there is one. The reader's room is taken before anything is
-/// written.
+/// `first` are the bytes that come before the first read, behind a header of the version, if there is one.
+/// Where the input ended well, the machine then stands after all of its events. The reader's room is taken
+/// before anything is written.
 pub fn run_machine<M: Stepper, L: Link>(
     alloc: Global,
-    machine: M,
+    machine: &mut M,
     version: Option<Version>,
     first: &[u8],
     link: &mut L,
 ) -> End
-    requires { Stands M.stands machine }
-    ensures ran { (P : Meaning) → HasBegun M.stands P machine version first.now → Ran P (L.log link.old) (L.log link.new) (L.left link.old) (L.left link.new) result }
+    requires { Stands M.stands machine.old }
+    ensures ran { (P : Meaning) → HasBegun M.stands P machine.old version first.now → RanTo M.stands P (L.log link.old) (L.log link.new) (L.left link.old) (L.left link.new) machine.new result }
     ensures end { IsOfLoop result }
     ensures read { ReadCause result (L.read_faults link.old) (L.read_faults link.new) }
     ensures write { WriteCause result (L.write_faults link.old) (L.write_faults link.new) }
@@ -45,10 +46,7 @@ pub fn run_machine<M: Stepper, L: Link>(
         Err(_) => return End::Memory,
     }
     match open(link, version, first) {
-        Ok(()) => {
-            let mut machine = machine;
-            serve(alloc, &mut machine, &mut reader, link)
-        }
+        Ok(()) => serve(alloc, machine, &mut reader, link),
         Err(IoFault::Memory) => End::Memory,
         Err(IoFault::Failed) => End::WriteFailed,
     }
@@ -89,7 +87,8 @@ pub fn run_program<M: Stepper, L: Link, N: Sink>(
         → IsStill (N.faults notes.old) (N.faults notes.new)
         → IsComplete P (L.left link.old) (L.log link.old) (L.log link.new) result }
 {
-    let end = run_machine(alloc, machine, version, first, link);
+    let mut machine = machine;
+    let end = run_machine(alloc, &mut machine, version, first, link);
     let said = note(notes, end);
     answer(end, said)
 }

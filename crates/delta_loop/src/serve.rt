@@ -7,7 +7,7 @@ ghost use Rattle.event_frame.specs.declared.fault.FrameFault.{FrameFault};
 ghost use Rattle.event_frame.specs.Reading.{whole, ending, Bad};
 ghost use Rattle.event_frame.specs.Reads.{Reads};
 ghost use Rattle.delta_end.specs.End.{IsOfLoop, ReadCause, WriteCause};
-ghost use Rattle.delta_loop.specs.Loop.{Serves, Goes, Ran, IsFresh};
+ghost use Rattle.delta_loop.specs.Loop.{Serves, Goes, RanTo, IsFresh};
 ghost use Rattle.delta_loop.specs.Meaning.{Meaning, Stands};
 ghost use Rattle.delta_loop.specs.Output.{accepted, output};
 ghost use Rattle.delta_loop.specs.Return.{MayEnd};
@@ -49,7 +49,7 @@ fn finish<M: Stepper>(machine: &M, reader: &Reader) -> End
 /// Ends a run that has read as many bytes as it may: one more is too long.
 fn probe<M: Stepper, L: Link>(machine: &M, reader: &Reader, link: &mut L) -> End
     ensures ran { (P : Meaning) (start : Option (List Move)) (left : Option (List ℕ))
-        → Goes M.stands P start (L.log link.old) left (L.left link.old) machine.now reader.now (2 ^ 40) → Ran P start (L.log link.new) left (L.left link.new) result }
+        → Goes M.stands P start (L.log link.old) left (L.left link.old) machine.now reader.now (2 ^ 40) → RanTo M.stands P start (L.log link.new) left (L.left link.new) machine.now result }
     ensures end { IsOfLoop result }
     ensures read { ReadCause result (L.read_faults link.old) (L.read_faults link.new) }
     ensures write { WriteCause result (L.write_faults link.old) (L.write_faults link.new) }
@@ -73,7 +73,7 @@ pub fn serve<M: Stepper, L: Link>(
     requires live { Stands M.stands machine.old }
     requires fresh { IsFresh reader.old }
     ensures ran { (P : Meaning) (start : Option (List Move)) → Serves M.stands P start (L.log link.old) machine.old [] []
-        → Ran P start (L.log link.new) (L.left link.old) (L.left link.new) result }
+        → RanTo M.stands P start (L.log link.new) (L.left link.old) (L.left link.new) machine.new result }
     ensures end { IsOfLoop result }
     ensures read { ReadCause result (L.read_faults link.old) (L.read_faults link.new) }
     ensures write { WriteCause result (L.write_faults link.old) (L.write_faults link.new) }

@@ -13,7 +13,7 @@ use crate::fault::input_fault;
 use crate::line_reader::{LineReader, ReadStop};
 use delta_end::End;
 use delta_loop::send;
-use event_frame::{Version, encode, encode2};
+use event_frame::{Version, encode_in};
 use event_word::Event;
 use port::{IoFault, Link};
 use std::alloc::Global;
@@ -33,11 +33,7 @@ fn send_event<L: Link>(
     ensures write { MatchResult result (λ _. L.write_faults link.new ≡ L.write_faults link.old) (λ end. WriteCause end (L.write_faults link.old) (L.write_faults link.new)) }
 {
     let mut bytes = Vec::new(alloc);
-    let encoded = match version {
-        Version::V1 => encode(&event, &mut bytes),
-        Version::V2 => encode2(&event, &mut bytes),
-    };
-    match encoded {
+    match encode_in(version, &event, &mut bytes) {
         Ok(()) => match send(link, &bytes) {
             Ok(()) => Ok(()),
             Err(IoFault::Memory) => Err(End::Memory),

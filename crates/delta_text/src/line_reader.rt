@@ -47,11 +47,7 @@ fn line_event(version: Version, line: &[u8]) -> Result<Event, LineRefusal>
 {
     match read_line(line) {
         Ok(event) => {
-            let most = match version {
-                Version::V1 => 31,
-                Version::V2 => 63,
-            };
-            if event.path().len() <= most {
+            if event.path().len() <= usize::from(version.longest()) {
                 Ok(event)
             } else {
                 Err(LineRefusal::Line(LineFault::LongPath))

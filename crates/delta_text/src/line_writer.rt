@@ -39,5 +39,6 @@ pub fn write_lines<L: Link>(alloc: Global, link: &mut L) -> End
     ensures read { ReadCause result (L.read_faults link.old) (L.read_faults link.new) }
     ensures write { WriteCause result (L.write_faults link.old) (L.write_faults link.new) }
 {
-    run_machine(alloc, LineWriter {}, None, b"", link)
+    let mut machine = LineWriter {};
+    run_machine(alloc, &mut machine, None, b"", link)
 }

@@ -22,10 +22,7 @@ fn open<L: Link>(link: &mut L, version: Version) -> Result<(), IoFault>
     ensures cause { HasCause result (L.write_faults link.old) (L.write_faults link.new) }
     ensures other { L.read_faults link.new ≡ L.read_faults link.old }
 {
-    match version {
-        Version::V1 => send(link, b"DEV1"),
-        Version::V2 => send(link, b"DEV2"),
-    }
+    send(link, version.header())
 }
 
 /// Reads lines of events from the link to the end of its input, and writes a header and their frames of a

@@ -4,17 +4,17 @@ use Rattle.delta_loop.proofs.Completeness.{good_end, good_status}
 use Rattle.delta_loop.proofs.program_run.run_program.Goals as goal
 
 pub returns-clause-prompt : goal.returns-clause-prompt
-returns-clause-prompt g c P begun = ran_prompt P _ _ _ _ c.run_machine-end.result (c.run_machine-end.ensures.ran P begun)
+returns-clause-prompt g c P begun = ran_prompt P _ _ _ _ c.run_machine-end.result (c.run_machine-end.ensures.ran P begun).ran
 
 pub returns-clause-limit : goal.returns-clause-limit
-returns-clause-limit g c P begun = ran_within P _ _ _ _ c.run_machine-end.result (c.run_machine-end.ensures.ran P begun)
+returns-clause-limit g c P begun = ran_within P _ _ _ _ c.run_machine-end.result (c.run_machine-end.ensures.ran P begun).ran
 
 pub returns-clause-answer : goal.returns-clause-answer
 returns-clause-answer g c = (
   c.run_machine-end.result,
   c.run_machine-end.ensures.end,
   status_is _ _ _ _ _ c.answer.ensures c.note-said.ensures.cause,
-  λ P begun. ran_return P _ _ _ _ c.run_machine-end.result c.run_machine-end.ensures.end (c.run_machine-end.ensures.ran P begun),
+  λ P begun. ran_return P _ _ _ _ c.run_machine-end.result c.run_machine-end.ensures.end (c.run_machine-end.ensures.ran P begun).ran,
   c.run_machine-end.ensures.read,
   c.run_machine-end.ensures.write,
   note_whole _ _ _ _ _ _ _ _ c.answer.ensures c.note-said.ensures.cause c.note-said.ensures.said,
@@ -31,5 +31,5 @@ returns-clause-still g c =
 pub returns-clause-complete : goal.returns-clause-complete
 returns-clause-complete g c P begun read write note v all word tells good =
     good_status _ _ _ _ _ _ _ _ c.answer.ensures c.note-said.ensures.cause note
-    (good_end P v all word good _ _ _ _ tells c.run_machine-end.result c.run_machine-end.ensures.end (c.run_machine-end.ensures.ran P begun) _ _ _ _ read write
+    (good_end P v all word good _ _ _ _ tells c.run_machine-end.result c.run_machine-end.ensures.end (c.run_machine-end.ensures.ran P begun).ran _ _ _ _ read write
     c.run_machine-end.ensures.read c.run_machine-end.ensures.write)

@@ -42,7 +42,7 @@ returns-in-Err-feed_whole-clause-ran g c P start before =
     let feeds = feeds_more g.M.Stepper.stands P start _ _ _ _ _ _ now _ _ _ _ c.in-Ok.ensures.pulled (omega (arith, length-take c.in-Ok.count c.pull.new.into)) in
     let fits : c.pieces.total + length (take c.in-Ok.count c.pull.new.into) ≤ 2 ^ 40 =
     omega (arith, c.in-Ok.ensures.bound, length-take c.in-Ok.count c.pull.new.into, length-take c.min-room.result c.pieces.buffer, c.pieces.invariant.5, c.min-room.ensures) in
-    ended_in_piece g.M.Stepper.stands P start _ _ _ _ _ _ now _ _ _ _ _ _ _ c.in-Ok.ensures.pulled c.feed_whole.ensures.left fits (c.in-Err-feed_whole.ensures.err P start _ feeds)
+    ended_in_piece g.M.Stepper.stands P start _ _ _ _ _ _ now _ _ _ _ _ _ _ _ c.in-Ok.ensures.pulled c.feed_whole.ensures.left fits (c.in-Err-feed_whole.ensures.err P start _ feeds)
 
 pub returns-clause-ran : goal.returns-clause-ran
 returns-clause-ran g c P start before =
