@@ -1,8 +1,9 @@
 //! The commands over a program's text alone.
 #![tactic(auto)]
 
+mod checking;
+pub mod laws;
 mod printing;
-#[cfg(test)]
-mod tests;
 
+pub use checking::check_source;
 pub use printing::print_source;
