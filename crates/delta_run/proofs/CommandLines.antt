@@ -1,7 +1,7 @@
 -- A command line asks for one thing.
 use Rattle.std.proofs.Common.{◌≡◌, ℕ, List, Some}
 use Rattle.delta_words.specs.declared.task.Version.{Version}
-use Rattle.delta_words.specs.CommandTask.{run, print}
+use Rattle.delta_words.specs.CommandTask.{run, eval, check, print}
 
 -- two runs that it asks for are of one file and in one version
 pub same_run : (f g : List ℕ) (b c : ℕ) (v w : Version) → Some (run f b v) ≡ Some (run g c w) → (f ≡ g) × (v ≡ w)
@@ -10,3 +10,11 @@ same_run f g b c v w h = (cc, cc)
 -- and one file to print
 pub same_print : (f g : List ℕ) → Some (print f) ≡ Some (print g) → f ≡ g
 same_print f g e = cc
+
+-- and one to check
+pub same_check : (f g : List ℕ) → Some (check f) ≡ Some (check g) → f ≡ g
+same_check f g e = cc
+
+-- two evaluations that it asks for are of one file, with one budget and in one version
+pub same_eval : (f g : List ℕ) (b c : ℕ) (v w : Version) → Some (eval f b v) ≡ Some (eval g c w) → (f ≡ g) × (b ≡ c) × (v ≡ w)
+same_eval f g b c v w h = (cc, cc, cc)

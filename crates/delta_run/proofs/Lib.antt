@@ -9,3 +9,6 @@ pub mod Conversions
 mod FirstExamples
 pub mod Lined
 pub mod Printed
+pub mod Budgets
+pub mod Checked
+pub mod Evaluated

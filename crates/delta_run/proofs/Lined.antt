@@ -1,25 +1,23 @@
 -- From the end of a making of lines to what its caller may know.
-use Rattle.std.proofs.Common.{◌≡◌, ◌⊎◌, inl, inr, ℕ, List, [], true, false, Option, Some, Result, Ok, Err, length, ◌+◌, ◌≤◌, ◌^◌, ◌∙◌, sym, refl, subst, arith}
+use Rattle.std.proofs.Common.{◌≡◌, ◌⊎◌, inl, inr, ℕ, List, [], true, false, Option, Result, length, ◌+◌, ◌≤◌, ◌^◌, ◌∙◌, sym, refl, subst, arith}
 use Rattle.port.specs.declared.link.Move.{Move}
 use Rattle.port.specs.declared.fault.IoFault.{IoFault}
-use Rattle.port.specs.declared.fault.IoFault.TheVariants.{Memory as NoMemory, Failed}
 use Rattle.port.specs.Faults.{HasCause}
 use Rattle.event_word.specs.StreamEvent.{StreamEvent}
-use Rattle.event_frame.specs.declared.version.Version.{Version}
 use Rattle.delta_end.specs.declared.end.End.{End}
-use Rattle.delta_end.specs.declared.end.End.TheVariants.{Done, Usage, Refused, Input, Open, FileFailed, ReadFailed, WriteFailed, Memory, Long}
+use Rattle.delta_end.specs.declared.end.End.TheVariants.{Done, Usage, Refused, Input, Budget, Open, FileFailed, ReadFailed, WriteFailed, Memory, Long}
 use Rattle.delta_end.specs.End.{ReadCause, WriteCause, IsOfLoop}
 use Rattle.delta_end.specs.Status.{AnswerOf, IsStill}
-use Rattle.delta_end.proofs.Statuses.{not_rose}
+use Rattle.delta_end.proofs.Statuses.{answered, answered_eight, with_status}
 use Rattle.delta_loop.specs.Output.{due}
 use Rattle.delta_loop.specs.Loop.{Ran}
-use Rattle.delta_loop.specs.Answer.{Adds, IsGood, WroteAll}
+use Rattle.delta_loop.specs.Answer.{Adds, WroteAll}
 use Rattle.delta_loop.proofs.Returning.{adds_none, ran_may_end}
 use Rattle.delta_loop.proofs.Opening.{prompt_none}
 use Rattle.delta_loop.proofs.Completeness.{EndsWell, is_done, is_open, is_wanting, good_end}
 use Rattle.delta_text.specs.Lines.{lines_of_frames}
 use Rattle.delta_text.proofs.Lined.{output_is_lines}
-use Rattle.delta_run.specs.Text.{IsUntouched}
+use Rattle.delta_loop.specs.History.{IsUntouched}
 use Rattle.delta_run.specs.Lined.{MakesLines, WroteLines, IsLined}
 
 module _ (old new : Option (List Move)) (left0 left1 : Option (List ℕ)) where
@@ -48,6 +46,7 @@ module _ (old new : Option (List Move)) (left0 left1 : Option (List ℕ)) where
   of_loop (Refused why) ran = absurd ran.at.may
   of_loop (Input fault) ran = tt
   of_loop Open ran = tt
+  of_loop (Budget at) ran = absurd ran.at.may
   of_loop FileFailed ran = absurd ran.at.may
   of_loop ReadFailed ran = tt
   of_loop WriteFailed ran = tt
@@ -56,31 +55,22 @@ module _ (old new : Option (List Move)) (left0 left1 : Option (List ℕ)) where
 
   module _ (read0 read1 write0 write1 note0 note1 : ℕ) (read_still : IsStill read0 read1) (write_still : IsStill write0 write1) (note_still : IsStill note0 note1)
       (said : Result (Unit {0}) IoFault) (status : ℕ) (cause : HasCause said note0 note1) where
-    wanting : (said : Result (Unit {0}) IoFault) → AnswerOf Memory said status → HasCause said note0 note1 → status ≡ 8
-    wanting (Ok u) is cause = is
-    wanting (Err NoMemory) is cause = is
-    wanting (Err Failed) is cause = absurd (not_rose note0 note1 cause note_still)
+    wanting : AnswerOf Memory said status → status ≡ 8
+    wanting is = answered_eight said status note0 note1 is cause note_still
 
     module _ (word : List StreamEvent) where
-      -- all was written
-      done : (said : Result (Unit {0}) IoFault) → AnswerOf Done said status → HasCause said note0 note1 → Adds old new (WroteLines word)
-          → (status ≡ 8) ⊎ ((status ≡ 0) × Adds old new (WroteLines word))
-      done (Ok u) is cause wrote = inr (is, wrote)
-      done (Err NoMemory) is cause wrote = inl is
-      done (Err Failed) is cause wrote = absurd (not_rose note0 note1 cause note_still)
-
       as_lines : Adds old new (WroteAll lines_of_frames word) → Adds old new (WroteLines word)
       as_lines wrote told is = let adds = wrote told is in (adds.0, adds.1, adds.2 ∙ output_is_lines word)
 
       by_end : (end : End) → EndsWell old new (WroteAll lines_of_frames word) end → Ran lines_of_frames old new left0 left1 end → AnswerOf end said status
           → (status ≡ 8) ⊎ ((status ≡ 0) × Adds old new (WroteLines word))
-      by_end _ (is_done wrote) ran is = done said is cause (as_lines wrote)
+      by_end _ (is_done wrote) ran is = with_status (as_lines wrote) (answered Done said status note0 note1 is cause note_still)
       by_end _ (is_open wrote) ran is = absurd (let clash : true ≡ false = ran.at.may.2 in let none : ⊥ = cc in none)
-      by_end _ is_wanting ran is = inl (wanting said is cause)
+      by_end _ is_wanting ran is = inl (wanting is)
 
     -- over a header and whole frames it is done, with all lines written, or memory ran out
     pub lines_well : (end : End) → Lines end → ReadCause end read0 read1 → WriteCause end write0 write1 → AnswerOf end said status → IsLined left0 old new status
-    lines_well end (inl none) read write is v all word tells good = inl (wanting said (subst (λ (e : End). AnswerOf e said status) none.0 is) cause)
+    lines_well end (inl none) read write is v all word tells good = inl (wanting (subst (λ (e : End). AnswerOf e said status) none.0 is))
     lines_well end (inr ran) read write is v all word tells good =
         by_end word end
         (good_end lines_of_frames v all word good old new left0 left1 tells end (of_loop end ran) ran read0 read1 write0 write1 read_still write_still read write) ran is

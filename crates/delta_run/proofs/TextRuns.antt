@@ -1,11 +1,10 @@
 -- From the end of a run of a text to what its caller may know.
-use Rattle.std.proofs.Common.{◌≡◌, ◌⊎◌, inl, inr, ℕ, List, [], Option, Result, Ok, Err, ◌∙◌, ap, refl, arith}
+use Rattle.std.proofs.Common.{◌≡◌, ◌⊎◌, inl, inr, ℕ, List, [], Option, Result, ◌∙◌, ap, refl, arith}
 use Rattle.port.specs.declared.link.Move.{Move}
 use Rattle.port.specs.declared.fault.IoFault.{IoFault}
-use Rattle.port.specs.declared.fault.IoFault.TheVariants.{Memory as NoMemory, Failed}
 use Rattle.port.specs.Faults.{HasCause}
 use Rattle.delta_end.specs.declared.end.End.{End}
-use Rattle.delta_end.specs.declared.end.End.TheVariants.{Done, Usage, Refused, Input, Open, FileFailed, ReadFailed, WriteFailed, Memory, Long}
+use Rattle.delta_end.specs.declared.end.End.TheVariants.{Done, Usage, Refused, Input, Budget, Open, FileFailed, ReadFailed, WriteFailed, Memory, Long}
 use Rattle.delta_loop.specs.Meaning.{Meaning}
 use Rattle.delta_loop.specs.Output.{due}
 use Rattle.delta_loop.specs.Prompt.{IsPrompt}
@@ -15,7 +14,7 @@ use Rattle.delta_end.specs.Status.{AnswerOf, IsStatus, IsStill}
 use Rattle.delta_run.specs.Text.{Runs, RunsText}
 use Rattle.delta_run.specs.Text.{RanFor, RanText}
 use Rattle.delta_loop.proofs.Returning.{adds_none, ran_prompt, ran_within, returned}
-use Rattle.delta_end.proofs.Statuses.{not_rose, usage_is_two}
+use Rattle.delta_end.proofs.Statuses.{not_rose, answered, answered_eight, usage_is_two}
 use Rattle.delta_loop.proofs.Completeness.{good_end, good_status}
 
 module _ (means : Meaning → Type 0) (refused : Type 0) (old new : Option (List Move)) (left0 left1 : Option (List ℕ)) where
@@ -34,6 +33,7 @@ module _ (means : Meaning → Type 0) (refused : Type 0) (old new : Option (List
   text_prompt Memory (inr ran) = prompt_of Memory ran
   text_prompt Done ran = prompt_of Done ran
   text_prompt (Input fault) ran = prompt_of (Input fault) ran
+  text_prompt (Budget at) ran = prompt_of (Budget at) ran
   text_prompt Open ran = prompt_of Open ran
   text_prompt ReadFailed ran = prompt_of ReadFailed ran
   text_prompt WriteFailed ran = prompt_of WriteFailed ran
@@ -54,6 +54,7 @@ module _ (means : Meaning → Type 0) (refused : Type 0) (old new : Option (List
   text_within Memory (inr ran) = within_of Memory ran
   text_within Done ran = within_of Done ran
   text_within (Input fault) ran = within_of (Input fault) ran
+  text_within (Budget at) ran = within_of (Budget at) ran
   text_within Open ran = within_of Open ran
   text_within ReadFailed ran = within_of ReadFailed ran
   text_within WriteFailed ran = within_of WriteFailed ran
@@ -72,6 +73,7 @@ module _ (means : Meaning → Type 0) (refused : Type 0) (old new : Option (List
   text_return Memory (inr ran) = λ told is. let adds = runs_of Memory tt ran told is in (adds.0, adds.1, inr adds.2)
   text_return Done ran = runs_of Done tt ran
   text_return (Input fault) ran = runs_of (Input fault) tt ran
+  text_return (Budget at) ran = absurd ran.2.at.may
   text_return Open ran = runs_of Open tt ran
   text_return ReadFailed ran = runs_of ReadFailed tt ran
   text_return WriteFailed ran = runs_of WriteFailed tt ran
@@ -94,21 +96,15 @@ module _ (means : Meaning → Type 0) (refused : Type 0) (old new : Option (List
         → (status ≡ 8) ⊎ ((status ≡ 3) × refused) ⊎ ((P : Meaning) × means P × IsComplete P left0 old new status)
     text_complete Usage ran file read write is = absurd ran
     text_complete FileFailed ran file read write is = absurd (not_rose file0 file1 file file_still)
-    text_complete (Refused why) ran file read write is = refusing said is cause
+    text_complete (Refused why) ran file read write is = refusing (answered (Refused why) said status note0 note1 is cause note_still)
       where
-        refusing : (said : Result (Unit {0}) IoFault) → AnswerOf (Refused why) said status → HasCause said note0 note1
-            → (status ≡ 8) ⊎ ((status ≡ 3) × refused) ⊎ ((P : Meaning) × means P × IsComplete P left0 old new status)
-        refusing (Ok u) is cause = inr (inl (is, ran.0))
-        refusing (Err NoMemory) is cause = inl is
-        refusing (Err Failed) is cause = absurd (not_rose note0 note1 cause note_still)
-    text_complete Memory ran file read write is = inl (wanting said is cause)
-      where
-        wanting : (said : Result (Unit {0}) IoFault) → AnswerOf Memory said status → HasCause said note0 note1 → status ≡ 8
-        wanting (Ok u) is cause = is
-        wanting (Err NoMemory) is cause = is
-        wanting (Err Failed) is cause = absurd (not_rose note0 note1 cause note_still)
+        refusing : (status ≡ 8) ⊎ (status ≡ 3) → (status ≡ 8) ⊎ ((status ≡ 3) × refused) ⊎ ((P : Meaning) × means P × IsComplete P left0 old new status)
+        refusing (inl eight) = inl eight
+        refusing (inr three) = inr (inl (three, ran.0))
+    text_complete Memory ran file read write is = inl (answered_eight said status note0 note1 is cause note_still)
     text_complete Done ran file read write is = complete_of Done tt ran read write is
     text_complete (Input fault) ran file read write is = complete_of (Input fault) tt ran read write is
+    text_complete (Budget at) ran file read write is = absurd ran.2.at.may
     text_complete Open ran file read write is = complete_of Open tt ran read write is
     text_complete ReadFailed ran file read write is = complete_of ReadFailed tt ran read write is
     text_complete WriteFailed ran file read write is = complete_of WriteFailed tt ran read write is

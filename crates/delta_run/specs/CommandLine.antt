@@ -20,8 +20,8 @@ frames_of V2 = frame.V2
 -- whether a task is one of those that are built; the words of the others are read, and refused
 abbrev pub is_built : CommandTask → Bool
 is_built (run file budget v) = true
-is_built (eval file budget v) = false
-is_built (check file) = false
+is_built (eval file budget v) = true
+is_built (check file) = true
 is_built (print file) = true
 is_built text = true
 is_built (frames v) = true

@@ -10,3 +10,5 @@ pub mod FirstMachine
 pub mod FirstLaws
 pub mod Lined
 pub mod Printed
+pub mod Checked
+pub mod Evaluated

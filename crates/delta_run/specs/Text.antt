@@ -4,6 +4,7 @@ use Rattle.port.specs.declared.link.Move.{Move}
 use Rattle.delta_end.specs.declared.end.End.{End}
 use Rattle.delta_end.specs.declared.end.End.TheVariants.{Usage, Refused, FileFailed, Memory}
 use Rattle.delta_loop.specs.Meaning.{Meaning}
+use Rattle.delta_loop.specs.History.{IsUntouched}
 use Rattle.delta_loop.specs.Output.{due}
 use Rattle.delta_loop.specs.Prompt.{IsPrompt}
 use Rattle.delta_loop.specs.Answer.{AtReturn}
@@ -24,10 +25,6 @@ RunsText means refused FileFailed moves = moves ≡ []
 RunsText means refused (Refused why) moves = refused × (moves ≡ [])
 RunsText means refused Memory moves = (moves ≡ []) ⊎ Runs means Memory moves
 RunsText means refused end moves = Runs means end moves
-
--- the log and what is left are as before
-abbrev pub IsUntouched : Option (List Move) → Option (List Move) → Option (List ℕ) → Option (List ℕ) → Type 0
-IsUntouched old new old_left new_left = (new ≡ old) × (new_left ≡ old_left)
 
 -- a program that the text means ran, and ended so
 abbrev pub RanFor : (Meaning → Type 0) → Option (List Move) → Option (List Move) → Option (List ℕ) → Option (List ℕ) → End → Type 0

@@ -9,8 +9,6 @@ pub mod laws;
 mod machine;
 mod program;
 mod run;
-#[cfg(test)]
-mod tests;
 mod text;
 mod text_run;
 

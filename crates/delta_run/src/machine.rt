@@ -1,6 +1,6 @@
 //! The machine of the programs that can be run so far: a program at the types that are left.
 
-ghost use Rattle.std.specs.Prelude.{◌≡◌, ◌≤◌, ◌++◌, [], length, OnOk, IfOk};
+ghost use Rattle.std.specs.Prelude.{◌≡◌, ◌≤◌, [], OnOk, IfOk};
 ghost use Rattle.stream_type.specs.StreamType.{type_of, reach_of};
 ghost use Rattle.stream_prefix.specs.StreamPrefix.{IsPrefix, emp};
 ghost use Rattle.stream_prefix.specs.Tree.{prefix_of};
@@ -8,14 +8,14 @@ ghost use Rattle.delta_run.specs.FirstProgram.{IsTyped, program_of, input_of, me
 ghost use Rattle.delta_run.specs.Left.{left_after};
 ghost use Rattle.delta_run.specs.FirstMeaning.{frames_of, meaning_of, IsMeant, MayRefuse};
 ghost use Rattle.delta_run.specs.FirstMachine.{StandsFor};
-ghost use Rattle.event_frame.specs.Frames.{frame, longest};
+ghost use Rattle.event_frame.specs.Frames.{longest};
 
 use crate::context::{input_type, rest_of};
 use crate::evaluation::{evaluate, split};
 use crate::from_text::{FromText, StartFault};
 use crate::program::Program;
 use crate::text::{TextFault, read};
-use delta_loop::{StepFault, Stepper};
+use delta_loop::{StepFault, Stepper, canonical_frames};
 use event_frame::Version;
 use event_word::Event;
 use std::alloc::Global;
@@ -103,7 +103,7 @@ fn advance(alloc: Global, machine: &mut FirstMachine, input: &Prefix) -> Result<
     ensures rest { OnOk result (type_of machine.new.rest ≡ input_of (program_of machine.new.program).parameters) }
 {
     let output = said_of(alloc, &machine.program, input)?;
-    let frames = encoded(alloc, machine.version, &machine.program.result, &output)?;
+    let frames = canonical_frames(alloc, machine.version, &machine.program.result, &output)?;
     let context = rest_of(alloc, &machine.program.context, input)?;
     let result = stream_prefix::derive(alloc, &machine.program.result, &output)?;
     let rest = input_type(alloc, &context)?;
@@ -120,29 +120,4 @@ fn said_of(alloc: Global, program: &Program, input: &Prefix) -> Result<Prefix, M
     let mut env = Vec::new(alloc);
     split(alloc, &program.context, input, &mut env)?;
     evaluate(alloc, &program.body, &mut env)
-}
-
-// Appends the frame of an event.
-fn write_frame(version: Version, event: &Event, out: &mut Vec<u8>) -> Result<(), Memory>
-    requires { length event.now.path ≤ longest version }
-    ensures { OnOk result (out.new.items ≡ out.old.items ++ frame version event.now) }
-{
-    match version {
-        Version::V1 => event_frame::encode(event, out),
-        Version::V2 => event_frame::encode2(event, out),
-    }
-}
-
-// The frames of the canonical word of a prefix of the type.
-fn encoded(alloc: Global, version: Version, t: &Ty, p: &Prefix) -> Result<Vec<u8>, Memory>
-    requires typed { IsPrefix (type_of t.now) (prefix_of p.now) }
-    requires short { reach_of (type_of t.now) ≤ longest version }
-    ensures { IfOk result (λ bytes. bytes.items ≡ frames_of version (prefix_of p.now)) }
-{
-    let word = event_word::canon(alloc, t, p)?;
-    let mut bytes = Vec::new(alloc);
-    for event in &word {
-        write_frame(version, event, &mut bytes)?;
-    }
-    Ok(bytes)
 }

@@ -7,11 +7,13 @@ ghost use Rattle.delta_end.specs.declared.end.End.{End};
 ghost use Rattle.delta_loop.specs.Answer.{Adds, IsComplete, IsWithinLimit};
 ghost use Rattle.delta_end.specs.Status.{IsStatus, IsStill};
 ghost use Rattle.delta_words.specs.declared.task.Version.{Version as WrittenVersion};
-ghost use Rattle.delta_words.specs.CommandTask.{run, print, text, frames};
+ghost use Rattle.delta_words.specs.CommandTask.{run, eval, check, print, text, frames};
 ghost use Rattle.delta_text.specs.Conversion.{frames_of_lines, all_due};
 ghost use Rattle.delta_run.specs.Converted.{Converts};
 ghost use Rattle.delta_run.specs.Lined.{MakesLines, IsLined};
 ghost use Rattle.delta_run.specs.Printed.{PrintsText, PrintsWell, RefusesWell};
+ghost use Rattle.delta_run.specs.Checked.{ChecksText, PassesAccepted, RefusesUnaccepted};
+ghost use Rattle.delta_run.specs.Evaluated.{EvalsText, EvalsWell, StopsWell, RefusesUnwritable};
 ghost use Rattle.delta_run.specs.CommandLine.{Asks, AskNothing, frames_of};
 ghost use Rattle.delta_end.specs.End.{FileCause, ReadCause, WriteCause};
 ghost use Rattle.delta_run.specs.FirstMeaning.{IsMeant, MayRefuse};
@@ -19,7 +21,8 @@ ghost use Rattle.delta_loop.specs.Meaning.{Meaning};
 ghost use Rattle.delta_end.specs.Note.{note_of, Says};
 ghost use Rattle.delta_loop.specs.Output.{due};
 ghost use Rattle.delta_loop.specs.Prompt.{IsPrompt};
-ghost use Rattle.delta_run.specs.Text.{OfFile, RunsText, IsUntouched};
+ghost use Rattle.delta_loop.specs.History.{IsUntouched};
+ghost use Rattle.delta_run.specs.Text.{OfFile, RunsText};
 
 use crate::machine::FirstMachine;
 use crate::text_run::run_words;
@@ -28,8 +31,8 @@ use std::alloc::Global;
 
 /// Runs the command line that the words are, over what is outside, and answers the exit status:
 /// 0 where the input ended and its type is finished, 2 where the words ask for nothing that is built, 3 where
-/// the program is refused, 4 where the input is, 6 where its type awaits more at its end, 7 at a fault
-/// outside, 8 for want of memory, and 9 for more than 2^40 input bytes. The words are those after the
+/// the program is refused, 4 where the input is, 5 where an evaluation makes more calls than its budget
+/// allows, 6 where its type awaits more at its end, 7 at a fault outside, 8 for want of memory, and 9 for more than 2^40 input bytes. The words are those after the
 /// program's name. The last thing that is written is the note, a line to the sink that says how the run
 /// ended (`note_of` of `specs/Note.antt`).
 pub fn delta<S: Shelf, L: Link, N: Sink>(
@@ -55,6 +58,8 @@ pub fn delta<S: Shelf, L: Link, N: Sink>(
         × ((v : WrittenVersion) → Asks words.now (frames v) → Adds (L.log link.old) (L.log link.new) (Converts (frames_of_lines (frames_of v)) end))
         × (Asks words.now text → Adds (L.log link.old) (L.log link.new) (MakesLines end))
         × ((file : List ℕ) → Asks words.now (print file) → OfFile (S.holds shelf.old) file (λ text. Adds (L.log link.old) (L.log link.new) (PrintsText text end)))
+        × ((file : List ℕ) → Asks words.now (check file) → OfFile (S.holds shelf.old) file (λ text. ChecksText text end))
+        × ((file : List ℕ) (budget : ℕ) (v : WrittenVersion) → Asks words.now (eval file budget v) → OfFile (S.holds shelf.old) file (λ text. Adds (L.log link.old) (L.log link.new) (EvalsText text budget (frames_of v) end)))
         × FileCause end (S.faults shelf.old) (S.faults shelf.new)
         × ReadCause end (L.read_faults link.old) (L.read_faults link.new)
         × WriteCause end (L.write_faults link.old) (L.write_faults link.new)
@@ -90,6 +95,26 @@ pub fn delta<S: Shelf, L: Link, N: Sink>(
         → RefusesWell text result) }
     // Printing leaves the link's input as it is.
     ensures print_unread { (file : List ℕ) → Asks words.now (print file) → L.left link.new ≡ L.left link.old }
+    // An accepted text, with no fault counted: status 0, or want of memory; any other: status 3, or want of memory.
+    ensures check_complete { (file : List ℕ) → Asks words.now (check file) → OfFile (S.holds shelf.old) file (λ text.
+        IsStill (S.faults shelf.old) (S.faults shelf.new) → IsStill (N.faults notes.old) (N.faults notes.new) → PassesAccepted text result) }
+    ensures check_refused { (file : List ℕ) → Asks words.now (check file) → OfFile (S.holds shelf.old) file (λ text.
+        IsStill (S.faults shelf.old) (S.faults shelf.new) → IsStill (N.faults notes.old) (N.faults notes.new) → RefusesUnaccepted text result) }
+    // Checking reads and writes nothing.
+    ensures check_untouched { (file : List ℕ) → Asks words.now (check file) → IsUntouched (L.log link.old) (L.log link.new) (L.left link.old) (L.left link.new) }
+    // An accepted text over an input that is good in whole, with no fault counted: within the budget done or open with all written, past it
+    // status 5 with nothing written, or want of memory.
+    ensures eval_complete { (file : List ℕ) (budget : ℕ) (v : WrittenVersion) → Asks words.now (eval file budget v) → OfFile (S.holds shelf.old) file (λ text.
+        IsStill (S.faults shelf.old) (S.faults shelf.new) → IsStill (L.read_faults link.old) (L.read_faults link.new)
+        → IsStill (L.write_faults link.old) (L.write_faults link.new) → IsStill (N.faults notes.old) (N.faults notes.new)
+        → EvalsWell text budget (frames_of v) (L.left link.old) (L.log link.old) (L.log link.new) result) }
+    ensures eval_stopped { (file : List ℕ) (budget : ℕ) (v : WrittenVersion) → Asks words.now (eval file budget v) → OfFile (S.holds shelf.old) file (λ text.
+        IsStill (S.faults shelf.old) (S.faults shelf.new) → IsStill (L.read_faults link.old) (L.read_faults link.new)
+        → IsStill (L.write_faults link.old) (L.write_faults link.new) → IsStill (N.faults notes.old) (N.faults notes.new)
+        → StopsWell text budget (frames_of v) (L.left link.old) (L.log link.old) (L.log link.new) result) }
+    // A text that is refused, with no fault counted: status 3, or want of memory.
+    ensures eval_refused { (file : List ℕ) (budget : ℕ) (v : WrittenVersion) → Asks words.now (eval file budget v) → OfFile (S.holds shelf.old) file (λ text.
+        IsStill (S.faults shelf.old) (S.faults shelf.new) → IsStill (N.faults notes.old) (N.faults notes.new) → RefusesUnwritable text (frames_of v) result) }
     // What the shelf holds stays.
     ensures held { S.holds shelf.new ≡ S.holds shelf.old }
 {

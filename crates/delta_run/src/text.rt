@@ -58,10 +58,7 @@ impl<T: Drop> From<AllocFailed<T>> for TextFault {
 fn output_height(version: Version) -> u32
     ensures { result ≡ longest version + 1 }
 {
-    match version {
-        Version::V1 => 32,
-        Version::V2 => 64,
-    }
+    u32::from(version.longest()) + 1
 }
 
 /// The program of a text: a typed one, whose output's events have frames of the version.

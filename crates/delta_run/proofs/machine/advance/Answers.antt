@@ -6,8 +6,8 @@ use Rattle.delta_run.specs.FirstProgram.{program_of}
 use Rattle.delta_run.proofs.FirstPrograms.{is_prefix-meaning}
 use Rattle.delta_run.proofs.machine.advance.Goals as goal
 
-pub encoded-requires-clause-typed : goal.encoded-requires-clause-typed
-encoded-requires-clause-typed c =
+pub canonical_frames-requires-clause-typed : goal.canonical_frames-requires-clause-typed
+canonical_frames-requires-clause-typed c =
     subst (IsPrefix (type_of c.args.machine.now.program.result)) (sym c.in_ok-output.ensures)
     (is_prefix-meaning (program_of c.args.machine.now.program) c.requires.typed (prefix_of c.args.input.now) c.requires.input)
 

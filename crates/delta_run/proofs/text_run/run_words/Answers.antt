@@ -6,6 +6,8 @@ use Rattle.delta_run.specs.CommandLine.{frames_of}
 use Rattle.delta_run.proofs.Conversions.{by_either, either_well}
 use Rattle.delta_run.proofs.Lined.{lined, lines_well}
 use Rattle.delta_run.proofs.Printed.{prints_text, printed_well, refused_well}
+use Rattle.delta_run.proofs.Checked.{passes_accepted, refuses_unaccepted}
+use Rattle.delta_run.proofs.Evaluated.{evals_text, evals_well, stops_well, refuses_unwritable}
 use Rattle.delta_run.proofs.text_run.run_words.Goals as goal
 
 pub returns-clause-usage : goal.returns-clause-usage
@@ -31,6 +33,8 @@ returns-clause-answer g c = (
   λ v is. by_either (frames_of_lines (frames_of v)) _ _ _ _ c.run_command-end.result (c.run_command-end.ensures.framed v is),
   λ is. lined _ _ _ _ c.run_command-end.result (c.run_command-end.ensures.lined is),
   λ file is files tells. prints_text _ _ _ c.run_command-end.result (c.run_command-end.ensures.printed file is files tells),
+  λ file is files tells. c.run_command-end.ensures.checked file is files tells,
+  λ file budget v is files tells. evals_text _ budget (frames_of v) _ _ _ _ c.run_command-end.result (c.run_command-end.ensures.evaluated file budget v is files tells),
   c.run_command-end.ensures.file,
   c.run_command-end.ensures.read,
   c.run_command-end.ensures.write,
@@ -72,3 +76,29 @@ returns-clause-print_refused g c file is files tells file_still write note =
 
 pub returns-clause-print_unread : goal.returns-clause-print_unread
 returns-clause-print_unread g c file is = c.run_command-end.ensures.unread file is
+
+pub returns-clause-check_complete : goal.returns-clause-check_complete
+returns-clause-check_complete g c file is files tells file_still note =
+    passes_accepted _ _ _ _ _ file_still note _ _ c.note-said.ensures.cause c.run_command-end.result (c.run_command-end.ensures.checked file is files tells) c.run_command-end.ensures.file c.answer.ensures
+
+pub returns-clause-check_refused : goal.returns-clause-check_refused
+returns-clause-check_refused g c file is files tells file_still note =
+    refuses_unaccepted _ _ _ _ _ file_still note _ _ c.note-said.ensures.cause c.run_command-end.result (c.run_command-end.ensures.checked file is files tells) c.run_command-end.ensures.file c.answer.ensures
+
+pub returns-clause-check_untouched : goal.returns-clause-check_untouched
+returns-clause-check_untouched g c file is = c.run_command-end.ensures.checking file is
+
+pub returns-clause-eval_complete : goal.returns-clause-eval_complete
+returns-clause-eval_complete g c file budget v is files tells file_still read write note p core accepted w all word tells_input good within =
+    evals_well _ budget (frames_of v) _ _ _ _ _ _ _ _ file_still note _ _ c.note-said.ensures.cause _ _ _ _ read write p core accepted w all word tells_input good c.run_command-end.result
+    (c.run_command-end.ensures.evaluated file budget v is files tells) within c.run_command-end.ensures.file c.run_command-end.ensures.read c.run_command-end.ensures.write c.answer.ensures
+
+pub returns-clause-eval_stopped : goal.returns-clause-eval_stopped
+returns-clause-eval_stopped g c file budget v is files tells file_still read write note p core accepted w all word tells_input good more =
+    stops_well _ budget (frames_of v) _ _ _ _ _ _ _ _ file_still note _ _ c.note-said.ensures.cause _ _ _ _ read write p core accepted w all word tells_input good c.run_command-end.result
+    (c.run_command-end.ensures.evaluated file budget v is files tells) more c.run_command-end.ensures.file c.run_command-end.ensures.read c.run_command-end.ensures.write c.answer.ensures
+
+pub returns-clause-eval_refused : goal.returns-clause-eval_refused
+returns-clause-eval_refused g c file budget v is files tells file_still note =
+    refuses_unwritable _ budget (frames_of v) _ _ _ _ _ _ _ _ file_still note _ _ c.note-said.ensures.cause c.run_command-end.result
+    (c.run_command-end.ensures.evaluated file budget v is files tells) c.run_command-end.ensures.file c.answer.ensures

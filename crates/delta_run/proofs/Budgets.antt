@@ -1,0 +1,102 @@
+-- The budget of an evaluation is small.
+use Rattle.std.proofs.Common.{◌≡◌, ℕ, ◌≤◌, ◌<◌, ◌^◌, Bool, true, false, ◌&&◌, List, [], ◌∷◌, Option, Some, None, refl, subst, arith, if◌then◌else◌}
+use Rattle.std.specs.Prelude.{IfSome, option_and_then, option_map, nat_le, string_bytes, map}
+use Rattle.std.specs.Str.Parse.{digits_value}
+use Rattle.std.proofs.lemmas.Bool.{leb-true}
+use Rattle.delta_words.specs.declared.task.Version.{Version}
+use Rattle.delta_words.specs.declared.command.Command.{Command}
+use Rattle.delta_words.specs.declared.command.Command.TheVariants.{Run, Eval, Check, Print, Text, Gen}
+use Rattle.delta_words.specs.Numbers.{has_digits, number_within}
+use Rattle.delta_words.specs.Commands.{command_of, takes_of}
+use Rattle.delta_words.specs.CommandLine.{WrittenLine, line_of}
+use Rattle.delta_words.specs.CommandTask.{CommandTask, run, eval, check, print, text, frames, gen, budget_of, file_of, version_of, file_and_budget, text_or_frames, start_and_items, task_of_line, task_of_command, task_of}
+
+-- an evaluation has a budget of at most 10,000
+abbrev IsSmall : Option CommandTask → Type 0
+IsSmall (Some (eval file budget v)) = budget ≤ 10000
+IsSmall o = Unit {0}
+
+within : (d : ℕ) (a b : Bool) → nat_le d 10000 ≡ b → IfSome (let o : Option ℕ = if a && b then Some d else None in o) (λ n. n ≤ 10000)
+within d true true h = leb-true d 10000 h
+within d true false h = tt
+within d false b h = tt
+
+budget_is_small : (o : Option (List ℕ)) → IfSome (budget_of 10000 1000 o) (λ n. n ≤ 10000)
+budget_is_small None = omega arith
+budget_is_small (Some value) = within (digits_value 10 value) (has_digits 13 value) (nat_le (digits_value 10 value) 10000) refl
+
+with_budget : (file : List ℕ) (v : Version) (o : Option ℕ) → IfSome o (λ n. n ≤ 10000) → IsSmall (option_map (λ budget. eval file budget v) o)
+with_budget file v None h = tt
+with_budget file v (Some n) h = h
+
+evals : (line : WrittenLine) → IsSmall (file_and_budget eval 10000 1000 line)
+evals line = go (file_of line.operands)
+  where
+    go : (o : Option (List ℕ)) → IsSmall (option_and_then (λ file. option_map (λ budget. eval file budget (version_of line.v2)) (budget_of 10000 1000 line.budget)) o)
+    go None = tt
+    go (Some file) = with_budget file (version_of line.v2) (budget_of 10000 1000 line.budget) (budget_is_small line.budget)
+
+runs : (line : WrittenLine) → IsSmall (file_and_budget run 1000000 1000000 line)
+runs line = go (file_of line.operands)
+  where
+    inside : (file : List ℕ) (o : Option ℕ) → IsSmall (option_map (λ budget. run file budget (version_of line.v2)) o)
+    inside file None = tt
+    inside file (Some n) = tt
+
+    go : (o : Option (List ℕ)) → IsSmall (option_and_then (λ file. option_map (λ budget. run file budget (version_of line.v2)) (budget_of 1000000 1000000 line.budget)) o)
+    go None = tt
+    go (Some file) = inside file (budget_of 1000000 1000000 line.budget)
+
+checks : (o : Option (List ℕ)) → IsSmall (option_map check o)
+checks None = tt
+checks (Some file) = tt
+
+prints : (o : Option (List ℕ)) → IsSmall (option_map print o)
+prints None = tt
+prints (Some file) = tt
+
+texts : (v : Version) (a b : Bool) → IsSmall (if a then Some (frames v) else (if b then None else Some text))
+texts v true b = tt
+texts v false true = tt
+texts v false false = tt
+
+gens : (words : List (List ℕ)) → IsSmall (start_and_items words)
+gens [] = tt
+gens (a ∷ []) = tt
+gens (a ∷ b ∷ []) = go (number_within 8 999999 a)
+  where
+    inside : (n : ℕ) (o : Option ℕ) → IsSmall (option_map (λ m. gen n m) o)
+    inside n None = tt
+    inside n (Some m) = tt
+
+    go : (o : Option ℕ) → IsSmall (option_and_then (λ n. option_map (λ m. gen n m) (number_within 8 10000000 b)) o)
+    go None = tt
+    go (Some n) = inside n (number_within 8 10000000 b)
+gens (a ∷ b ∷ c ∷ words) = tt
+
+of_line : (c : Command) (line : WrittenLine) → IsSmall (task_of_line c line)
+of_line Run line = runs line
+of_line Eval line = evals line
+of_line Check line = checks (file_of line.operands)
+of_line Print line = prints (file_of line.operands)
+of_line Text line = texts (version_of line.v2) line.frames line.v2
+of_line Gen line = gens line.operands
+
+of_command : (words : List (List ℕ)) (c : Command) → IsSmall (task_of_command words c)
+of_command words c = go (line_of (takes_of c) words)
+  where
+    go : (o : Option WrittenLine) → IsSmall (option_and_then (task_of_line c) o)
+    go None = tt
+    go (Some line) = of_line c line
+
+of_words : (words : List (List ℕ)) → IsSmall (task_of words)
+of_words [] = tt
+of_words (word ∷ words) = go (command_of word)
+  where
+    go : (o : Option Command) → IsSmall (option_and_then (task_of_command words) o)
+    go None = tt
+    go (Some c) = of_command words c
+
+pub eval_is_small : (words : List (List ℕ)) (file : List ℕ) (budget : ℕ) (v : Version) → task_of words ≡ Some (eval file budget v) → budget < 2 ^ 62
+eval_is_small words file budget v e =
+    let small : budget ≤ 10000 = subst IsSmall e (of_words words) in omega (arith, small)
