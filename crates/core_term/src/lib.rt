@@ -9,8 +9,6 @@ mod names;
 mod program;
 mod reading;
 mod term;
-#[cfg(test)]
-mod tests;
 
 pub use checked::Checked;
 pub use copying::{copy, copy_core};

@@ -12,8 +12,6 @@ mod passing;
 mod pasts;
 mod rules;
 mod scope;
-#[cfg(test)]
-mod tests;
 
 pub use checking::check;
 pub use fault::{TypeCause, TypeFault};

@@ -17,8 +17,6 @@ mod parsing;
 mod pattern_reader;
 mod plain;
 mod terminal;
-#[cfg(test)]
-mod tests;
 mod type_reader;
 mod whole_reader;
 

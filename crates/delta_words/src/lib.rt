@@ -7,8 +7,6 @@ mod line;
 mod number;
 mod parser;
 mod task;
-#[cfg(test)]
-mod tests;
 mod words;
 
 pub use fault::WordsFault;

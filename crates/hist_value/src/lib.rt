@@ -11,8 +11,6 @@ mod judging;
 pub mod laws;
 mod reckoning;
 mod scope;
-#[cfg(test)]
-mod tests;
 mod type_scope;
 mod typing;
 mod wholes;

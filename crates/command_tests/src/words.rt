@@ -1,6 +1,6 @@
 //! Command lines, each with its task, and words that are none.
 
-use crate::{Task, Version, WordsFault, read_words};
+use delta_words::{Task, Version, WordsFault, read_words};
 use std::alloc::Global;
 use std::test::Fail;
 

@@ -1,0 +1,13 @@
+//! Tests of command lines and of the commands, over files and links in memory.
+#![tactic(auto)]
+
+#[cfg(test)]
+mod commands;
+#[cfg(test)]
+mod evaluations;
+#[cfg(test)]
+mod examples;
+#[cfg(test)]
+mod sources;
+#[cfg(test)]
+mod words;

@@ -1,0 +1,138 @@
+//! Which texts are accepted, and for what the others are refused.
+
+use delta_accept::{accept, accept_to_write};
+use delta_end::{Refusal, RefusalName};
+use delta_front::TextFault;
+use event_frame::Version;
+use std::alloc::Global;
+use std::test::Fail;
+
+// Whether a text is accepted.
+fn is_accepted(alloc: Global, text: &[u8]) -> bool {
+    let found = accept(alloc, text);
+    let accepted = found.is_ok();
+    drop(found);
+    accepted
+}
+
+// Whether a text is accepted, with its output to be written in a version.
+fn is_writable(alloc: Global, text: &[u8], version: Version) -> bool {
+    let found = accept_to_write(alloc, text, version);
+    let accepted = found.is_ok();
+    drop(found);
+    accepted
+}
+
+// The number of texts of the core of an accepted text.
+fn names_in(alloc: Global, text: &[u8]) -> Result<usize, Fail> {
+    let accepted = accept(alloc, text)?;
+    let names = accepted.checked.core().texts.len();
+    drop(accepted);
+    Ok(names)
+}
+
+#[test]
+fn first_program_is_accepted(rt: HostRuntime) -> Result<(), Fail> {
+    let names = names_in(rt.alloc(), b"main(x : Int) : Int = x")?;
+    assert_eq!(rt; names, 1);
+    Ok(())
+}
+
+// Each text and what is wrong with it first.
+#[test]
+fn texts_are_refused_by_name_and_place(rt: HostRuntime) -> Result<(), Fail> {
+    let rows: [(&[u8], RefusalName, u32); 6] = [
+        (b"main(x : Int) : Int = ", RefusalName::Expected, 21),
+        (b"main(x : Int) : Int = y", RefusalName::Unbound, 22),
+        (b"main(x : Int) : Int = f(x)", RefusalName::NoFunction, 22),
+        (b"main(x : N) : Int = x", RefusalName::NoType, 9),
+        (b"main(x : Int) : 1 = x", RefusalName::Mismatch, 20),
+        (
+            b"main(x : Int, y : Int) : Int . Int = (x; y)",
+            RefusalName::OutOfOrder,
+            37,
+        ),
+    ];
+    for (text, name, at) in rows {
+        let refusal = Refusal { name, at };
+        assert_eq!(rt;
+            accept(rt.alloc(), text).err(),
+            Some(TextFault::Refused(refusal))
+        );
+    }
+    Ok(())
+}
+
+#[test]
+fn wide_output_is_refused_for_short_frames(rt: HostRuntime) -> Result<(), Fail> {
+    let text = b"main() : Int******************************** = nil";
+    assert!(rt; is_accepted(rt.alloc(), text));
+    assert!(rt; is_writable(rt.alloc(), text, Version::V2));
+    let refusal = Refusal {
+        name: RefusalName::WideOutput,
+        at: 0,
+    };
+    assert_eq!(rt;
+        accept_to_write(rt.alloc(), text, Version::V1).err(),
+        Some(TextFault::Refused(refusal))
+    );
+    Ok(())
+}
+
+// A text at each side of each rule of types: what breaks it, with the place, and what keeps it.
+#[test]
+fn each_rule_has_two_sides(rt: HostRuntime) -> Result<(), Fail> {
+    let rows: [(&[u8], RefusalName, u32, &[u8]); 7] = [
+        (
+            b"main(x : Int) : 1 = x",
+            RefusalName::Mismatch,
+            20,
+            b"main(x : Int) : Int = x",
+        ),
+        (
+            b"main(x : Int, y : Int) : Int . Int = (x; y)",
+            RefusalName::OutOfOrder,
+            37,
+            b"main(x : Int; y : Int) : Int . Int = (x; y)",
+        ),
+        (
+            b"fun f(a : 1; b : 1) : 1 = a\nmain(x : 1; y : 1) : 1 = f(x, ())",
+            RefusalName::Jumpy,
+            53,
+            b"fun f(a : 1; b : 1) : 1 = a\nmain(x : 1; y : 1) : 1 = f(x, y)",
+        ),
+        (
+            b"main(x : eps, y : Int) : Int = wait x in y",
+            RefusalName::WaitNull,
+            31,
+            b"main(x : Int, y : Int) : Int = wait x in y",
+        ),
+        (
+            b"fun f(a : 1) : 1 = a\nmain(x : 1) : 1 = f(x, x)",
+            RefusalName::Arity,
+            39,
+            b"fun f(a : 1) : 1 = a\nmain(x : 1) : 1 = f(x)",
+        ),
+        (
+            b"main(x : Int) : Int = wait x in {fst x}",
+            RefusalName::History,
+            32,
+            b"main(x : Int) : Int = wait x in {x + 1}",
+        ),
+        (
+            b"fun f{n : Int}(a : 1) : Int = n\nmain(x : 1) : Int = f{1}(x)",
+            RefusalName::NotStream,
+            30,
+            b"fun f{n : Int}(a : 1) : Int = {n}\nmain(x : 1) : Int = f{1}(x)",
+        ),
+    ];
+    for (broken, name, at, kept) in rows {
+        let refusal = Refusal { name, at };
+        assert_eq!(rt;
+            accept(rt.alloc(), broken).err(),
+            Some(TextFault::Refused(refusal))
+        );
+        assert!(rt; is_accepted(rt.alloc(), kept));
+    }
+    Ok(())
+}

@@ -1,0 +1,91 @@
+//! Small programs run on small inputs, with ample memory. Each answer was worked out by hand.
+
+use delta_front::program_of;
+use delta_meaning::{EvalRefusal, Evaluated, eval, run};
+use std::alloc::Global;
+use std::test::Fail;
+use stream_prefix::{Prefix, StarEnd};
+use stream_type::Memory;
+
+// Doubles each number.
+const DOUBLING: &[u8] =
+    b"fun f(x : Int*) : Int* = case x of { nil => nil | y :: ys => wait y in ({y * 2} :: f(ys)) }
+main(x : Int*) : Int* = f(x)";
+
+// Calls itself at its end.
+const LOOPING: &[u8] = b"fun f(x : Int*) : 1 = case x of { nil => () | y :: ys => f(ys) }
+main(x : Int*) : 1 = f(x)";
+
+// Calls itself inside.
+const NESTING: &[u8] =
+    b"fun f(x : Int*) : 1 = case x of { nil => () | y :: ys => let n = f(ys) in n }
+main(x : Int*) : 1 = f(x)";
+
+// The numbers, and then the end.
+fn numbers(alloc: Global, numbers: &[i64]) -> Result<Prefix, Memory> {
+    let mut items = Vec::new(alloc);
+    for n in numbers {
+        items.push(Prefix::IntFull(*n))?;
+    }
+    Ok(Prefix::Star(items, StarEnd::Done))
+}
+
+// What a text's program gives on these numbers.
+fn ran(alloc: Global, text: &[u8], items: &[i64]) -> Result<Evaluated, Fail> {
+    let input = numbers(alloc, items)?;
+    let program = program_of(alloc, text)?;
+    let found = run(alloc, &program, &input, 1000);
+    drop(program);
+    drop(input);
+    Ok(found?)
+}
+
+// Why nothing is answered on these numbers with so many calls, of 10,000 at most.
+fn refused(
+    alloc: Global,
+    text: &[u8],
+    items: &[i64],
+    budget: u64,
+) -> Result<Option<EvalRefusal>, Fail> {
+    let input = numbers(alloc, items)?;
+    let program = program_of(alloc, text)?;
+    let found = eval(alloc, &program, &input, budget.min(10_000)).err();
+    drop(program);
+    drop(input);
+    Ok(found)
+}
+
+// The number of whole items of a prefix that has ended.
+fn items_of(p: &Prefix) -> Option<usize> {
+    match p {
+        Prefix::Star(items, StarEnd::Done) => Some(items.len()),
+        _ => None,
+    }
+}
+
+#[test]
+fn calls_are_counted_up_to_the_budget(rt: HostRuntime) -> Result<(), Fail> {
+    let alloc = rt.alloc();
+    let doubled = ran(alloc, DOUBLING, &[3, 4])?;
+    let (calls, level, items) = (doubled.calls, doubled.level, items_of(&doubled.output));
+    drop(doubled);
+    assert_eq!(rt; (calls, level), (3, 1));
+    assert_eq!(rt; items, Some(2));
+    assert_eq!(rt; refused(alloc, DOUBLING, &[3, 4], 3)?, None);
+    let spent = refused(alloc, DOUBLING, &[3, 4], 2)?;
+    assert_eq!(rt; spent, Some(EvalRefusal::Budget(2)));
+    Ok(())
+}
+
+// The calls of a text's program on twenty numbers, and their level.
+fn counted(alloc: Global, text: &[u8]) -> Result<(u64, u64), Fail> {
+    let found = ran(alloc, text, &[0; 20])?;
+    Ok((found.calls, found.level))
+}
+
+#[test]
+fn a_loop_stays_and_a_nest_goes_down(rt: HostRuntime) -> Result<(), Fail> {
+    assert_eq!(rt; counted(rt.alloc(), LOOPING)?, (21, 1));
+    assert_eq!(rt; counted(rt.alloc(), NESTING)?, (21, 21));
+    Ok(())
+}

@@ -1,0 +1,13 @@
+//! Tests of programs: written types, elaboration, typing, the one-shot meaning and which texts are accepted, with ample memory.
+#![tactic(auto)]
+
+#[cfg(test)]
+mod acceptance;
+#[cfg(test)]
+mod elaboration;
+#[cfg(test)]
+mod evaluation;
+#[cfg(test)]
+mod types;
+#[cfg(test)]
+mod typing;

@@ -1,0 +1,159 @@
+//! What written types and parameters stand for, with ample memory.
+//!
+//! The names are `number` 0, `pair` 1, `x` 2 and `y` 3; `number` is known twice, as `1` and below that
+//! as `Int`.
+
+use bunch::{Bunch, Name};
+use delta_meaning::{params_meant, past_meant, type_meant};
+use delta_tree::{Ctx, TyExp, TyForm};
+use std::alloc::Global;
+use std::test::Fail;
+use stream_type::{Memory, Ty, cat, par, same, star, sum};
+
+fn known(alloc: Global) -> Result<Vec<(Name, Ty)>, Memory> {
+    let mut known = Vec::new(alloc);
+    known.push((Name(0), Ty::One))?;
+    known.push((Name(0), Ty::Int))?;
+    Ok(known)
+}
+
+fn named(at: u32, x: u32) -> TyExp {
+    TyExp {
+        at,
+        form: TyForm::Named(Name(x)),
+    }
+}
+
+// `(number . pair)* + (number || number)`
+fn written(alloc: Global) -> Result<TyExp, Memory> {
+    let form = TyForm::Cat(
+        Box::new(alloc, named(1, 0))?,
+        Box::new(alloc, named(10, 1))?,
+    );
+    let in_turn = Box::new(alloc, TyExp { at: 0, form })?;
+    let many = TyExp {
+        at: 0,
+        form: TyForm::Star(in_turn),
+    };
+    let form = TyForm::Par(
+        Box::new(alloc, named(20, 0))?,
+        Box::new(alloc, named(30, 0))?,
+    );
+    let both = TyExp { at: 19, form };
+    Ok(TyExp {
+        at: 0,
+        form: TyForm::Sum(Box::new(alloc, many)?, Box::new(alloc, both)?),
+    })
+}
+
+// What that type stands for.
+fn meant(alloc: Global) -> Result<Ty, Memory> {
+    let known = known(alloc)?;
+    let written = written(alloc)?;
+    let meant = type_meant(alloc, &known, &written);
+    drop(known);
+    drop(written);
+    meant
+}
+
+// `(Int . eps)* + (Int || Int)`
+fn wanted(alloc: Global) -> Result<Ty, Memory> {
+    let both = par(alloc, Ty::Int, Ty::Int)?;
+    let many = star(alloc, cat(alloc, Ty::Int, Ty::Eps)?)?;
+    sum(alloc, many, both)
+}
+
+#[test]
+fn a_written_type_stands_for_a_type(rt: HostRuntime) -> Result<(), Fail> {
+    let (meant, wanted) = (meant(rt.alloc())?, wanted(rt.alloc())?);
+    let same = same(&meant, &wanted);
+    drop(meant);
+    drop(wanted);
+    assert!(rt; same);
+    Ok(())
+}
+
+// `(x : number; y : ?), ()`, with a name that isn't known.
+fn params(alloc: Global) -> Result<Ctx, Memory> {
+    let x = Box::new(alloc, Ctx::Leaf(Name(2), named(5, 0)))?;
+    let y = Box::new(alloc, Ctx::Leaf(Name(3), named(15, 9)))?;
+    let nothing = Box::new(alloc, Ctx::Empty)?;
+    let in_turn = Box::new(alloc, Ctx::Semi(x, y))?;
+    Ok(Ctx::Comma(in_turn, nothing))
+}
+
+// What those parameters stand for.
+fn meant_params(alloc: Global) -> Result<Bunch, Memory> {
+    let known = known(alloc)?;
+    let params = params(alloc)?;
+    let meant = params_meant(alloc, &known, &params);
+    drop(known);
+    drop(params);
+    meant
+}
+
+// Whether a bunch is `x : Int; y : eps`.
+fn is_in_turn(b: &Bunch) -> bool {
+    match b {
+        Bunch::Semi(x, y) => is_leaf(x, 2, Ty::Int) && is_leaf(y, 3, Ty::Eps),
+        _ => false,
+    }
+}
+
+// Whether a bunch is this one name with this type.
+fn is_leaf(b: &Bunch, name: u32, ty: Ty) -> bool {
+    match b {
+        Bunch::Leaf(x, t) => x.0 == name && same(t, &ty),
+        _ => false,
+    }
+}
+
+// Whether a bunch is that, beside nothing.
+fn is_beside_nothing(b: &Bunch) -> bool {
+    match b {
+        Bunch::Comma(in_turn, nothing) => {
+            matches!(**nothing, Bunch::Empty) && is_in_turn(in_turn)
+        }
+        _ => false,
+    }
+}
+
+#[test]
+fn written_parameters_stand_for_a_bunch(rt: HostRuntime) -> Result<(), Fail> {
+    let meant = meant_params(rt.alloc())?;
+    let right = is_beside_nothing(&meant);
+    drop(meant);
+    assert!(rt; right);
+    Ok(())
+}
+
+// What `{x : number, y : ..}` stand for, with that type.
+fn meant_past(alloc: Global) -> Result<Vec<(Name, Ty)>, Memory> {
+    let known = known(alloc)?;
+    let mut past = Vec::new(alloc);
+    past.push((Name(2), named(5, 0)))?;
+    past.push((Name(3), written(alloc)?))?;
+    let meant = past_meant(alloc, &known, &past);
+    drop(known);
+    drop(past);
+    meant
+}
+
+// Whether these are x, a number, and y, a sum.
+fn are_past(past: &[(Name, Ty)]) -> bool {
+    match past {
+        [(x, number), (y, sum)] => {
+            x.0 == 2 && matches!(number, Ty::Int) && y.0 == 3 && matches!(sum, Ty::Sum(_, _))
+        }
+        _ => false,
+    }
+}
+
+#[test]
+fn historical_parameters_have_types(rt: HostRuntime) -> Result<(), Fail> {
+    let meant = meant_past(rt.alloc())?;
+    let right = are_past(&meant);
+    drop(meant);
+    assert!(rt; right);
+    Ok(())
+}
