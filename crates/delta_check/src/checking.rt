@@ -17,10 +17,11 @@ ghost use Rattle.delta_check.specs.Scopes.{context_in, place_known};
 use crate::fault::TypeFault;
 use crate::forms::{cases, items, sides, steps};
 use crate::inertness::{inert, inert_funs};
+use crate::input_type::input_of;
 use crate::params::type_at;
 use crate::rules::broken;
 use crate::scope::{Placed, Scope, place_of_let, stream_type};
-use bunch::{Bunch, Name, as_type};
+use bunch::{Bunch, Name};
 use core_term::{Body, Checked, Core, Node, Term, body_of, free};
 use std::alloc::Global;
 use stream_type::{Memory, Ty};
@@ -37,9 +38,10 @@ pub fn check(alloc: Global, c: Core) -> Result<Checked, TypeFault>
     ensures first { IfErr result (λ f. TellsFirst f (first_fault (core_of c))) }
     ensures place { IfErr result (λ f. TellsPlace f 0 (core_places c)) }
 {
-    check_core(alloc, &c)?;
-    let input = as_type(alloc, &c.main.params)?;
-    Ok(Checked::of(c, input))
+    match input_of(alloc, &c) {
+        Ok(input) => Ok(Checked::of(c, input)),
+        Err(fault) => Err(fault),
+    }
 }
 
 /// Finds the first broken rule of a program with fewer than 2^32 nodes, as `check` tells it. Its other

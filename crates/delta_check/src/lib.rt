@@ -6,6 +6,7 @@ mod checking;
 mod fault;
 mod forms;
 mod inertness;
+mod input_type;
 mod orders;
 mod params;
 mod passing;

@@ -16,7 +16,7 @@ use crate::plain::Plain;
 use crate::terminal::Terminal;
 use crate::type_reader::read_type;
 use bunch::Name;
-use delta_tree::{Exp, Form, Head, HeadForm, Hist};
+use delta_tree::{Exp, Form, Head, HeadForm, Hist, expression, head};
 use std::alloc::Global;
 
 /// The arms of a case: those of a sum with their names, or that of a star that is over and that of an
@@ -33,14 +33,12 @@ fn case_on(alloc: Global, at: u32, head: Head, arms: Arms) -> Result<Exp, Halt>
 {
     match arms {
         Arms::Sum(x, left, y, right) => {
-            let left = Box::new(alloc, left)?;
-            let form = Form::CaseSum(head, x, left, y, Box::new(alloc, right)?);
-            Ok(Exp { at, form })
+            let form = Form::CaseSum(head, x, left, y, right);
+            Ok(expression(alloc, at, form)?)
         }
         Arms::Star(over, item, others, more) => {
-            let over = Box::new(alloc, over)?;
-            let form = Form::CaseStar(head, over, item, others, Box::new(alloc, more)?);
-            Ok(Exp { at, form })
+            let form = Form::CaseStar(head, over, item, others, more);
+            Ok(expression(alloc, at, form)?)
         }
     }
 }
@@ -69,9 +67,9 @@ pub(crate) fn read_expression<'a>(
         return Ok((head, rest));
     };
     let (tail, rest) = read_expression(alloc, rest)?;
-    let form = Form::Cons(Box::new(alloc, head)?, Box::new(alloc, tail)?);
+    let form = Form::Cons(head, tail);
     let at = place(tokens);
-    Ok((Exp { at, form }, rest))
+    Ok((expression(alloc, at, form)?, rest))
 }
 
 #[cycle(expressions)]
@@ -86,30 +84,11 @@ fn read_let<'a>(alloc: Global, tokens: &'a [Plain]) -> Result<(Exp, &'a [Plain])
     let (head, rest) = read_head(alloc, rest)?;
     let (_, rest) = expect(Terminal::InWord, rest)?;
     let (body, rest) = read_expression(alloc, rest)?;
-    let body = Box::new(alloc, body)?;
     let at = word.at;
     match pattern {
-        Pattern::One(x) => Ok((
-            Exp {
-                at,
-                form: Form::Let(x, head, body),
-            },
-            rest,
-        )),
-        Pattern::AtOnce(x, y) => Ok((
-            Exp {
-                at,
-                form: Form::LetPar(x, y, head, body),
-            },
-            rest,
-        )),
-        Pattern::InTurn(x, y) => Ok((
-            Exp {
-                at,
-                form: Form::LetCat(x, y, head, body),
-            },
-            rest,
-        )),
+        Pattern::One(x) => Ok((expression(alloc, at, Form::Let(x, head, body))?, rest)),
+        Pattern::AtOnce(x, y) => Ok((expression(alloc, at, Form::LetPar(x, y, head, body))?, rest)),
+        Pattern::InTurn(x, y) => Ok((expression(alloc, at, Form::LetCat(x, y, head, body))?, rest)),
     }
 }
 
@@ -123,8 +102,8 @@ fn read_wait<'a>(alloc: Global, tokens: &'a [Plain]) -> Result<(Exp, &'a [Plain]
     let (name, rest) = expect(Terminal::NameToken, rest)?;
     let (_, rest) = expect(Terminal::InWord, rest)?;
     let (body, rest) = read_expression(alloc, rest)?;
-    let form = Form::Wait(Name(name.name), Box::new(alloc, body)?);
-    Ok((Exp { at: word.at, form }, rest))
+    let form = Form::Wait(Name(name.name), body);
+    Ok((expression(alloc, word.at, form)?, rest))
 }
 
 #[cycle(expressions)]
@@ -139,8 +118,8 @@ fn read_if<'a>(alloc: Global, tokens: &'a [Plain]) -> Result<(Exp, &'a [Plain]),
     let (holds, rest) = read_expression(alloc, rest)?;
     let (_, rest) = expect(Terminal::ElseWord, rest)?;
     let (fails, rest) = read_expression(alloc, rest)?;
-    let form = Form::If(test, Box::new(alloc, holds)?, Box::new(alloc, fails)?);
-    Ok((Exp { at: word.at, form }, rest))
+    let form = Form::If(test, holds, fails);
+    Ok((expression(alloc, word.at, form)?, rest))
 }
 
 #[cycle(expressions)]
@@ -152,25 +131,19 @@ fn read_head<'a>(alloc: Global, tokens: &'a [Plain]) -> Result<(Head, &'a [Plain
     if let Some((name, rest)) = accept(Terminal::NameToken, tokens) {
         let at = name.at;
         if !starts_with_either(Terminal::OpenBrace, Terminal::Open, rest) {
-            return Ok((
-                Head {
-                    at,
-                    form: HeadForm::Var(Name(name.name)),
-                },
-                rest,
-            ));
+            return Ok((head(alloc, at, HeadForm::Var(Name(name.name)))?, rest));
         }
         let (past, streams, rest) = read_arguments(alloc, rest)?;
         let form = HeadForm::Call(Name(name.name), past, streams);
-        return Ok((Head { at, form }, rest));
+        return Ok((head(alloc, at, form)?, rest));
     }
     let (open, rest) = expect(Terminal::Open, tokens)?;
     let (inner, rest) = read_expression(alloc, rest)?;
     let (_, rest) = expect(Terminal::Colon, rest)?;
     let (ty, rest) = read_type(alloc, rest)?;
     let (_, rest) = expect(Terminal::Close, rest)?;
-    let form = HeadForm::Asc(Box::new(alloc, inner)?, ty);
-    Ok((Head { at: open.at, form }, rest))
+    let form = HeadForm::Asc(inner, ty);
+    Ok((head(alloc, open.at, form)?, rest))
 }
 
 #[cycle(expressions)]
@@ -181,13 +154,13 @@ fn read_application<'a>(alloc: Global, tokens: &'a [Plain]) -> Result<(Exp, &'a 
 {
     if let Some((word, rest)) = accept(Terminal::InlWord, tokens) {
         let (inner, rest) = read_application(alloc, rest)?;
-        let form = Form::Inl(Box::new(alloc, inner)?);
-        return Ok((Exp { at: word.at, form }, rest));
+        let form = Form::Inl(inner);
+        return Ok((expression(alloc, word.at, form)?, rest));
     }
     if let Some((word, rest)) = accept(Terminal::InrWord, tokens) {
         let (inner, rest) = read_application(alloc, rest)?;
-        let form = Form::Inr(Box::new(alloc, inner)?);
-        return Ok((Exp { at: word.at, form }, rest));
+        let form = Form::Inr(inner);
+        return Ok((expression(alloc, word.at, form)?, rest));
     }
     read_atom(alloc, tokens)
 }
@@ -202,22 +175,10 @@ fn read_atom<'a>(alloc: Global, tokens: &'a [Plain]) -> Result<(Exp, &'a [Plain]
         return read_name(alloc, tokens);
     }
     if let Some((word, rest)) = accept(Terminal::EpsWord, tokens) {
-        return Ok((
-            Exp {
-                at: word.at,
-                form: Form::Eps,
-            },
-            rest,
-        ));
+        return Ok((expression(alloc, word.at, Form::Eps)?, rest));
     }
     if let Some((word, rest)) = accept(Terminal::NilWord, tokens) {
-        return Ok((
-            Exp {
-                at: word.at,
-                form: Form::Nil,
-            },
-            rest,
-        ));
+        return Ok((expression(alloc, word.at, Form::Nil)?, rest));
     }
     if starts_with(Terminal::Open, tokens) {
         return read_bracket(alloc, tokens);
@@ -237,17 +198,11 @@ fn read_name<'a>(alloc: Global, tokens: &'a [Plain]) -> Result<(Exp, &'a [Plain]
     let (name, rest) = expect(Terminal::NameToken, tokens)?;
     let at = name.at;
     if !starts_with_either(Terminal::OpenBrace, Terminal::Open, rest) {
-        return Ok((
-            Exp {
-                at,
-                form: Form::Var(Name(name.name)),
-            },
-            rest,
-        ));
+        return Ok((expression(alloc, at, Form::Var(Name(name.name)))?, rest));
     }
     let (past, streams, rest) = read_arguments(alloc, rest)?;
     let form = Form::Call(Name(name.name), past, streams);
-    Ok((Exp { at, form }, rest))
+    Ok((expression(alloc, at, form)?, rest))
 }
 
 #[cycle(expressions)]
@@ -258,13 +213,7 @@ fn read_bracket<'a>(alloc: Global, tokens: &'a [Plain]) -> Result<(Exp, &'a [Pla
 {
     let (open, rest) = expect(Terminal::Open, tokens)?;
     if let Some((_, rest)) = accept(Terminal::Close, rest) {
-        return Ok((
-            Exp {
-                at: open.at,
-                form: Form::Unit,
-            },
-            rest,
-        ));
+        return Ok((expression(alloc, open.at, Form::Unit)?, rest));
     }
     let (inner, rest) = read_expression(alloc, rest)?;
     read_ending(alloc, open.at, inner, rest)
@@ -288,20 +237,20 @@ fn read_ending<'a>(
     if let Some((_, rest)) = accept(Terminal::Comma, tokens) {
         let (second, rest) = read_expression(alloc, rest)?;
         let (_, rest) = expect(Terminal::Close, rest)?;
-        let form = Form::Par(Box::new(alloc, inner)?, Box::new(alloc, second)?);
-        return Ok((Exp { at, form }, rest));
+        let form = Form::Par(inner, second);
+        return Ok((expression(alloc, at, form)?, rest));
     }
     if let Some((_, rest)) = accept(Terminal::Semicolon, tokens) {
         let (second, rest) = read_expression(alloc, rest)?;
         let (_, rest) = expect(Terminal::Close, rest)?;
-        let form = Form::Cat(Box::new(alloc, inner)?, Box::new(alloc, second)?);
-        return Ok((Exp { at, form }, rest));
+        let form = Form::Cat(inner, second);
+        return Ok((expression(alloc, at, form)?, rest));
     }
     let (_, rest) = expect(Terminal::Colon, tokens)?;
     let (ty, rest) = read_type(alloc, rest)?;
     let (_, rest) = expect(Terminal::Close, rest)?;
-    let form = Form::Asc(Box::new(alloc, inner)?, ty);
-    Ok((Exp { at, form }, rest))
+    let form = Form::Asc(inner, ty);
+    Ok((expression(alloc, at, form)?, rest))
 }
 
 // A historical expression in its braces.
@@ -313,13 +262,7 @@ fn read_braces<'a>(alloc: Global, tokens: &'a [Plain]) -> Result<(Exp, &'a [Plai
     let (open, rest) = expect(Terminal::OpenBrace, tokens)?;
     let (inner, rest) = read_history(alloc, rest)?;
     let (_, rest) = expect(Terminal::CloseBrace, rest)?;
-    Ok((
-        Exp {
-            at: open.at,
-            form: Form::Past(inner),
-        },
-        rest,
-    ))
+    Ok((expression(alloc, open.at, Form::Past(inner))?, rest))
 }
 
 #[cycle(expressions)]

@@ -11,7 +11,7 @@ use crate::cursor::{Halt, accept, expect, place};
 use crate::plain::Plain;
 use crate::terminal::Terminal;
 use bunch::Name;
-use delta_tree::{TyExp, TyForm};
+use delta_tree::{TyExp, TyForm, written_type};
 use std::alloc::Global;
 
 /// A type, and the tokens after it.
@@ -26,9 +26,9 @@ pub fn read_type<'a>(alloc: Global, tokens: &'a [Plain]) -> Result<(TyExp, &'a [
         return Ok((left, rest));
     };
     let (right, rest) = read_type(alloc, rest)?;
-    let form = TyForm::Sum(Box::new(alloc, left)?, Box::new(alloc, right)?);
+    let form = TyForm::Sum(left, right);
     let at = place(tokens);
-    Ok((TyExp { at, form }, rest))
+    Ok((written_type(alloc, at, form)?, rest))
 }
 
 #[cycle(types)]
@@ -42,9 +42,9 @@ fn read_par<'a>(alloc: Global, tokens: &'a [Plain]) -> Result<(TyExp, &'a [Plain
         return Ok((left, rest));
     };
     let (right, rest) = read_par(alloc, rest)?;
-    let form = TyForm::Par(Box::new(alloc, left)?, Box::new(alloc, right)?);
+    let form = TyForm::Par(left, right);
     let at = place(tokens);
-    Ok((TyExp { at, form }, rest))
+    Ok((written_type(alloc, at, form)?, rest))
 }
 
 #[cycle(types)]
@@ -58,9 +58,9 @@ fn read_cat<'a>(alloc: Global, tokens: &'a [Plain]) -> Result<(TyExp, &'a [Plain
         return Ok((left, rest));
     };
     let (right, rest) = read_cat(alloc, rest)?;
-    let form = TyForm::Cat(Box::new(alloc, left)?, Box::new(alloc, right)?);
+    let form = TyForm::Cat(left, right);
     let at = place(tokens);
-    Ok((TyExp { at, form }, rest))
+    Ok((written_type(alloc, at, form)?, rest))
 }
 
 #[cycle(types)]
@@ -87,8 +87,8 @@ fn read_stars<'a>(
     let Some((_star, rest)) = accept(Terminal::Times, tokens) else {
         return Ok((so_far, tokens));
     };
-    let form = TyForm::Star(Box::new(alloc, so_far)?);
-    read_stars(alloc, at, TyExp { at, form }, rest)
+    let form = TyForm::Star(so_far);
+    read_stars(alloc, at, written_type(alloc, at, form)?, rest)
 }
 
 #[cycle(types)]
@@ -98,38 +98,17 @@ fn read_base<'a>(alloc: Global, tokens: &'a [Plain]) -> Result<(TyExp, &'a [Plai
     ensures shorter { IfOk result (λ x. length x.1.now < length tokens.now) }
 {
     if let Some((token, rest)) = accept(Terminal::EpsWord, tokens) {
-        return Ok((
-            TyExp {
-                at: token.at,
-                form: TyForm::Eps,
-            },
-            rest,
-        ));
+        return Ok((written_type(alloc, token.at, TyForm::Eps)?, rest));
     }
     if let Some((token, rest)) = accept(Terminal::OneToken, tokens) {
-        return Ok((
-            TyExp {
-                at: token.at,
-                form: TyForm::One,
-            },
-            rest,
-        ));
+        return Ok((written_type(alloc, token.at, TyForm::One)?, rest));
     }
     if let Some((token, rest)) = accept(Terminal::IntWord, tokens) {
-        return Ok((
-            TyExp {
-                at: token.at,
-                form: TyForm::Int,
-            },
-            rest,
-        ));
+        return Ok((written_type(alloc, token.at, TyForm::Int)?, rest));
     }
     if let Some((token, rest)) = accept(Terminal::NameToken, tokens) {
         return Ok((
-            TyExp {
-                at: token.at,
-                form: TyForm::Named(Name(token.name)),
-            },
+            written_type(alloc, token.at, TyForm::Named(Name(token.name)))?,
             rest,
         ));
     }

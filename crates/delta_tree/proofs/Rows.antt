@@ -16,7 +16,7 @@ use Rattle.delta_tree.specs.Tree.{hist_of, expression_form_of, head_form_of, row
 -- what a row of trees stands for, tree by tree
 row_of-list : (m : Count) (k : Row_of-Exp m) → row_of k ≡ expressions_of (items-the_row-Exp m k)
 row_of-list m end_of-Exp = refl
-row_of-list m (more_of-Exp i e k) = cc (row_of-list _ k)
+row_of-list m (more_of-Exp i p e k) = cc (row_of-list _ k)
 
 -- what a list's trees stand for
 pub row_of-hidden : (v : Vec Exp Global) → row_of (hidden-the_row-Exp-0 v) ≡ expressions_of v.items

@@ -27,14 +27,14 @@ type_form_of at types.Eps = eps_written at
 type_form_of at types.One = one_written at
 type_form_of at types.Int = int_written at
 type_form_of at (types.Named x) = named_written at x.0
-type_form_of at (types.Cat' p k a q l b) = cat_written at (type_form_of k a) (type_form_of l b)
-type_form_of at (types.Par' p k a q l b) = par_written at (type_form_of k a) (type_form_of l b)
-type_form_of at (types.Sum' p k a q l b) = sum_written at (type_form_of k a) (type_form_of l b)
-type_form_of at (types.Star' p k a) = star_written at (type_form_of k a)
+type_form_of at (types.Cat' k p a l q b) = cat_written at (type_form_of k a) (type_form_of l b)
+type_form_of at (types.Par' k p a l q b) = par_written at (type_form_of k a) (type_form_of l b)
+type_form_of at (types.Sum' k p a l q b) = sum_written at (type_form_of k a) (type_form_of l b)
+type_form_of at (types.Star' k p a) = star_written at (type_form_of k a)
 
 -- the written type that a tree of the program stands for
 abbrev pub type_tree_of : TyExp → WrittenType
-type_tree_of t = type_form_of t.at t.form
+type_tree_of t = type_form_of t.at t.form.value
 
 -- the parameters that a tree of the program stands for
 abbrev pub context_of : Ctx → WrittenContext
@@ -54,24 +54,24 @@ abbrev mutual
   expression_form_of at forms.Eps = eps_at at
   expression_form_of at forms.Unit = unit_at at
   expression_form_of at (forms.Past m) = hist_at at (hist_of m)
-  expression_form_of at (forms.Par' p i a q j b) = par_at at (expression_form_of i a) (expression_form_of j b)
-  expression_form_of at (forms.Cat' p i a q j b) = cat_at at (expression_form_of i a) (expression_form_of j b)
-  expression_form_of at (forms.Inl' p i a) = inl_at at (expression_form_of i a)
-  expression_form_of at (forms.Inr' p i a) = inr_at at (expression_form_of i a)
+  expression_form_of at (forms.Par' i p a j q b) = par_at at (expression_form_of i a) (expression_form_of j b)
+  expression_form_of at (forms.Cat' i p a j q b) = cat_at at (expression_form_of i a) (expression_form_of j b)
+  expression_form_of at (forms.Inl' i p a) = inl_at at (expression_form_of i a)
+  expression_form_of at (forms.Inr' i p a) = inr_at at (expression_form_of i a)
   expression_form_of at forms.Nil = nil_at at
-  expression_form_of at (forms.Cons' p i a q j b) = cons_at at (expression_form_of i a) (expression_form_of j b)
-  expression_form_of at (forms.Asc' p i a t) = typed_at at (expression_form_of i a) (type_tree_of t)
-  expression_form_of at (forms.Let' x k h p i e) = let_at at x.0 (head_form_of k h) (expression_form_of i e)
-  expression_form_of at (forms.LetPar' x y k h p i e) =
+  expression_form_of at (forms.Cons' i p a j q b) = cons_at at (expression_form_of i a) (expression_form_of j b)
+  expression_form_of at (forms.Asc' i p a t) = typed_at at (expression_form_of i a) (type_tree_of t)
+  expression_form_of at (forms.Let' x k r h i p e) = let_at at x.0 (head_form_of k h) (expression_form_of i e)
+  expression_form_of at (forms.LetPar' x y k r h i p e) =
       let_par_at at x.0 y.0 (head_form_of k h) (expression_form_of i e)
-  expression_form_of at (forms.LetCat' x y k h p i e) =
+  expression_form_of at (forms.LetCat' x y k r h i p e) =
       let_cat_at at x.0 y.0 (head_form_of k h) (expression_form_of i e)
-  expression_form_of at (forms.CaseSum' k h x p i a y q j b) =
+  expression_form_of at (forms.CaseSum' k r h x i p a y j q b) =
       case_sum_at at (head_form_of k h) x.0 (expression_form_of i a) y.0 (expression_form_of j b)
-  expression_form_of at (forms.CaseStar' k h p i a y ys q j b) =
+  expression_form_of at (forms.CaseStar' k r h i p a y ys j q b) =
       case_star_at at (head_form_of k h) (expression_form_of i a) y.0 ys.0 (expression_form_of j b)
-  expression_form_of at (forms.Wait' x p i e) = wait_at at x.0 (expression_form_of i e)
-  expression_form_of at (forms.If' m p i a q j b) =
+  expression_form_of at (forms.Wait' x i p e) = wait_at at x.0 (expression_form_of i e)
+  expression_form_of at (forms.If' m i p a j q b) =
       if_at at (hist_of m) (expression_form_of i a) (expression_form_of j b)
   expression_form_of at (forms.Call' f ms shape es) = call_at at f.0 (map hist_of ms.items) (row_of es)
 
@@ -79,20 +79,20 @@ abbrev mutual
   pub head_form_of : ℕ → HeadForm → Head
   head_form_of at (heads.Var x) = name_head at x.0
   head_form_of at (heads.Call' f ms shape es) = call_head at f.0 (map hist_of ms.items) (row_of es)
-  head_form_of at (heads.Asc' p i a t) = typed_head at (expression_form_of i a) (type_tree_of t)
+  head_form_of at (heads.Asc' i p a t) = typed_head at (expression_form_of i a) (type_tree_of t)
 
   -- the expressions that a row of trees of the program stands for
   pub row_of : {m : _} → Row_of-Exp m → Expressions
   row_of end_of-Exp = no_expressions
-  row_of (more_of-Exp i e rest) = expression_before (expression_form_of i e) (row_of rest)
+  row_of (more_of-Exp i p e rest) = expression_before (expression_form_of i e) (row_of rest)
 
 -- the expression that a tree of the program stands for
 abbrev pub expression_of : Exp → Expression
-expression_of e = expression_form_of e.at e.form
+expression_of e = expression_form_of e.at e.form.value
 
 -- the head that a tree of the program stands for
 abbrev pub head_of : RustHead → Head
-head_of h = head_form_of h.at h.form
+head_of h = head_form_of h.at h.form.value
 
 -- the expressions that trees of the program stand for, in turn
 abbrev pub expressions_of : List Exp → Expressions

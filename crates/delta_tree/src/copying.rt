@@ -15,6 +15,7 @@ pub fn copy_type_exp(alloc: Global, t: &TyExp) -> Result<TyExp, Memory>
     ensures { IfOk result (λ r. type_tree_of r ≡ type_tree_of t.now) }
 {
     let form = copy_form(alloc, &t.form)?;
+    let form = Box::new(alloc, form)?;
     Ok(TyExp { at: t.at, form })
 }
 
@@ -27,18 +28,11 @@ fn copy_form(alloc: Global, form: &TyForm) -> Result<TyForm, Memory>
         TyForm::One => Ok(TyForm::One),
         TyForm::Int => Ok(TyForm::Int),
         TyForm::Named(x) => Ok(TyForm::Named(*x)),
-        TyForm::Cat(a, b) => Ok(TyForm::Cat(boxed(alloc, a)?, boxed(alloc, b)?)),
-        TyForm::Par(a, b) => Ok(TyForm::Par(boxed(alloc, a)?, boxed(alloc, b)?)),
-        TyForm::Sum(a, b) => Ok(TyForm::Sum(boxed(alloc, a)?, boxed(alloc, b)?)),
-        TyForm::Star(a) => Ok(TyForm::Star(boxed(alloc, a)?)),
+        TyForm::Cat(a, b) => Ok(TyForm::Cat(copy_type_exp(alloc, a)?, copy_type_exp(alloc, b)?)),
+        TyForm::Par(a, b) => Ok(TyForm::Par(copy_type_exp(alloc, a)?, copy_type_exp(alloc, b)?)),
+        TyForm::Sum(a, b) => Ok(TyForm::Sum(copy_type_exp(alloc, a)?, copy_type_exp(alloc, b)?)),
+        TyForm::Star(a) => Ok(TyForm::Star(copy_type_exp(alloc, a)?)),
     }
-}
-
-#[cycle(copy)]
-fn boxed(alloc: Global, t: &TyExp) -> Result<Box<TyExp>, Memory>
-    ensures { IfOk result (λ r. type_tree_of r.value ≡ type_tree_of t.now) }
-{
-    Ok(Box::new(alloc, copy_type_exp(alloc, t)?)?)
 }
 
 /// An equal historical expression, at the same place. Its only error is want of memory.

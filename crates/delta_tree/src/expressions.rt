@@ -23,7 +23,7 @@ pub struct Exp {
     /// round it does not.
     pub at: u32,
     /// What is written there.
-    pub form: Form,
+    pub form: Box<Form>,
 }
 
 /// What an expression is.
@@ -39,36 +39,36 @@ pub enum Form {
     /// `{m}`: the value of a historical expression.
     Past(Hist),
     /// `(e, f)`: both at once.
-    Par(Box<Exp>, Box<Exp>),
+    Par(Exp, Exp),
     /// `(e; f)`: the first, then the second.
-    Cat(Box<Exp>, Box<Exp>),
+    Cat(Exp, Exp),
     /// `inl(e)`: the first of two types.
-    Inl(Box<Exp>),
+    Inl(Exp),
     /// `inr(e)`: the second of two types.
-    Inr(Box<Exp>),
+    Inr(Exp),
     /// `nil`: the star that is over.
     Nil,
     /// `e :: f`: one item, then the rest of a star.
-    Cons(Box<Exp>, Box<Exp>),
+    Cons(Exp, Exp),
     /// `(e : s)`: an expression and its type.
-    Asc(Box<Exp>, TyExp),
+    Asc(Exp, TyExp),
     /// `let x = h in e`.
-    Let(Name, Head, Box<Exp>),
+    Let(Name, Head, Exp),
     /// `let (x, y) = h in e`: the two that come at once.
-    LetPar(Name, Name, Head, Box<Exp>),
+    LetPar(Name, Name, Head, Exp),
     /// `let (x; y) = h in e`: the two that come one after the other.
-    LetCat(Name, Name, Head, Box<Exp>),
+    LetCat(Name, Name, Head, Exp),
     /// `case h of { inl x => e | inr y => f }`: by the side of a sum, the first side's name and
     /// expression, then the second's.
-    CaseSum(Head, Name, Box<Exp>, Name, Box<Exp>),
+    CaseSum(Head, Name, Exp, Name, Exp),
     /// `case h of { nil => e | y :: ys => f }`: the expression where a star is over, then the names of
     /// the item and of the rest, and the expression where it is not.
-    CaseStar(Head, Box<Exp>, Name, Name, Box<Exp>),
+    CaseStar(Head, Exp, Name, Name, Exp),
     /// `wait x in e`: the name is historical in the expression.
-    Wait(Name, Box<Exp>),
+    Wait(Name, Exp),
     /// `if m then e else f`: the first where the value of the historical expression is of the first
     /// type of a sum, and else the second.
-    If(Hist, Box<Exp>, Box<Exp>),
+    If(Hist, Exp, Exp),
     /// `f{m, n}(e, g)`: a call of a function, its name, its historical arguments and its stream
     /// arguments.
     Call(Name, Vec<Hist>, Vec<Exp>),
@@ -81,7 +81,7 @@ pub struct Head {
     /// The byte place of its first token.
     pub at: u32,
     /// What is written there.
-    pub form: HeadForm,
+    pub form: Box<HeadForm>,
 }
 
 /// What a head is.
@@ -94,5 +94,5 @@ pub enum HeadForm {
     /// arguments.
     Call(Name, Vec<Hist>, Vec<Exp>),
     /// `(e : s)`: an expression and its type.
-    Asc(Box<Exp>, TyExp),
+    Asc(Exp, TyExp),
 }

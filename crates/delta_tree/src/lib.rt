@@ -5,6 +5,7 @@
 mod contexts;
 mod copying;
 mod expressions;
+mod placing;
 mod programs;
 #[cfg(test)]
 mod tests;
@@ -13,5 +14,6 @@ mod types;
 pub use contexts::Ctx;
 pub use copying::{copy_hist, copy_type_exp};
 pub use expressions::{Exp, Form, Head, HeadForm, Hist};
+pub use placing::{expression, head, written_type};
 pub use programs::{Alias, Decl, Fun, Program};
 pub use types::{TyExp, TyForm};

@@ -5,18 +5,16 @@
 
 use crate::{
     Alias, Ctx, Decl, Exp, Form, Fun, Hist, Program, TyExp, TyForm, copy_hist, copy_type_exp,
+    expression, written_type,
 };
 use bunch::Name;
 use hist_value::{Expr, Op};
-use std::alloc::Global;
+use std::alloc::{AllocError, Global};
 use std::test::Fail;
 use stream_type::Memory;
 
-fn int(at: u32) -> TyExp {
-    TyExp {
-        at,
-        form: TyForm::Int,
-    }
+fn int(alloc: Global, at: u32) -> Result<TyExp, AllocError> {
+    written_type(alloc, at, TyForm::Int)
 }
 
 fn one_more(alloc: Global) -> Result<Hist, Memory> {
@@ -29,10 +27,7 @@ fn one_more(alloc: Global) -> Result<Hist, Memory> {
 }
 
 fn alias(alloc: Global) -> Result<Alias, Memory> {
-    let ty = TyExp {
-        at: 12,
-        form: TyForm::Star(Box::new(alloc, int(12))?),
-    };
+    let ty = written_type(alloc, 12, TyForm::Star(int(alloc, 12)?))?;
     Ok(Alias {
         name: Name(0),
         ty,
@@ -42,22 +37,16 @@ fn alias(alloc: Global) -> Result<Alias, Memory> {
 
 fn add(alloc: Global) -> Result<Fun, Memory> {
     let mut past = Vec::new(alloc);
-    past.push((Name(2), int(29)))?;
-    let x = Box::new(alloc, Ctx::Leaf(Name(3), int(38)))?;
-    let nums = TyExp {
-        at: 47,
-        form: TyForm::Named(Name(0)),
-    };
+    past.push((Name(2), int(alloc, 29)?))?;
+    let x = Box::new(alloc, Ctx::Leaf(Name(3), int(alloc, 38)?))?;
+    let nums = written_type(alloc, 47, TyForm::Named(Name(0)))?;
     let y = Box::new(alloc, Ctx::Leaf(Name(4), nums))?;
-    let body = Exp {
-        at: 61,
-        form: Form::Past(one_more(alloc)?),
-    };
+    let body = expression(alloc, 61, Form::Past(one_more(alloc)?))?;
     Ok(Fun {
         name: Name(1),
         past,
         ctx: Ctx::Comma(x, y),
-        result: int(55),
+        result: int(alloc, 55)?,
         body,
         at: 17,
     })
@@ -70,18 +59,9 @@ fn call(alloc: Global) -> Result<Exp, Memory> {
         expr: Expr::Lit(2),
     })?;
     let mut streams = Vec::new(alloc);
-    streams.push(Exp {
-        at: 98,
-        form: Form::Var(Name(5)),
-    })?;
-    streams.push(Exp {
-        at: 101,
-        form: Form::Nil,
-    })?;
-    Ok(Exp {
-        at: 91,
-        form: Form::Call(Name(1), numbers, streams),
-    })
+    streams.push(expression(alloc, 98, Form::Var(Name(5)))?)?;
+    streams.push(expression(alloc, 101, Form::Nil)?)?;
+    Ok(expression(alloc, 91, Form::Call(Name(1), numbers, streams))?)
 }
 
 fn program(alloc: Global) -> Result<Program, Memory> {
@@ -92,14 +72,14 @@ fn program(alloc: Global) -> Result<Program, Memory> {
     let mut decls = Vec::new(alloc);
     decls.push(Decl::Alias(alias(alloc)?))?;
     decls.push(Decl::Fun(add(alloc)?))?;
-    let ctx = Ctx::Leaf(Name(5), int(78));
+    let ctx = Ctx::Leaf(Name(5), int(alloc, 78)?);
     let past = Vec::new(alloc);
     let body = call(alloc)?;
     let main = Fun {
         name: Name(6),
         past,
         ctx,
-        result: int(85),
+        result: int(alloc, 85)?,
         body,
         at: 69,
     };
@@ -113,18 +93,20 @@ fn a_program_has_its_parts(rt: HostRuntime) -> Result<(), Fail> {
     assert_eq!(rt; program.names.len(), 6);
     assert_eq!(rt; program.main.name.0, 6);
     match program.decls.first() {
-        Some(Decl::Alias(a)) => assert!(rt; a.name.0 == 0 && matches!(&a.ty.form, TyForm::Star(_))),
+        Some(Decl::Alias(a)) => assert!(rt;
+            a.name.0 == 0 && matches!(&*a.ty.form, TyForm::Star(_))
+        ),
         _ => assert!(rt; false, "an alias"),
     }
     match program.decls.last() {
         Some(Decl::Fun(f)) => assert!(rt; f.past.len() == 1 && matches!(&f.ctx, Ctx::Comma(_, _))),
         _ => assert!(rt; false, "a function"),
     }
-    match &program.main.body.form {
+    match &*program.main.body.form {
         Form::Call(f, numbers, streams) => {
             assert!(rt; f.0 == 1 && numbers.len() == 1 && streams.len() == 2);
             match streams.last() {
-                Some(last) => assert!(rt; last.at == 101 && matches!(&last.form, Form::Nil)),
+                Some(last) => assert!(rt; last.at == 101 && matches!(&*last.form, Form::Nil)),
                 None => assert!(rt; false, "two arguments"),
             }
         }
@@ -136,24 +118,15 @@ fn a_program_has_its_parts(rt: HostRuntime) -> Result<(), Fail> {
 #[test]
 fn a_copy_of_a_type_is_equal(rt: HostRuntime) -> Result<(), Fail> {
     let alloc = rt.alloc();
-    let a = Box::new(
-        alloc,
-        TyExp {
-            at: 6,
-            form: TyForm::Named(Name(7)),
-        },
-    )?;
-    let b = Box::new(alloc, int(10))?;
-    let both = TyExp {
-        at: 6,
-        form: TyForm::Cat(a, b),
-    };
+    let a = written_type(alloc, 6, TyForm::Named(Name(7)))?;
+    let b = int(alloc, 10)?;
+    let both = written_type(alloc, 6, TyForm::Cat(a, b))?;
     let copied = copy_type_exp(alloc, &both)?;
     assert_eq!(rt; copied.at, 6);
-    match &copied.form {
+    match &*copied.form {
         TyForm::Cat(a, b) => {
-            assert!(rt; a.at == 6 && matches!(&a.form, TyForm::Named(x) if x.0 == 7));
-            assert!(rt; b.at == 10 && matches!(&b.form, TyForm::Int));
+            assert!(rt; a.at == 6 && matches!(&*a.form, TyForm::Named(x) if x.0 == 7));
+            assert!(rt; b.at == 10 && matches!(&*b.form, TyForm::Int));
         }
         _ => assert!(rt; false, "one after the other"),
     }

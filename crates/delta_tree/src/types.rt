@@ -9,7 +9,7 @@ pub struct TyExp {
     /// The byte place of its first token.
     pub at: u32,
     /// What is written there.
-    pub form: TyForm,
+    pub form: Box<TyForm>,
 }
 
 /// What a written type is.
@@ -25,11 +25,11 @@ pub enum TyForm {
     /// The type that was declared with this name.
     Named(Name),
     /// `s . t`: the whole of the first, then the second.
-    Cat(Box<TyExp>, Box<TyExp>),
+    Cat(TyExp, TyExp),
     /// `s || t`: both at once.
-    Par(Box<TyExp>, Box<TyExp>),
+    Par(TyExp, TyExp),
     /// `s + t`: one of the two.
-    Sum(Box<TyExp>, Box<TyExp>),
+    Sum(TyExp, TyExp),
     /// `s*`: any number of them.
-    Star(Box<TyExp>),
+    Star(TyExp),
 }

@@ -2,9 +2,9 @@
 
 ghost use Rattle.std.specs.Prelude.{◌≡◌, IfOk, IfErr, IfSome, None, option_map};
 ghost use Rattle.hist_value.specs.Environment.{types_of};
-ghost use Rattle.hist_value.specs.HistExpr.{expr_of};
+ghost use Rattle.hist_value.specs.HistExpr.{expr_of, reckoned, pair_expr, first_expr, second_expr, left_expr, right_expr, choice, cons_expr, fold_expr};
 ghost use Rattle.hist_value.specs.HistType.{hist_type_of, same_type, pair_type, sum_type, list_type};
-ghost use Rattle.hist_value.specs.Judge.{judge, good, bad, found};
+ghost use Rattle.hist_value.specs.Judge.{judge, good, bad, found, of_list};
 ghost use Rattle.hist_value.specs.Refusal.{refusal_of, mismatch};
 ghost use Rattle.hist_value.specs.Scope.{types_in};
 ghost use Rattle.hist_value.specs.Typing.{type_of_op};
@@ -48,100 +48,236 @@ fn type_in<'a>(
         Expr::Var(x) => found(alloc, type_at(alloc, scope, *x)?, wanted),
         Expr::Lit(_) => found(alloc, HTy::Int, wanted),
         Expr::Unit => found(alloc, HTy::Unit, wanted),
-        Expr::Bin(op, a, b) => {
-            let t = found(alloc, type_of_op(alloc, *op)?, wanted)?;
-            type_in(alloc, a, scope, Some(&HTy::Int))?;
-            type_in(alloc, b, scope, Some(&HTy::Int))?;
-            Ok(t)
+        Expr::Bin(op, a, b) => reckoned_in(alloc, *op, a, b, scope, wanted),
+        Expr::Pair(a, b) => pair_in(alloc, a, b, scope, wanted),
+        Expr::Fst(a) => first_in(alloc, a, scope, wanted),
+        Expr::Snd(a) => second_in(alloc, a, scope, wanted),
+        Expr::Inl(a) => left_in(alloc, a, scope, wanted),
+        Expr::Inr(a) => right_in(alloc, a, scope, wanted),
+        Expr::Choose(a, x, b, y, c) => choice_in(alloc, a, *x, b, *y, c, scope, wanted),
+        Expr::Nil => nil_of(alloc, wanted),
+        Expr::Cons(a, b) => cons_in(alloc, a, b, scope, wanted),
+        Expr::Fold(a, s, x, y, b) => fold_in(alloc, a, s, *x, *y, b, scope, wanted),
+    }
+}
+
+// The type of what is reckoned with two numbers.
+#[cycle(type_of)]
+fn reckoned_in<'a>(
+    alloc: Global,
+    op: Op,
+    a: &Expr,
+    b: &Expr,
+    scope: &'a TypeScope<'a>,
+    wanted: Option<&HTy>,
+) -> Result<HTy, HistFault>
+    ensures ok { IfOk result (λ t. judge (types_in scope.now) (reckoned op (expr_of a.now) (expr_of b.now)) (option_map (λ w. hist_type_of w.now) wanted.entry) ≡ good (hist_type_of t)) }
+    ensures refused { IfErr result (λ f. IfSome (refusal_of f) (λ r. judge (types_in scope.now) (reckoned op (expr_of a.now) (expr_of b.now)) (option_map (λ w. hist_type_of w.now) wanted.entry) ≡ bad r)) }
+{
+    let t = found(alloc, type_of_op(alloc, op)?, wanted)?;
+    type_in(alloc, a, scope, Some(&HTy::Int))?;
+    type_in(alloc, b, scope, Some(&HTy::Int))?;
+    Ok(t)
+}
+
+// The type of a pair.
+#[cycle(type_of)]
+fn pair_in<'a>(
+    alloc: Global,
+    a: &Expr,
+    b: &Expr,
+    scope: &'a TypeScope<'a>,
+    wanted: Option<&HTy>,
+) -> Result<HTy, HistFault>
+    ensures ok { IfOk result (λ t. judge (types_in scope.now) (pair_expr (expr_of a.now) (expr_of b.now)) (option_map (λ w. hist_type_of w.now) wanted.entry) ≡ good (hist_type_of t)) }
+    ensures refused { IfErr result (λ f. IfSome (refusal_of f) (λ r. judge (types_in scope.now) (pair_expr (expr_of a.now) (expr_of b.now)) (option_map (λ w. hist_type_of w.now) wanted.entry) ≡ bad r)) }
+{
+    match wanted {
+        None => {
+            let s = type_in(alloc, a, scope, None)?;
+            Ok(pair(alloc, s, type_in(alloc, b, scope, None)?)?)
         }
-        Expr::Pair(a, b) => match wanted {
-            None => {
-                let s = type_in(alloc, a, scope, None)?;
-                Ok(pair(alloc, s, type_in(alloc, b, scope, None)?)?)
-            }
-            Some(HTy::Pair(s, t)) => {
-                let s = type_in(alloc, a, scope, Some(s))?;
-                Ok(pair(alloc, s, type_in(alloc, b, scope, Some(t))?)?)
-            }
-            Some(HTy::Unit | HTy::Int | HTy::Sum(_, _) | HTy::List(_)) => off_form(alloc, wanted),
-        },
-        Expr::Fst(a) => match type_in(alloc, a, scope, None)? {
-            HTy::Pair(s, _) => found(alloc, Box::into_inner(s), wanted),
-            t => Err(HistFault::Mismatch {
-                wanted: None,
-                found: Some(t),
-            }),
-        },
-        Expr::Snd(a) => match type_in(alloc, a, scope, None)? {
-            HTy::Pair(_, t) => found(alloc, Box::into_inner(t), wanted),
-            t => Err(HistFault::Mismatch {
-                wanted: None,
-                found: Some(t),
-            }),
-        },
-        Expr::Inl(a) => match wanted {
-            None => Err(HistFault::NeedsType),
-            Some(HTy::Sum(s, t)) => {
-                let s = type_in(alloc, a, scope, Some(s))?;
-                Ok(sum(alloc, s, copy_type(alloc, t)?)?)
-            }
-            Some(HTy::Unit | HTy::Int | HTy::Pair(_, _) | HTy::List(_)) => off_form(alloc, wanted),
-        },
-        Expr::Inr(a) => match wanted {
-            None => Err(HistFault::NeedsType),
-            Some(HTy::Sum(s, t)) => {
-                let t = type_in(alloc, a, scope, Some(t))?;
-                Ok(sum(alloc, copy_type(alloc, s)?, t)?)
-            }
-            Some(HTy::Unit | HTy::Int | HTy::Pair(_, _) | HTy::List(_)) => off_form(alloc, wanted),
-        },
-        Expr::Choose(a, x, b, y, c) => {
-            let subject = type_in(alloc, a, scope, None)?;
-            match &subject {
-                HTy::Sum(s, t) => {
-                    let r = type_in(alloc, b, &TypeScope::Bound(*x, s, &*scope), wanted)?;
-                    type_in(alloc, c, &TypeScope::Bound(*y, t, &*scope), Some(&r))
-                }
-                _ => Err(HistFault::Mismatch {
-                    wanted: None,
-                    found: Some(subject),
-                }),
-            }
+        Some(HTy::Pair(s, t)) => {
+            let s = type_in(alloc, a, scope, Some(s))?;
+            Ok(pair(alloc, s, type_in(alloc, b, scope, Some(t))?)?)
         }
-        Expr::Nil => match wanted {
-            None => Err(HistFault::NeedsType),
-            Some(HTy::List(s)) => Ok(list(alloc, copy_type(alloc, s)?)?),
-            Some(HTy::Unit | HTy::Int | HTy::Pair(_, _) | HTy::Sum(_, _)) => {
-                off_form(alloc, wanted)
-            }
-        },
-        Expr::Cons(a, b) => match wanted {
-            None => {
-                let items = list(alloc, type_in(alloc, a, scope, None)?)?;
-                type_in(alloc, b, scope, Some(&items))
-            }
-            Some(HTy::List(s)) => {
-                let items = list(alloc, type_in(alloc, a, scope, Some(s))?)?;
-                type_in(alloc, b, scope, Some(&items))
-            }
-            Some(HTy::Unit | HTy::Int | HTy::Pair(_, _) | HTy::Sum(_, _)) => {
-                off_form(alloc, wanted)
-            }
-        },
-        Expr::Fold(a, s, x, y, b) => {
-            let list = type_in(alloc, a, scope, None)?;
-            match &list {
-                HTy::List(item) => {
-                    let r = type_in(alloc, s, scope, wanted)?;
-                    let inner = TypeScope::Bound(*x, &r, &*scope);
-                    type_in(alloc, b, &TypeScope::Bound(*y, item, &inner), Some(&r))
-                }
-                _ => Err(HistFault::Mismatch {
-                    wanted: None,
-                    found: Some(list),
-                }),
-            }
+        Some(HTy::Unit | HTy::Int | HTy::Sum(_, _) | HTy::List(_)) => off_form(alloc, wanted),
+    }
+}
+
+// The type of a pair's first part.
+#[cycle(type_of)]
+fn first_in<'a>(
+    alloc: Global,
+    a: &Expr,
+    scope: &'a TypeScope<'a>,
+    wanted: Option<&HTy>,
+) -> Result<HTy, HistFault>
+    ensures ok { IfOk result (λ t. judge (types_in scope.now) (first_expr (expr_of a.now)) (option_map (λ w. hist_type_of w.now) wanted.entry) ≡ good (hist_type_of t)) }
+    ensures refused { IfErr result (λ f. IfSome (refusal_of f) (λ r. judge (types_in scope.now) (first_expr (expr_of a.now)) (option_map (λ w. hist_type_of w.now) wanted.entry) ≡ bad r)) }
+{
+    match type_in(alloc, a, scope, None)? {
+        HTy::Pair(s, _) => found(alloc, Box::into_inner(s), wanted),
+        t => Err(HistFault::Mismatch {
+            wanted: None,
+            found: Some(t),
+        }),
+    }
+}
+
+// The type of a pair's second part.
+#[cycle(type_of)]
+fn second_in<'a>(
+    alloc: Global,
+    a: &Expr,
+    scope: &'a TypeScope<'a>,
+    wanted: Option<&HTy>,
+) -> Result<HTy, HistFault>
+    ensures ok { IfOk result (λ t. judge (types_in scope.now) (second_expr (expr_of a.now)) (option_map (λ w. hist_type_of w.now) wanted.entry) ≡ good (hist_type_of t)) }
+    ensures refused { IfErr result (λ f. IfSome (refusal_of f) (λ r. judge (types_in scope.now) (second_expr (expr_of a.now)) (option_map (λ w. hist_type_of w.now) wanted.entry) ≡ bad r)) }
+{
+    match type_in(alloc, a, scope, None)? {
+        HTy::Pair(_, t) => found(alloc, Box::into_inner(t), wanted),
+        t => Err(HistFault::Mismatch {
+            wanted: None,
+            found: Some(t),
+        }),
+    }
+}
+
+// The type of a value of a sum's first type.
+#[cycle(type_of)]
+fn left_in<'a>(
+    alloc: Global,
+    a: &Expr,
+    scope: &'a TypeScope<'a>,
+    wanted: Option<&HTy>,
+) -> Result<HTy, HistFault>
+    ensures ok { IfOk result (λ t. judge (types_in scope.now) (left_expr (expr_of a.now)) (option_map (λ w. hist_type_of w.now) wanted.entry) ≡ good (hist_type_of t)) }
+    ensures refused { IfErr result (λ f. IfSome (refusal_of f) (λ r. judge (types_in scope.now) (left_expr (expr_of a.now)) (option_map (λ w. hist_type_of w.now) wanted.entry) ≡ bad r)) }
+{
+    match wanted {
+        None => Err(HistFault::NeedsType),
+        Some(HTy::Sum(s, t)) => {
+            let s = type_in(alloc, a, scope, Some(s))?;
+            Ok(sum(alloc, s, copy_type(alloc, t)?)?)
         }
+        Some(HTy::Unit | HTy::Int | HTy::Pair(_, _) | HTy::List(_)) => off_form(alloc, wanted),
+    }
+}
+
+// The type of a value of a sum's second type.
+#[cycle(type_of)]
+fn right_in<'a>(
+    alloc: Global,
+    a: &Expr,
+    scope: &'a TypeScope<'a>,
+    wanted: Option<&HTy>,
+) -> Result<HTy, HistFault>
+    ensures ok { IfOk result (λ t. judge (types_in scope.now) (right_expr (expr_of a.now)) (option_map (λ w. hist_type_of w.now) wanted.entry) ≡ good (hist_type_of t)) }
+    ensures refused { IfErr result (λ f. IfSome (refusal_of f) (λ r. judge (types_in scope.now) (right_expr (expr_of a.now)) (option_map (λ w. hist_type_of w.now) wanted.entry) ≡ bad r)) }
+{
+    match wanted {
+        None => Err(HistFault::NeedsType),
+        Some(HTy::Sum(s, t)) => {
+            let t = type_in(alloc, a, scope, Some(t))?;
+            Ok(sum(alloc, copy_type(alloc, s)?, t)?)
+        }
+        Some(HTy::Unit | HTy::Int | HTy::Pair(_, _) | HTy::List(_)) => off_form(alloc, wanted),
+    }
+}
+
+// The type of a choice: that of its first side, which the second has to have too.
+#[cycle(type_of)]
+fn choice_in<'a>(
+    alloc: Global,
+    a: &Expr,
+    x: Name,
+    b: &Expr,
+    y: Name,
+    c: &Expr,
+    scope: &'a TypeScope<'a>,
+    wanted: Option<&HTy>,
+) -> Result<HTy, HistFault>
+    ensures ok { IfOk result (λ t. judge (types_in scope.now) (choice (expr_of a.now) x.0 (expr_of b.now) y.0 (expr_of c.now)) (option_map (λ w. hist_type_of w.now) wanted.entry) ≡ good (hist_type_of t)) }
+    ensures refused { IfErr result (λ f. IfSome (refusal_of f) (λ r. judge (types_in scope.now) (choice (expr_of a.now) x.0 (expr_of b.now) y.0 (expr_of c.now)) (option_map (λ w. hist_type_of w.now) wanted.entry) ≡ bad r)) }
+{
+    let subject = type_in(alloc, a, scope, None)?;
+    match &subject {
+        HTy::Sum(s, t) => {
+            let r = type_in(alloc, b, &TypeScope::Bound(x, s, &*scope), wanted)?;
+            type_in(alloc, c, &TypeScope::Bound(y, t, &*scope), Some(&r))
+        }
+        _ => Err(HistFault::Mismatch {
+            wanted: None,
+            found: Some(subject),
+        }),
+    }
+}
+
+// The type of the list with no item.
+fn nil_of(alloc: Global, wanted: Option<&HTy>) -> Result<HTy, HistFault>
+    ensures ok { IfOk result (λ t. of_list (option_map (λ w. hist_type_of w.now) wanted.entry) (λ s. good (list_type s)) ≡ good (hist_type_of t)) }
+    ensures refused { IfErr result (λ f. IfSome (refusal_of f) (λ r. of_list (option_map (λ w. hist_type_of w.now) wanted.entry) (λ s. good (list_type s)) ≡ bad r)) }
+{
+    match wanted {
+        None => Err(HistFault::NeedsType),
+        Some(HTy::List(s)) => Ok(list(alloc, copy_type(alloc, s)?)?),
+        Some(HTy::Unit | HTy::Int | HTy::Pair(_, _) | HTy::Sum(_, _)) => off_form(alloc, wanted),
+    }
+}
+
+// The type of an item in front of a list.
+#[cycle(type_of)]
+fn cons_in<'a>(
+    alloc: Global,
+    a: &Expr,
+    b: &Expr,
+    scope: &'a TypeScope<'a>,
+    wanted: Option<&HTy>,
+) -> Result<HTy, HistFault>
+    ensures ok { IfOk result (λ t. judge (types_in scope.now) (cons_expr (expr_of a.now) (expr_of b.now)) (option_map (λ w. hist_type_of w.now) wanted.entry) ≡ good (hist_type_of t)) }
+    ensures refused { IfErr result (λ f. IfSome (refusal_of f) (λ r. judge (types_in scope.now) (cons_expr (expr_of a.now) (expr_of b.now)) (option_map (λ w. hist_type_of w.now) wanted.entry) ≡ bad r)) }
+{
+    match wanted {
+        None => {
+            let items = list(alloc, type_in(alloc, a, scope, None)?)?;
+            type_in(alloc, b, scope, Some(&items))
+        }
+        Some(HTy::List(s)) => {
+            let items = list(alloc, type_in(alloc, a, scope, Some(s))?)?;
+            type_in(alloc, b, scope, Some(&items))
+        }
+        Some(HTy::Unit | HTy::Int | HTy::Pair(_, _) | HTy::Sum(_, _)) => off_form(alloc, wanted),
+    }
+}
+
+// The type of what is gathered from a list.
+#[cycle(type_of)]
+fn fold_in<'a>(
+    alloc: Global,
+    a: &Expr,
+    s: &Expr,
+    x: Name,
+    y: Name,
+    b: &Expr,
+    scope: &'a TypeScope<'a>,
+    wanted: Option<&HTy>,
+) -> Result<HTy, HistFault>
+    ensures ok { IfOk result (λ t. judge (types_in scope.now) (fold_expr (expr_of a.now) (expr_of s.now) x.0 y.0 (expr_of b.now)) (option_map (λ w. hist_type_of w.now) wanted.entry) ≡ good (hist_type_of t)) }
+    ensures refused { IfErr result (λ f. IfSome (refusal_of f) (λ r. judge (types_in scope.now) (fold_expr (expr_of a.now) (expr_of s.now) x.0 y.0 (expr_of b.now)) (option_map (λ w. hist_type_of w.now) wanted.entry) ≡ bad r)) }
+{
+    let list = type_in(alloc, a, scope, None)?;
+    match &list {
+        HTy::List(item) => {
+            let r = type_in(alloc, s, scope, wanted)?;
+            let inner = TypeScope::Bound(x, &r, &*scope);
+            type_in(alloc, b, &TypeScope::Bound(y, item, &inner), Some(&r))
+        }
+        _ => Err(HistFault::Mismatch {
+            wanted: None,
+            found: Some(list),
+        }),
     }
 }
 

@@ -41,14 +41,14 @@ read_more_expressions-returns-clause-given t c =
 pub read_head-returns-in-Some-clause-given : goal.read_head-returns-in-Some-clause-given
 read_head-returns-in-Some-clause-given t c =
     let s : starts (λ k. is_kind OpenBrace k || is_kind Open k) (plains c.in-Some.rest.now) ≡ true = cc c.if-not-starts_with_either.ensures.value in
-    called_head (plains c.args.tokens.now) (plains c.in-Some.rest.now) (plains c.in_ok-past.rest.now) (plain_of c.in-Some.name) (map hist_of c.in_ok-past.past.items) c.in_ok-past.streams
-    c.in-Some.ensures.some c.in-Some.ensures.kind s c.in_ok-past.ensures.given
+    rw c.in_ok-head-2.ensures (called_head (plains c.args.tokens.now) (plains c.in-Some.rest.now) (plains c.in_ok-past.rest.now) (plain_of c.in-Some.name) (map hist_of c.in_ok-past.past.items) c.in_ok-past.streams
+    c.in-Some.ensures.some c.in-Some.ensures.kind s c.in_ok-past.ensures.given)
 
 pub read_name-returns-clause-given : goal.read_name-returns-clause-given
 read_name-returns-clause-given t c =
     let s : starts (λ k. is_kind OpenBrace k || is_kind Open k) (plains c.in_ok-name.rest.now) ≡ true = cc c.if-not-starts_with_either.ensures.value in
-    called_name (plains c.args.tokens.now) (plains c.in_ok-name.rest.now) (plains c.in_ok-past.rest.now) (plain_of c.in_ok-name.name) (map hist_of c.in_ok-past.past.items) c.in_ok-past.streams
-    c.in_ok-name.ensures.given s c.in_ok-past.ensures.given
+    rw c.in_ok-expression-2.ensures (called_name (plains c.args.tokens.now) (plains c.in_ok-name.rest.now) (plains c.in_ok-past.rest.now) (plain_of c.in_ok-name.name) (map hist_of c.in_ok-past.past.items) c.in_ok-past.streams
+    c.in_ok-name.ensures.given s c.in_ok-past.ensures.given)
 
 pub read_head-returns-in_err-rest-2-clause-given :
     goal.read_head-returns-in_err-rest-2-clause-given

@@ -6,5 +6,5 @@ use Rattle.delta_parse.proofs.type_reader.+read_stars.Goals as goal
 pub returns-clause-given : goal.returns-clause-given
 returns-clause-given t c =
     let e = one_star c.args.at (type_tree_of c.args.so_far) (plains c.args.tokens.now) (plain_of c.in-Some._star) (plains c.in-Some.rest.now) c.in-Some.ensures.some c.in-Some.ensures.kind in
-    let g = (rw (c.in_ok-new.ensures.ok) at c.read_stars.ensures.given) in
+    let g = (rw c.in_ok-written_type.ensures at c.read_stars.ensures.given) in
     rw e g
