@@ -17,14 +17,14 @@ place_of_type-form at types.Eps = refl
 place_of_type-form at types.One = refl
 place_of_type-form at types.Int = refl
 place_of_type-form at (types.Named x) = refl
-place_of_type-form at (types.Cat' p k a q l b) = refl
-place_of_type-form at (types.Par' p k a q l b) = refl
-place_of_type-form at (types.Sum' p k a q l b) = refl
-place_of_type-form at (types.Star' p k a) = refl
+place_of_type-form at (types.Cat' k p a l q b) = refl
+place_of_type-form at (types.Par' k p a l q b) = refl
+place_of_type-form at (types.Sum' k p a l q b) = refl
+place_of_type-form at (types.Star' k p a) = refl
 
 -- a written type stands at its place
 pub place_of_type-tree : (t : TyExp) → place_of_type (type_tree_of t) ≡ t.at
-place_of_type-tree t = place_of_type-form t.at t.form
+place_of_type-tree t = place_of_type-form t.at t.form.value
 
 le-false : (a b : ℕ) → b < a → nat_le a b ≡ false
 le-false a b lt = go (nat_le a b) refl

@@ -49,7 +49,7 @@ pub fn core<'a>(
     ensures next { OnOk result (origins_of origins.new.items ≡ origins_of origins.old.items ++ new_in (expression_of e.now)) }
 {
     let at = e.at;
-    match &e.form {
+    match &*e.form {
         Form::Var(x) => Ok(node(at, Term::Var(number_of(scope, *x)))),
         Form::Eps => Ok(node(at, Term::Eps)),
         Form::Unit => Ok(node(at, Term::Unit)),
@@ -386,7 +386,7 @@ fn head<'a>(
     ensures places { IfOk result (λ n. places_of n ≡ head_places (head_of h.now)) }
     ensures next { OnOk result (origins_of origins.new.items ≡ origins_of origins.old.items ++ new_in_head (head_of h.now)) }
 {
-    match &h.form {
+    match &*h.form {
         HeadForm::Var(x) => Ok(node(h.at, Term::Var(number_of(scope, *x)))),
         HeadForm::Call(f, past, es) => call(alloc, setting, h.at, *f, past, es, scope, origins),
         HeadForm::Asc(e, t) => {
@@ -435,7 +435,7 @@ fn subject<'a>(
     ensures places { IfOk result (λ z. bound_places h.now.at z.bound ≡ subject_places (head_of h.now)) }
     ensures next { OnOk result (origins_of origins.new.items ≡ origins_of origins.old.items ++ new_in_subject (head_of h.now)) }
 {
-    match &h.form {
+    match &*h.form {
         HeadForm::Var(x) => Ok(Subject {
             name: number_of(scope, *x),
             bound: None,

@@ -40,7 +40,7 @@ pub fn head_type(
 ) -> Result<Ty, Memory>
     ensures { IfOk result (λ t. type_of t ≡ head_type_in setting.now scope.now (head_of h.now)) }
 {
-    match &h.form {
+    match &*h.form {
         HeadForm::Var(x) => match type_of_name(scope, *x) {
             None => Ok(Ty::Eps),
             Some(t) => copy(alloc, t),

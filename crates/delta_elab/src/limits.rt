@@ -29,7 +29,7 @@ pub fn type_known(known: &[(Name, Ty)], x: Name) -> Option<&Ty>
 pub fn is_low(known: &[(Name, Ty)], t: &TyExp, height: u32) -> bool
     ensures { result ≡ nat_le (height_of (type_meant (names_known known.now) (type_tree_of t.now))) height }
 {
-    match &t.form {
+    match &*t.form {
         TyForm::Eps | TyForm::One | TyForm::Int => height > 0,
         TyForm::Named(x) => match type_known(known, *x) {
             None => height > 0,
@@ -76,7 +76,7 @@ pub fn room_after(known: &[(Name, Ty)], t: &TyExp, room: u32) -> Option<u32>
     ensures left { IfSome result (λ left. left + size_of (type_meant (names_known known.now) (type_tree_of t.now)) ≡ room) }
     ensures none { IfNone result (room < size_of (type_meant (names_known known.now) (type_tree_of t.now))) }
 {
-    match &t.form {
+    match &*t.form {
         TyForm::Eps | TyForm::One | TyForm::Int => room.checked_sub(1),
         TyForm::Named(x) => match type_known(known, *x) {
             None => room.checked_sub(1),

@@ -36,7 +36,7 @@ pub fn check_expression<'a>(
 ) -> Result<(), ElabFault>
     ensures { Says result (faults_in (is_declared (map declaration_of known.now.decls.now)) (names_known known.now.types.now) (expression_of e.now) (bound_in bound.now)) }
 {
-    match &e.form {
+    match &*e.form {
         Form::Var(x) => check_name(*x, e.at, bound),
         Form::Eps | Form::Unit | Form::Nil => Ok(()),
         Form::Past(m) => check_history(m.at, &m.expr, bound),
@@ -90,7 +90,7 @@ pub fn check_expression<'a>(
 fn check_head<'a>(known: &Known<'_>, h: &Head, bound: &'a Bound<'a>) -> Result<(), ElabFault>
     ensures { Says result (head_faults (is_declared (map declaration_of known.now.decls.now)) (names_known known.now.types.now) (head_of h.now) (bound_in bound.now)) }
 {
-    match &h.form {
+    match &*h.form {
         HeadForm::Var(x) => check_name(*x, h.at, bound),
         HeadForm::Call(f, past, arguments) => {
             check_function(known, *f, h.at)?;

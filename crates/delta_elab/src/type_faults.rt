@@ -26,7 +26,7 @@ const NODES: u32 = 4096;
 fn check_names(known: &[(Name, Ty)], t: &TyExp) -> Result<(), ElabFault>
     ensures { Says result (unknown_types (names_known known.now) (type_tree_of t.now)) }
 {
-    match &t.form {
+    match &*t.form {
         TyForm::Eps | TyForm::One | TyForm::Int => Ok(()),
         TyForm::Named(x) => match type_known(known, *x) {
             None => Err(ElabFault::NoType(*x, t.at)),

@@ -59,7 +59,7 @@ pub fn evaluate<'a>(
     ensures counted { IfOk result (λ a. a.calls ≤ left) }
     ensures spent { IfErr result (λ s. s ≡ Stop.Spent → left < (run_at place.now scope.now (expression_of e.now) (type_of ty.now)).calls) }
 {
-    match &e.form {
+    match &*e.form {
         Form::Var(x) => Ok(quiet(stream_at(alloc, scope, *x)?)),
         Form::Eps => Ok(quiet(Prefix::EpsEmp)),
         Form::Unit => Ok(quiet(Prefix::OneFull)),
@@ -261,7 +261,7 @@ fn evaluate_bound<'a>(
     ensures counted { IfOk result (λ r. r.calls ≤ left) }
     ensures spent { IfErr result (λ r. r ≡ Stop.Spent → left < (run_after place.now scope.now (expression_of e.now) (type_of ty.now) (type_of s.now) (prefix_of p.now)).calls) }
 {
-    match &e.form {
+    match &*e.form {
         Form::Let(x, _, e) => {
             let inner = Scope::Stream(*x, s, p, &*scope);
             evaluate(alloc, place, &inner, e, ty, left)
@@ -360,7 +360,7 @@ fn evaluate_head<'a>(
     ensures counted { IfOk result (λ r. r.calls ≤ left) }
     ensures spent { IfErr result (λ r. r ≡ Stop.Spent → left < (head_run_at place.now scope.now (head_of h.now)).calls) }
 {
-    match &h.form {
+    match &*h.form {
         HeadForm::Var(x) => Ok(quiet(stream_at(alloc, scope, *x)?)),
         HeadForm::Call(f, ms, es) => evaluate_call(alloc, place, scope, *f, ms, es, left),
         HeadForm::Asc(e, t) => evaluate_at_type(alloc, place, scope, e, t, left),
@@ -486,7 +486,7 @@ fn first_param<'a>(params: &'a [(Name, Ty)], otherwise: &'a Ty) -> (&'a Ty, &'a 
 fn head_type(alloc: Global, place: &Place<'_>, scope: &Scope<'_>, h: &Head) -> Result<Ty, Memory>
     ensures { IfOk result (λ t. type_of t ≡ head_type (functions_at place.now) (names_known place.now.known.now) (head_of h.now) (types_in scope.now)) }
 {
-    match &h.form {
+    match &*h.form {
         HeadForm::Var(x) => type_at(alloc, scope, *x),
         HeadForm::Call(f, _, _) => match function_named(place.functions, *f) {
             Some(function) => stream_type::copy(alloc, &function.result),
@@ -498,7 +498,7 @@ fn head_type(alloc: Global, place: &Place<'_>, scope: &Scope<'_>, h: &Head) -> R
 
 // The value of a historical expression as a stream of the type.
 fn past_run(alloc: Global, scope: &Scope<'_>, m: &Hist, ty: &Ty) -> Result<Evaluated, Memory>
-    ensures { IfOk result (λ r. run_of r ≡ quiet (full (type_of ty.now) (value (expr_of m.now.expr) (past_in scope.now)))) }
+    ensures { IfOk result (λ r. run_of r ≡ quiet (full (type_of ty.now) (value (expr_of m.now.expr.value) (past_in scope.now)))) }
 {
     let v = value_in(alloc, scope, m)?;
     Ok(quiet(full(alloc, ty, &v)?))
@@ -519,7 +519,7 @@ fn waited(alloc: Global, scope: &Scope<'_>, x: Name) -> Result<Option<Value>, Me
 
 // Whether the value of a historical expression is one of the left side of a sum.
 fn is_left(alloc: Global, scope: &Scope<'_>, m: &Hist) -> Result<bool, Memory>
-    ensures { IfOk result (λ r. r ≡ is_left (value (expr_of m.now.expr) (past_in scope.now))) }
+    ensures { IfOk result (λ r. r ≡ is_left (value (expr_of m.now.expr.value) (past_in scope.now))) }
 {
     let v = value_in(alloc, scope, m)?;
     Ok(is_left_value(&v))
@@ -540,14 +540,14 @@ fn is_left_value(v: &Value) -> bool
 fn is_name(e: &Exp) -> bool
     ensures { result ≡ is_name (expression_of e.now) }
 {
-    matches!(&e.form, Form::Var(_))
+    matches!(&*e.form, Form::Var(_))
 }
 
 // Whether a head is a name, or a name with its type.
 fn is_name_head(h: &Head) -> bool
     ensures { result ≡ is_name_head (head_of h.now) }
 {
-    match &h.form {
+    match &*h.form {
         HeadForm::Var(_) => true,
         HeadForm::Call(_, _, _) => false,
         HeadForm::Asc(e, _) => is_name(e),

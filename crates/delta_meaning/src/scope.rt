@@ -123,7 +123,7 @@ fn stream_of_param(
 
 /// The value of a historical expression. Its only error is want of memory.
 pub fn value_in(alloc: Global, scope: &Scope<'_>, m: &Hist) -> Result<Value, Memory>
-    ensures { IfOk result (λ v. hist_value_of v ≡ value (expr_of m.now.expr) (past_in scope.now)) }
+    ensures { IfOk result (λ v. hist_value_of v ≡ value (expr_of m.now.expr.value) (past_in scope.now)) }
 {
     let entries = entries_in(alloc, scope)?;
     value(alloc, &m.expr, &entries)

@@ -13,7 +13,7 @@ use crate::cursor::{Halt, accept, accept_either, expect, place, starts_with};
 use crate::plain::Plain;
 use crate::terminal::Terminal;
 use bunch::Name;
-use delta_tree::Hist;
+use delta_tree::{Hist, historical};
 use hist_value::{Expr, Op};
 use std::alloc::Global;
 
@@ -49,10 +49,9 @@ pub fn read_history<'a>(alloc: Global, tokens: &'a [Plain]) -> Result<(Hist, &'a
         return Ok((head, rest));
     };
     let (tail, rest) = read_history(alloc, rest)?;
-    let head = Box::new(alloc, head.expr)?;
-    let expr = Expr::Cons(head, Box::new(alloc, tail.expr)?);
+    let expr = Expr::Cons(head, tail.expr);
     let at = place(tokens);
-    Ok((Hist { at, expr }, rest))
+    Ok((historical(alloc, at, expr)?, rest))
 }
 
 #[cycle(histories)]
@@ -71,11 +70,8 @@ fn read_fold<'a>(alloc: Global, tokens: &'a [Plain]) -> Result<(Hist, &'a [Plain
     let (item, rest) = expect(Terminal::NameToken, rest)?;
     let (_, rest) = expect(Terminal::Dot, rest)?;
     let (body, rest) = read_history(alloc, rest)?;
-    let list = Box::new(alloc, list.expr)?;
-    let start = Box::new(alloc, start.expr)?;
-    let body = Box::new(alloc, body.expr)?;
-    let expr = Expr::Fold(list, start, Name(so_far.name), Name(item.name), body);
-    Ok((Hist { at: word.at, expr }, rest))
+    let expr = Expr::Fold(list.expr, start.expr, Name(so_far.name), Name(item.name), body.expr);
+    Ok((historical(alloc, word.at, expr)?, rest))
 }
 
 #[cycle(histories)]
@@ -92,11 +88,8 @@ fn read_choice<'a>(alloc: Global, tokens: &'a [Plain]) -> Result<(Hist, &'a [Pla
     let (_, rest) = expect(Terminal::Bar, rest)?;
     let (y, right, rest) = read_branch(alloc, Terminal::InrWord, rest)?;
     let (_, rest) = expect(Terminal::CloseBrace, rest)?;
-    let subject = Box::new(alloc, subject.expr)?;
-    let left = Box::new(alloc, left.expr)?;
-    let right = Box::new(alloc, right.expr)?;
-    let expr = Expr::Choose(subject, x, left, y, right);
-    Ok((Hist { at: word.at, expr }, rest))
+    let expr = Expr::Choose(subject.expr, x, left.expr, y, right.expr);
+    Ok((historical(alloc, word.at, expr)?, rest))
 }
 
 // A side of a choice behind its word: its name and its expression.
@@ -128,11 +121,9 @@ fn read_comparison<'a>(alloc: Global, tokens: &'a [Plain]) -> Result<(Hist, &'a 
         return Ok((left, rest));
     };
     let (right, rest) = read_sum(alloc, rest)?;
-    let left = Box::new(alloc, left.expr)?;
-    let right = Box::new(alloc, right.expr)?;
-    let expr = Expr::Bin(operation(sign.kind), left, right);
+    let expr = Expr::Bin(operation(sign.kind), left.expr, right.expr);
     let at = place(tokens);
-    Ok((Hist { at, expr }, rest))
+    Ok((historical(alloc, at, expr)?, rest))
 }
 
 #[cycle(histories)]
@@ -161,9 +152,8 @@ fn read_summands<'a>(
         return Ok((so_far, tokens));
     };
     let (right, rest) = read_product(alloc, rest)?;
-    let left = Box::new(alloc, so_far.expr)?;
-    let expr = Expr::Bin(operation(sign.kind), left, Box::new(alloc, right.expr)?);
-    read_summands(alloc, at, Hist { at, expr }, rest)
+    let expr = Expr::Bin(operation(sign.kind), so_far.expr, right.expr);
+    read_summands(alloc, at, historical(alloc, at, expr)?, rest)
 }
 
 #[cycle(histories)]
@@ -192,9 +182,8 @@ fn read_factors<'a>(
         return Ok((so_far, tokens));
     };
     let (right, rest) = read_unary(alloc, rest)?;
-    let left = Box::new(alloc, so_far.expr)?;
-    let expr = Expr::Bin(operation(sign.kind), left, Box::new(alloc, right.expr)?);
-    read_factors(alloc, at, Hist { at, expr }, rest)
+    let expr = Expr::Bin(operation(sign.kind), so_far.expr, right.expr);
+    read_factors(alloc, at, historical(alloc, at, expr)?, rest)
 }
 
 #[cycle(histories)]
@@ -205,23 +194,23 @@ fn read_unary<'a>(alloc: Global, tokens: &'a [Plain]) -> Result<(Hist, &'a [Plai
 {
     if let Some((word, rest)) = accept(Terminal::FstWord, tokens) {
         let (inner, rest) = read_unary(alloc, rest)?;
-        let expr = Expr::Fst(Box::new(alloc, inner.expr)?);
-        return Ok((Hist { at: word.at, expr }, rest));
+        let expr = Expr::Fst(inner.expr);
+        return Ok((historical(alloc, word.at, expr)?, rest));
     }
     if let Some((word, rest)) = accept(Terminal::SndWord, tokens) {
         let (inner, rest) = read_unary(alloc, rest)?;
-        let expr = Expr::Snd(Box::new(alloc, inner.expr)?);
-        return Ok((Hist { at: word.at, expr }, rest));
+        let expr = Expr::Snd(inner.expr);
+        return Ok((historical(alloc, word.at, expr)?, rest));
     }
     if let Some((word, rest)) = accept(Terminal::InlWord, tokens) {
         let (inner, rest) = read_unary(alloc, rest)?;
-        let expr = Expr::Inl(Box::new(alloc, inner.expr)?);
-        return Ok((Hist { at: word.at, expr }, rest));
+        let expr = Expr::Inl(inner.expr);
+        return Ok((historical(alloc, word.at, expr)?, rest));
     }
     if let Some((word, rest)) = accept(Terminal::InrWord, tokens) {
         let (inner, rest) = read_unary(alloc, rest)?;
-        let expr = Expr::Inr(Box::new(alloc, inner.expr)?);
-        return Ok((Hist { at: word.at, expr }, rest));
+        let expr = Expr::Inr(inner.expr);
+        return Ok((historical(alloc, word.at, expr)?, rest));
     }
     read_history_atom(alloc, tokens)
 }
@@ -234,35 +223,23 @@ fn read_history_atom<'a>(alloc: Global, tokens: &'a [Plain]) -> Result<(Hist, &'
 {
     if let Some((name, rest)) = accept(Terminal::NameToken, tokens) {
         let expr = Expr::Var(Name(name.name));
-        return Ok((Hist { at: name.at, expr }, rest));
+        return Ok((historical(alloc, name.at, expr)?, rest));
     }
     if let Some((number, rest)) = accept_either(Terminal::OneToken, Terminal::NumberToken, tokens) {
         let expr = Expr::Lit(number.number);
-        return Ok((
-            Hist {
-                at: number.at,
-                expr,
-            },
-            rest,
-        ));
+        return Ok((historical(alloc, number.at, expr)?, rest));
     }
     if let Some((minus, rest)) = accept(Terminal::Minus, tokens) {
         return match accept_either(Terminal::OneToken, Terminal::NumberToken, rest) {
             Some((number, rest)) => {
                 let expr = Expr::Lit(-number.number);
-                Ok((Hist { at: minus.at, expr }, rest))
+                Ok((historical(alloc, minus.at, expr)?, rest))
             }
             None => Err(Halt::At(rest.len())),
         };
     }
     if let Some((word, rest)) = accept(Terminal::NilWord, tokens) {
-        return Ok((
-            Hist {
-                at: word.at,
-                expr: Expr::Nil,
-            },
-            rest,
-        ));
+        return Ok((historical(alloc, word.at, Expr::Nil)?, rest));
     }
     read_history_bracket(alloc, tokens)
 }
@@ -275,13 +252,7 @@ fn read_history_bracket<'a>(alloc: Global, tokens: &'a [Plain]) -> Result<(Hist,
 {
     let (open, rest) = expect(Terminal::Open, tokens)?;
     if let Some((_, rest)) = accept(Terminal::Close, rest) {
-        return Ok((
-            Hist {
-                at: open.at,
-                expr: Expr::Unit,
-            },
-            rest,
-        ));
+        return Ok((historical(alloc, open.at, Expr::Unit)?, rest));
     }
     let (inner, rest) = read_history(alloc, rest)?;
     let Some((_, rest)) = accept(Terminal::Comma, rest) else {
@@ -290,9 +261,8 @@ fn read_history_bracket<'a>(alloc: Global, tokens: &'a [Plain]) -> Result<(Hist,
     };
     let (second, rest) = read_history(alloc, rest)?;
     let (_, rest) = expect(Terminal::Close, rest)?;
-    let inner = Box::new(alloc, inner.expr)?;
-    let expr = Expr::Pair(inner, Box::new(alloc, second.expr)?);
-    Ok((Hist { at: open.at, expr }, rest))
+    let expr = Expr::Pair(inner.expr, second.expr);
+    Ok((historical(alloc, open.at, expr)?, rest))
 }
 
 /// The historical arguments of a call in their braces, which may be left out.

@@ -10,7 +10,7 @@ use crate::chunk::Chunk;
 use crate::function_rows::{put_declaration, put_main};
 use crate::layout::lay_out;
 use crate::type_rows::put_type;
-use delta_tree::{Decl, Fun, Program, TyExp, TyForm};
+use delta_tree::{Decl, Fun, Program, TyExp, TyForm, written_type};
 use std::alloc::Global;
 use stream_type::{Memory, Ty};
 
@@ -47,19 +47,12 @@ fn written(alloc: Global, t: &Ty) -> Result<TyExp, Memory>
         Ty::Eps => TyForm::Eps,
         Ty::One => TyForm::One,
         Ty::Int => TyForm::Int,
-        Ty::Cat(a, b) => TyForm::Cat(boxed(alloc, a)?, boxed(alloc, b)?),
-        Ty::Par(a, b) => TyForm::Par(boxed(alloc, a)?, boxed(alloc, b)?),
-        Ty::Sum(a, b) => TyForm::Sum(boxed(alloc, a)?, boxed(alloc, b)?),
-        Ty::Star(a) => TyForm::Star(boxed(alloc, a)?),
+        Ty::Cat(a, b) => TyForm::Cat(written(alloc, a)?, written(alloc, b)?),
+        Ty::Par(a, b) => TyForm::Par(written(alloc, a)?, written(alloc, b)?),
+        Ty::Sum(a, b) => TyForm::Sum(written(alloc, a)?, written(alloc, b)?),
+        Ty::Star(a) => TyForm::Star(written(alloc, a)?),
     };
-    Ok(TyExp { at: 0, form })
-}
-
-#[cycle(written)]
-fn boxed(alloc: Global, t: &Ty) -> Result<Box<TyExp>, Memory>
-    ensures { IfOk result (λ r. type_tree_of r.value ≡ written (type_of t.now)) }
-{
-    Ok(Box::new(alloc, written(alloc, t)?)?)
+    Ok(written_type(alloc, 0, form)?)
 }
 
 // A line for each declaration.

@@ -45,7 +45,7 @@ context_of (contexts.Semi' p a q b) = in_sequence (context_of a) (context_of b)
 
 -- the historical expression and its place that a tree of the program stands for
 abbrev pub hist_of : Hist → WrittenHist
-hist_of m = record { at = m.at; expr = expr_of m.expr }
+hist_of m = record { at = m.at; expr = expr_of m.expr.value }
 
 abbrev mutual
   -- the expression of a form at a place

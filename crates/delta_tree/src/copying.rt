@@ -4,6 +4,7 @@ ghost use Rattle.std.specs.Prelude.{◌≡◌, ℕ, IfOk};
 ghost use Rattle.delta_tree.specs.Tree.{type_form_of, type_tree_of, hist_of};
 
 use crate::expressions::Hist;
+use crate::placing::historical;
 use crate::types::{TyExp, TyForm};
 use hist_value::copy_expr;
 use std::alloc::Global;
@@ -40,5 +41,5 @@ pub fn copy_hist(alloc: Global, m: &Hist) -> Result<Hist, Memory>
     ensures { IfOk result (λ r. hist_of r ≡ hist_of m.now) }
 {
     let expr = copy_expr(alloc, &m.expr)?;
-    Ok(Hist { at: m.at, expr })
+    Ok(historical(alloc, m.at, expr)?)
 }

@@ -11,7 +11,7 @@ pub struct Hist {
     /// The byte place of its first token.
     pub at: u32,
     /// The expression, which keeps no places.
-    pub expr: Expr,
+    pub expr: Box<Expr>,
 }
 
 /// An expression as it is written. Contracts see it as an `Expression` by `expression_of`

@@ -14,6 +14,6 @@ mod types;
 pub use contexts::Ctx;
 pub use copying::{copy_hist, copy_type_exp};
 pub use expressions::{Exp, Form, Head, HeadForm, Hist};
-pub use placing::{expression, head, written_type};
+pub use placing::{expression, head, historical, written_type};
 pub use programs::{Alias, Decl, Fun, Program};
 pub use types::{TyExp, TyForm};

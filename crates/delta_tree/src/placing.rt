@@ -1,10 +1,13 @@
 //! Trees made of a place and a form.
 
 ghost use Rattle.std.specs.Prelude.{◌≡◌, IfOk};
-ghost use Rattle.delta_tree.specs.Tree.{type_form_of, type_tree_of, expression_form_of, expression_of, head_form_of, head_of};
+ghost use Rattle.hist_value.specs.HistExpr.{expr_of};
+ghost use Rattle.delta_tree.specs.SyntaxTree.{WrittenHist};
+ghost use Rattle.delta_tree.specs.Tree.{type_form_of, type_tree_of, expression_form_of, expression_of, head_form_of, head_of, hist_of};
 
-use crate::expressions::{Exp, Form, Head, HeadForm};
+use crate::expressions::{Exp, Form, Head, HeadForm, Hist};
 use crate::types::{TyExp, TyForm};
+use hist_value::Expr;
 use std::alloc::{AllocError, Global};
 
 /// The expression of this form at a place.
@@ -29,4 +32,12 @@ pub fn written_type(alloc: Global, at: u32, form: TyForm) -> Result<TyExp, Alloc
 {
     let form = Box::new(alloc, form)?;
     Ok(TyExp { at, form })
+}
+
+/// This historical expression at a place.
+pub fn historical(alloc: Global, at: u32, expr: Expr) -> Result<Hist, AllocError>
+    ensures { IfOk result (λ m. hist_of m ≡ record { at = at; expr = expr_of expr }) }
+{
+    let expr = Box::new(alloc, expr)?;
+    Ok(Hist { at, expr })
 }

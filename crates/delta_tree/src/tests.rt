@@ -5,7 +5,7 @@
 
 use crate::{
     Alias, Ctx, Decl, Exp, Form, Fun, Hist, Program, TyExp, TyForm, copy_hist, copy_type_exp,
-    expression, written_type,
+    expression, historical, written_type,
 };
 use bunch::Name;
 use hist_value::{Expr, Op};
@@ -20,10 +20,7 @@ fn int(alloc: Global, at: u32) -> Result<TyExp, AllocError> {
 fn one_more(alloc: Global) -> Result<Hist, Memory> {
     let n = Box::new(alloc, Expr::Var(Name(2)))?;
     let one = Box::new(alloc, Expr::Lit(1))?;
-    Ok(Hist {
-        at: 62,
-        expr: Expr::Bin(Op::Add, n, one),
-    })
+    Ok(historical(alloc, 62, Expr::Bin(Op::Add, n, one))?)
 }
 
 fn alias(alloc: Global) -> Result<Alias, Memory> {
@@ -54,10 +51,7 @@ fn add(alloc: Global) -> Result<Fun, Memory> {
 
 fn call(alloc: Global) -> Result<Exp, Memory> {
     let mut numbers = Vec::new(alloc);
-    numbers.push(Hist {
-        at: 95,
-        expr: Expr::Lit(2),
-    })?;
+    numbers.push(historical(alloc, 95, Expr::Lit(2))?)?;
     let mut streams = Vec::new(alloc);
     streams.push(expression(alloc, 98, Form::Var(Name(5)))?)?;
     streams.push(expression(alloc, 101, Form::Nil)?)?;
@@ -139,7 +133,7 @@ fn a_copy_of_a_historical_expression_is_equal(rt: HostRuntime) -> Result<(), Fai
     let m = one_more(alloc)?;
     let copied = copy_hist(alloc, &m)?;
     assert_eq!(rt; copied.at, 62);
-    match &copied.expr {
+    match &*copied.expr {
         Expr::Bin(Op::Add, n, one) => {
             assert!(rt; matches!(&**n, Expr::Var(x) if x.0 == 2));
             assert!(rt; matches!(&**one, Expr::Lit(1)));

@@ -5,7 +5,7 @@
 
 use bunch::{Bunch, Name};
 use delta_meaning::{params_meant, past_meant, type_meant};
-use delta_tree::{Ctx, TyExp, TyForm};
+use delta_tree::{Ctx, TyExp, TyForm, written_type};
 use std::alloc::Global;
 use std::test::Fail;
 use stream_type::{Memory, Ty, cat, par, same, star, sum};
@@ -17,33 +17,18 @@ fn known(alloc: Global) -> Result<Vec<(Name, Ty)>, Memory> {
     Ok(known)
 }
 
-fn named(at: u32, x: u32) -> TyExp {
-    TyExp {
-        at,
-        form: TyForm::Named(Name(x)),
-    }
+fn named(alloc: Global, at: u32, x: u32) -> Result<TyExp, Memory> {
+    Ok(written_type(alloc, at, TyForm::Named(Name(x)))?)
 }
 
 // `(number . pair)* + (number || number)`
 fn written(alloc: Global) -> Result<TyExp, Memory> {
-    let form = TyForm::Cat(
-        Box::new(alloc, named(1, 0))?,
-        Box::new(alloc, named(10, 1))?,
-    );
-    let in_turn = Box::new(alloc, TyExp { at: 0, form })?;
-    let many = TyExp {
-        at: 0,
-        form: TyForm::Star(in_turn),
-    };
-    let form = TyForm::Par(
-        Box::new(alloc, named(20, 0))?,
-        Box::new(alloc, named(30, 0))?,
-    );
-    let both = TyExp { at: 19, form };
-    Ok(TyExp {
-        at: 0,
-        form: TyForm::Sum(Box::new(alloc, many)?, Box::new(alloc, both)?),
-    })
+    let form = TyForm::Cat(named(alloc, 1, 0)?, named(alloc, 10, 1)?);
+    let many = TyForm::Star(written_type(alloc, 0, form)?);
+    let many = written_type(alloc, 0, many)?;
+    let form = TyForm::Par(named(alloc, 20, 0)?, named(alloc, 30, 0)?);
+    let both = written_type(alloc, 19, form)?;
+    Ok(written_type(alloc, 0, TyForm::Sum(many, both))?)
 }
 
 // What that type stands for.
@@ -75,8 +60,8 @@ fn a_written_type_stands_for_a_type(rt: HostRuntime) -> Result<(), Fail> {
 
 // `(x : number; y : ?), ()`, with a name that isn't known.
 fn params(alloc: Global) -> Result<Ctx, Memory> {
-    let x = Box::new(alloc, Ctx::Leaf(Name(2), named(5, 0)))?;
-    let y = Box::new(alloc, Ctx::Leaf(Name(3), named(15, 9)))?;
+    let x = Box::new(alloc, Ctx::Leaf(Name(2), named(alloc, 5, 0)?))?;
+    let y = Box::new(alloc, Ctx::Leaf(Name(3), named(alloc, 15, 9)?))?;
     let nothing = Box::new(alloc, Ctx::Empty)?;
     let in_turn = Box::new(alloc, Ctx::Semi(x, y))?;
     Ok(Ctx::Comma(in_turn, nothing))
@@ -131,7 +116,7 @@ fn written_parameters_stand_for_a_bunch(rt: HostRuntime) -> Result<(), Fail> {
 fn meant_past(alloc: Global) -> Result<Vec<(Name, Ty)>, Memory> {
     let known = known(alloc)?;
     let mut past = Vec::new(alloc);
-    past.push((Name(2), named(5, 0)))?;
+    past.push((Name(2), named(alloc, 5, 0)?))?;
     past.push((Name(3), written(alloc)?))?;
     let meant = past_meant(alloc, &known, &past);
     drop(known);
