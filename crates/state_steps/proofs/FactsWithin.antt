@@ -1,5 +1,5 @@
 -- Orders that have the facts of another order between the names of a list, and more: where names are placed.
-use Rattle.std.proofs.Common.{◌≡◌, ◌∙◌, ◌≢◌, ℕ, true, true≢false, List, [], ◌∷◌, ap, ap₂, refl, subst, sym, Bool, false, ◌||◌, eqb, ◌&&◌, if◌then◌else◌, ◌++◌, ◌+◌}
+use Rattle.std.proofs.Common.{◌≡◌, ◌∙◌, ◌≢◌, ℕ, true, true≢false, List, [], ◌∷◌, ap, ap₂, refl, subst, sym, Bool, false, ◌||◌, eqb, ◌&&◌, if◌then◌else◌, ◌++◌}
 use Rattle.std.proofs.lemmas.Bool.{eqb-true, ne_eqb}
 use Rattle.std.specs.List.{list_all}
 use Rattle.bunch.specs.Facts.{Facts, place_like, place_let, put_before, before_like, after_like, before_let, after_let}

@@ -1,5 +1,5 @@
 -- Lists of names each of which stands in another list.
-use Rattle.std.proofs.Common.{◌≡◌, ◌∙◌, ◌≢◌, ℕ, true, true≢false, ◌⊎◌, List, [], ◌∷◌, ap, refl, sym, Bool, false, ◌||◌, eqb, if◌then◌else◌, ⊎_elim, ◌++◌, ◌+◌}
+use Rattle.std.proofs.Common.{◌≡◌, ◌∙◌, ℕ, true, true≢false, List, [], ◌∷◌, ap, refl, sym, Bool, false, ◌||◌, eqb, if◌then◌else◌, ⊎_elim, ◌++◌}
 use Rattle.bunch.specs.Names.{holds}
 use Rattle.core_term.specs.CoreTerm.{CoreTerms, no_terms, term_before}
 use Rattle.core_term.specs.FreeNames.{without, free_names, free_in_terms}

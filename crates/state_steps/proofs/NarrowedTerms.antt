@@ -3,7 +3,6 @@
 use Rattle.std.proofs.Common.{◌≡◌, ℕ, List, [], ◌∷◌, subst, Bool, false}
 use Rattle.std.specs.Prelude.{Some}
 use Rattle.stream_type.specs.StreamType.{StreamType, cat, par, star, null_of, sum}
-use Rattle.hist_value.specs.HistType.{past}
 use Rattle.core_term.specs.CoreTerm.{CoreBody, fun_at, var_term, past_types, CoreTerm, CoreTerms, eps_term, unit_term, nil_term, past_term, par_term, cat_term, cons_term, inl_term, inr_term, let_term, let_par_term, let_cat_term, case_sum_term, case_star_term, wait_term, call_term, no_terms, term_before, leaf_types}
 use Rattle.core_term.specs.FreeNames.{without, free_names, free_in_terms}
 use Rattle.core_term.specs.Inert.{is_inert}

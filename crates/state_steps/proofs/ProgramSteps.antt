@@ -19,7 +19,7 @@ use Rattle.event_word.specs.Word.{one_of, after_word, IsWord}
 use Rattle.event_word.proofs.Words.{word_derives, one_of_derives, after_word-pre, word_push, pre-push}
 use Rattle.core_term.specs.Agreement.{types_in}
 use Rattle.core_term.specs.CoreTerm.{fun_at, CoreProgram}
-use Rattle.core_term.specs.Environment.{Environment, left_at, joined}
+use Rattle.core_term.specs.Environment.{Environment, left_at}
 use Rattle.core_term.specs.Inert.{is_inert_fun}
 use Rattle.core_term.specs.Meaning.{run_at, mean, calls_of, level_of, program_run, no_past, horizon}
 use Rattle.core_term.specs.Run.{Run}

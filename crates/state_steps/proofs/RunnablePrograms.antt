@@ -1,5 +1,5 @@
 -- A program that binds its names once and is typed: its bodies bind apart, and its parameters are distinct.
-use Rattle.std.proofs.Common.{◌≡◌, ◌∙◌, ◌≢◌, ℕ, true, List, [], ◌∷◌, refl, sym, Bool, false, ◌++◌, ◌+◌, zero, suc}
+use Rattle.std.proofs.Common.{◌≡◌, ◌∙◌, ◌≢◌, ℕ, true, List, [], ◌∷◌, refl, sym, Bool, false, ◌++◌, zero, suc}
 use Rattle.std.proofs.lemmas.List.Elements.{All-nil, All-cons}
 use Rattle.std.specs.List.{All}
 use Rattle.std.specs.Prelude.{Some, None, slice_index_or}
@@ -9,7 +9,6 @@ use Rattle.stream_prefix.proofs.Derivations.{Derives, derives, is_prefix}
 use Rattle.bunch.specs.BunchTree.{leaf, leaf_names, BunchTree, empty, comma, semi, IsDistinct, as_type}
 use Rattle.bunch.specs.Facts.{Facts}
 use Rattle.bunch.specs.Names.{holds}
-use Rattle.hist_value.specs.HistType.{past}
 use Rattle.core_term.specs.CoreTerm.{CoreBody, fun_at, CoreProgram, no_body, past_names, CoreTerm, CoreTerms}
 use Rattle.core_term.specs.Environment.{NameTypes}
 use Rattle.core_term.specs.FreeNames.{is_distinct, bound_names}

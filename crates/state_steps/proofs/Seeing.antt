@@ -1,5 +1,5 @@
 -- Contexts that have as much of some names as another context has, through each form that binds names.
-use Rattle.std.proofs.Common.{◌≡◌, ◌∙◌, ◌≢◌, ℕ, true, true≢false, List, [], ◌∷◌, ap, ap₂, refl, sym, Bool, false, eqb, ◌&&◌, if◌then◌else◌, ◌++◌, ◌+◌}
+use Rattle.std.proofs.Common.{◌≡◌, ◌∙◌, ℕ, true, true≢false, List, [], ◌∷◌, ap, ap₂, refl, sym, Bool, false, eqb, ◌&&◌, if◌then◌else◌, ◌++◌}
 use Rattle.std.specs.Prelude.{Some, unwrap_or, Option, None, is_some}
 use Rattle.stream_type.specs.StreamType.{StreamType, eps}
 use Rattle.bunch.specs.Facts.{Facts, place_like}
