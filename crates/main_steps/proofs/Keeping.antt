@@ -7,13 +7,12 @@ use Rattle.stream_prefix.proofs.Derivations.{Derives, is_prefix}
 use Rattle.stream_prefix.proofs.Joins.{emp_is_prefix, der-join}
 use Rattle.event_word.specs.StreamEvent.{StreamEvent}
 use Rattle.event_word.specs.Admits.{Admits}
-use Rattle.event_word.specs.Word.{IsWord, one_of, after_word}
+use Rattle.event_word.specs.Word.{one_of, after_word}
 use Rattle.event_word.proofs.Words.{word_derives, after_word-push}
 use Rattle.core_term.specs.CoreTerm.{CoreProgram, fun_at}
 use Rattle.core_term.specs.Environment.{left_at}
 use Rattle.core_term.specs.Agreement.{types_in}
 use Rattle.core_term.specs.Split.{split, split_after}
-use Rattle.core_term.specs.Run.{Run}
 use Rattle.core_term.specs.Meaning.{mean, calls_of, level_of, program_run, run_at, no_past, horizon}
 use Rattle.delta_state.specs.StateTree.{StateTree}
 use Rattle.delta_state.specs.StateMeaning.{run_state}
@@ -24,7 +23,7 @@ use Rattle.state_steps.specs.Laws.{IsRunnable, GoesOnWith}
 use Rattle.state_steps.proofs.RunnablePrograms.{mean_derives}
 use Rattle.state_steps.proofs.ProgramSteps.{rest_is_left, event_derives, input_after, begins_word, goes_on_word}
 use Rattle.main_steps.specs.Keeping.{Keeps}
-use Rattle.main_steps.specs.Laws.{first_entries, next_entries, first_run_on, first_state_on, run_on, state_on, KeptFirst, KeptNext, KeepsFirst, KeepsNext, StopsForProgram}
+use Rattle.main_steps.specs.Laws.{first_entries, next_entries, first_run_on, first_state_on, run_on, state_on, KeepsFirst, KeepsNext, StopsForProgram}
 use Rattle.main_steps.proofs.SplitLists.{split_lists, later_lists}
 
 -- main's body on the names before any event has the run of the program,
