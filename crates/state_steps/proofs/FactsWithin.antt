@@ -21,16 +21,16 @@ within_itself xs O = record { at = λ x y m n h. h }
 pub within_fewer : (xs ys : List ℕ) (O Q : Facts) → Among ys xs → WithinOn xs O Q → WithinOn ys O Q
 within_fewer xs ys O Q a w = record { at = λ x y m n h. w.at x y (a.at x m) (a.at y n) h }
 
--- what follows outside a test follows under it
+-- what follows from a fact follows where both stand under a test that fails
 unless : (c o q : Bool) → (o ≡ true → q ≡ true) → (if c then false else o) ≡ true → (if c then false else q) ≡ true
 unless true o q f h = h
 unless false o q f h = f h
 
--- both halves of a test follow
+-- of two facts each follows from its own
 pub and_both : (a b c d : Bool) → (a ≡ true → c ≡ true) → (b ≡ true → d ≡ true) → (a && b) ≡ true → (c && d) ≡ true
 and_both a b c d f g h = ap₂ ◌&&◌ (f (and_first a b h)) (g (and_second a b h))
 
--- a name that is placed like z: the facts of z and of the other names are asked for
+-- once x is placed like z, the facts of z and of the other names do
 pub within_on_like : (x z : ℕ) (ys : List ℕ) (O Q : Facts) → WithinOn (z ∷ without x ys) O Q → WithinOn ys (place_like x z O) (place_like x z Q)
 within_on_like x z ys O Q w = record { at = λ u v m n. go u v m n (eqb u x) refl (eqb v x) refl }
   where
@@ -62,7 +62,7 @@ within_on_let x fs gs ys i j O Q w s ij = record { at = λ u v m n. go u v m n (
         and_both i (list_all (λ z. O u z) fs) j (list_all (λ z. Q u z) gs) ij (λ l. holds-all (λ z. Q u z) gs (λ z k. w.at u z (kept u m e) (used z k) (all-holds (λ z. O u z) fs l z (s.at z k)))) h
     go u v m n false e false f h = w.at u v (kept u m e) (kept v n f) h
 
--- two names of which the first is put before the second
+-- once one name is put before another the same facts do
 pub within_on_before : (x y : ℕ) (ys : List ℕ) (O Q : Facts) → WithinOn ys O Q → WithinOn ys (put_before x y O) (put_before x y Q)
 within_on_before x y ys O Q w = record { at = λ u v m n. go u v m n (eqb u x && eqb v y) }
   where

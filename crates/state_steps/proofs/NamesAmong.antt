@@ -17,11 +17,11 @@ among_nothing xs = record { at = λ x m. absurd (true≢false (sym m)) }
 pub among_both : {a b c d : List ℕ} → Among a c → Among b d → Among (a ++ b) (c ++ d)
 among_both {a = a} {b = b} {c = c} {d = d} f g = record { at = λ x m. ⊎_elim (λ i. holds-left x c d (f.at x i)) (λ i. holds-right x c d (g.at x i)) (holds-split x a b m) }
 
--- without a name
+-- both lists without a name
 pub among_without : (x : ℕ) {a b : List ℕ} → Among a b → Among (without x a) (without x b)
 among_without x {a = a} {b = b} f = record { at = λ y m. holds-without y x b (differs-kept y x a m) (f.at y (holds-kept y x a m)) }
 
--- behind a name
+-- both behind a name
 pub among_head : (z : ℕ) {a b : List ℕ} → Among a b → Among (z ∷ a) (z ∷ b)
 among_head z {a = a} {b = b} f = record { at = λ x m. go x (eqb x z) m }
   where
@@ -29,19 +29,19 @@ among_head z {a = a} {b = b} f = record { at = λ x m. go x (eqb x z) m }
     go x true m = refl
     go x false m = f.at x m
 
--- and so among more: behind a name that is added in front,
+-- the second list may have more names: one in front of it,
 pub among_tail : (z : ℕ) {xs ys : List ℕ} → Among xs ys → Among xs (z ∷ ys)
 among_tail z {ys = ys} f = record { at = λ x m. holds-tail x z ys (f.at x m) }
 
--- with names that are added after the list,
+-- some after it,
 pub among_left : {a b : List ℕ} (c : List ℕ) → Among a b → Among a (b ++ c)
 among_left {b = b} c f = record { at = λ x m. holds-left x b c (f.at x m) }
 
--- and before it
+-- or some before it
 pub among_right : {a c : List ℕ} (b : List ℕ) → Among a c → Among a (b ++ c)
 among_right {c = c} b f = record { at = λ x m. holds-right x b c (f.at x m) }
 
--- with names that are put in between a first name and the others
+-- or some between its first name and the others
 pub among_wider : (z : ℕ) {xs zs : List ℕ} (ys : List ℕ) → Among xs (z ∷ zs) → Among xs (z ∷ (ys ++ zs))
 among_wider z {zs = zs} ys f = record { at = λ x m. go x (eqb x z) (f.at x m) }
   where
@@ -56,7 +56,7 @@ among_first z xs ys = among_head z (among_left ys (among_same xs))
 pub among_second : (z : ℕ) (xs ys : List ℕ) → Among (z ∷ ys) (z ∷ (xs ++ ys))
 among_second z xs ys = among_wider z xs (among_same (z ∷ ys))
 
--- a list without a name, with another in front of it
+-- without x, behind z: a z that stands in the list adds nothing
 pub among_under : (x z : ℕ) (ys : List ℕ) → Among (z ∷ without x (z ∷ ys)) (z ∷ without x ys)
 among_under x z ys = record { at = λ u m. go u (eqb u z) refl m }
   where
@@ -67,7 +67,7 @@ among_under x z ys = record { at = λ u m. go u (eqb u z) refl m }
     go u true e m = refl
     go u false e m = holds-without u x ys (differs-kept u x (z ∷ ys) m) (first u e (holds-kept u x (z ∷ ys) m))
 
--- two names that are bound, the second to the subject z
+-- where x is bound, and then y to the subject z, the free names of what is left are among those of the destructuring
 pub among_two_lets : (x y z : ℕ) (ax xs : List ℕ) → Among ax xs → Among (without x (z ∷ without y ax)) (z ∷ without x (without y xs))
 among_two_lets x y z ax xs h = record { at = λ v m. go v (eqb v z) refl (differs-kept v x (z ∷ without y ax) m) (holds-kept v x (z ∷ without y ax) m) }
   where
@@ -75,7 +75,7 @@ among_two_lets x y z ax xs h = record { at = λ v m. go v (eqb v z) refl (differ
     go v true e n k = refl
     go v false e n k = holds-without v x (without y xs) n ((among_without y h).at v (ap (λ c. c || holds v (without y ax)) (sym e) ∙ k))
 
--- what is free in an argument is so in all of them
+-- what is free in an argument of a call is free in its arguments
 pub among_passed : (us : List ℕ) (es : CoreTerms) (u : ℕ) → Among (free_names (argument_of us es u)) (free_in_terms es)
 among_passed [] es u = record { at = λ x m. absurd (true≢false (sym m)) }
 among_passed (v ∷ us) no_terms u = record { at = λ x m. absurd (true≢false (sym m)) }
@@ -85,7 +85,7 @@ among_passed (v ∷ us) (term_before e es) u = record { at = λ x m. go x (eqb u
     go x true f m = holds-left x (free_names e) (free_in_terms es) m
     go x false f m = holds-right x (free_names e) (free_in_terms es) (f.at x m)
 
--- what is free in an argument of a frame is so in all of them
+-- and so it is with the arguments of a frame
 pub among_argument : (args : ArgumentTrees) (u : ℕ) → Among (free_in_state (argument_at args u)) (free_in_arguments args)
 among_argument no_arguments u = record { at = λ x m. m }
 among_argument (argument_before v t s args) u = record { at = λ x m. go x (eqb u v) (among_argument args u) m }

@@ -50,11 +50,11 @@ use Rattle.state_steps.proofs.StateSteps.{IsReady, state_step}
 use Rattle.state_steps.proofs.SplitInputs.{later_derives, split_after_join, left_after}
 use Rattle.state_steps.proofs.RunnablePrograms.{all_apart, main_apart, distinct_params, mean_derives, main_typed}
 
--- one number is no greater than another, nor that than a third
+-- what is at most a number is at most what that number is at most
 pub le_trans : (i j k : ℕ) → i ≤ j → j ≤ k → i ≤ k
 le_trans i j k h l = omega (arith, h, l)
 
--- nor is one less than it greater than one less than the other
+-- and so it is with one less on both sides
 pub pred_le : (i j : ℕ) → i ≤ j → pred i ≤ pred j
 pred_le i j h = omega (arith, h)
 

@@ -24,10 +24,9 @@ use Rattle.state_steps.proofs.FactsWithin.{within_itself}
 use Rattle.state_steps.proofs.NarrowedTerms.{narrow}
 use Rattle.state_steps.proofs.CalledBodies.{body_context}
 
--- a program that binds its names once binds the first name of each destructuring apart
 module _ (funs : ℕ → CoreBody) (counts : ℕ → Bool) where
   mutual
-    -- a program that binds its names once binds the first name of each destructuring apart
+    -- a derivation in which the first names of parts differ from what they stand beside binds them apart
     binds_apart : {T : NameTypes} {O : Facts} {H : PastTypes} {e : CoreTerm} {r : StreamType} → Typed funs counts ◌≢◌ T O H e r → BindsApart e
     binds_apart (var_typed e) = tt
     binds_apart eps_typed = tt
@@ -56,20 +55,20 @@ all_at : {A : Type 0} (P : A → Type 0) (d : A) (xs : List A) → ((i : ℕ) �
 all_at P d [] f = All-nil P
 all_at P d (x ∷ xs) f = All-cons P x xs (f zero) (all_at P d xs (λ i. f (suc i)))
 
--- a bunch without a name twice has distinct parameters in each of its parts
+-- of two lists without a name twice each name of the second isn't in the first
+parts_apart : (xs ys : List ℕ) → is_distinct (xs ++ ys) ≡ true → (x : ℕ) → holds x ys ≡ true → holds x xs ≡ false
+parts_apart xs ys h x m = go (holds x xs) refl
+  where
+    go : (c : Bool) → holds x xs ≡ c → c ≡ false
+    go true e = absurd (distinct_apart xs ys h x e m)
+    go false e = refl
+
+-- so a bunch without a name twice is distinct
 distinct_bunch : (b : BunchTree) → is_distinct (leaf_names b) ≡ true → IsDistinct b
 distinct_bunch empty h = tt
 distinct_bunch (leaf x t) h = tt
-distinct_bunch (comma a b) h = (distinct_bunch a (distinct_left (leaf_names a) (leaf_names b) h), distinct_bunch b (distinct_right (leaf_names a) (leaf_names b) h), λ x m. apart x (holds x (leaf_names a)) refl m)
-  where
-    apart : (x : ℕ) (c : Bool) → holds x (leaf_names a) ≡ c → holds x (leaf_names b) ≡ true → c ≡ false
-    apart x true e m = absurd (distinct_apart (leaf_names a) (leaf_names b) h x e m)
-    apart x false e m = refl
-distinct_bunch (semi a b) h = (distinct_bunch a (distinct_left (leaf_names a) (leaf_names b) h), distinct_bunch b (distinct_right (leaf_names a) (leaf_names b) h), λ x m. apart x (holds x (leaf_names a)) refl m)
-  where
-    apart : (x : ℕ) (c : Bool) → holds x (leaf_names a) ≡ c → holds x (leaf_names b) ≡ true → c ≡ false
-    apart x true e m = absurd (distinct_apart (leaf_names a) (leaf_names b) h x e m)
-    apart x false e m = refl
+distinct_bunch (comma a b) h = (distinct_bunch a (distinct_left (leaf_names a) (leaf_names b) h), distinct_bunch b (distinct_right (leaf_names a) (leaf_names b) h), parts_apart (leaf_names a) (leaf_names b) h)
+distinct_bunch (semi a b) h = (distinct_bunch a (distinct_left (leaf_names a) (leaf_names b) h), distinct_bunch b (distinct_right (leaf_names a) (leaf_names b) h), parts_apart (leaf_names a) (leaf_names b) h)
 
 module _ (c : CoreProgram) (runnable : IsRunnable c) where
   -- each function binds first names apart,
