@@ -10,6 +10,10 @@
 -- - The first name of a destructuring is neither its subject nor the second one (`Apart.antt`). A program
 --   whose names are bound once keeps this, and the rules of states ask it.
 -- - Whether a state is settled is asked apart (`Settled.antt`).
+-- - A name that has a value keeps whatever stream has its name (`with_known`), since what runs code may have
+--   bound such a stream. Beside a value of x the code `let x = y in case z of { inl p => x | inr q => x }` is typed,
+--   as the let shows x again; it leaves a let of x round the case, whose branches still have the value of x and
+--   read the stream.
 use Rattle.std.specs.Prelude.{ℕ, ◌≡◌, ◌≢◌, Bool, true, false, ◌&&◌, ◌||◌, ⊤, IsTrue, List, [], ◌∷◌, Option, Some, None}
 use Rattle.std.specs.List.{All, list_all}
 use Rattle.stream_type.specs.StreamType.{StreamType, cat, par, sum, star, null_of}
@@ -30,9 +34,9 @@ use Rattle.delta_state.specs.Apart.{IsApart, BindsApart}
 abbrev pub no_pasts : ℕ → Option HistType
 no_pasts x = None
 
--- x is historical from here on, with the values of whole streams of type t
+-- x has the value of a whole stream of type t too; whatever stream has its name keeps it
 abbrev pub with_known : ℕ → StreamType → Context → Context
-with_known x t c = record { types = put x None c.types; order = c.order; past = put x (Some (past t)) c.past }
+with_known x t c = record { types = c.types; order = c.order; past = put x (Some (past t)) c.past }
 
 -- so are these names
 abbrev pub with_past : List Known → Context → Context
