@@ -1,0 +1,222 @@
+-- A settled state holds no more events than its bound says.
+use Rattle.std.proofs.Common.{◌≡◌, ◌∙◌, ◌≤◌, ◌<◌, ◌+◌, ⊎_elim, ◌⊎◌, inl, inr, ℕ, Bool, true, false, true≢false, not, ◌&&◌, ◌||◌, List, [], ◌∷◌, ◌++◌, eqb, if◌then◌else◌, ap, ap₂, refl, subst, sym, arith}
+use Rattle.std.proofs.lemmas.Bool.{eqb-true}
+use Rattle.std.specs.Prelude.{min, Some, None, map, length}
+use Rattle.std.proofs.lemmas.List.{length-map, length-append}
+use Rattle.std.proofs.lemmas.List.Sums.{sum_by-cons}
+use Rattle.stream_type.specs.StreamType.{StreamType, cat, par, sum, null_of}
+use Rattle.stream_prefix.specs.StreamPrefix.{StreamPrefix, eps_emp, one_emp, int_emp, par_both, cat_fst, sum_emp, star_emp, is_maximal, IsPrefix}
+use Rattle.stream_prefix.proofs.Derivations.{Derives, derives, eps_has_emp, one_has_emp, one_has_full, int_has_emp, int_has_full, par_has_both, cat_has_fst, cat_has_both, sum_has_emp, sum_has_left, sum_has_right, star_has_emp, star_has_done, star_has_first, star_has_rest}
+use Rattle.bunch.specs.Names.{holds}
+use Rattle.bunch.specs.Facts.{place_let}
+use Rattle.event_word.specs.declared.event.Step.TheVariants.{Left, Right, First}
+use Rattle.event_word.specs.declared.event.Leaf.TheVariants.{Cut}
+use Rattle.event_word.specs.StreamEvent.{leaf_of, under}
+use Rattle.event_word.specs.Canon.{canon}
+use Rattle.core_term.specs.CoreTerm.{CoreBody}
+use Rattle.core_term.specs.FreeNames.{without, once, is_distinct}
+use Rattle.core_term.specs.Parts.{par_left, par_right, cat_first, cat_second}
+use Rattle.core_term.specs.Typing.{Context, type_at, with_name, with_fact, with_parts}
+use Rattle.core_term.proofs.Sides.{and_first, and_second, or_split, eqb-same, holds-head}
+use Rattle.core_term.proofs.Without.{holds-tail, holds-without, holds-kept}
+use Rattle.core_term.proofs.OnceEach.{holds-once}
+use Rattle.delta_state.specs.StateTree.{HeldName, StateTree, ArgumentTrees, sink, var_state, par_state, cat_state, let_state, let_par_state, let_cat_state, sum_state, star_state, wait_state, frame_state, no_arguments, argument_before, held_names, free_in_state, free_in_sum, free_in_star, free_in_wait}
+use Rattle.delta_state.specs.StateMeaning.{types_held, prefixes_held}
+use Rattle.delta_state.specs.StateTyping.{HasStateType, HaveArgumentTypes, IsHeld, is_empty, facts_held, context_of_arguments}
+use Rattle.delta_state.specs.Settled.{has_tag, is_settled, are_settled}
+use Rattle.delta_state.specs.PlainState.{without_marks, arguments_without_marks, plain_held, events_in, events_held, events_held_by}
+use Rattle.delta_state.proofs.HeldNames.{held_at, mark_is}
+use Rattle.delta_state.proofs.SettledStates.{is_not, sum_untagged, star_untagged}
+use Rattle.state_bounds.specs.Bounds.{Bound, both, greater, ◌⊑◌, size_of, total, limit}
+use Rattle.state_bounds.specs.TermBounds.{room_of, case_room, wait_room}
+use Rattle.state_bounds.specs.StateBounds.{state_bound, argument_bounds}
+use Rattle.state_bounds.proofs.BoundOrder.{at_most_left, at_most_right, nothing_at_most}
+
+-- so many events, but for the limit
+abbrev pub counted : ℕ → Bound
+counted n = Some (min n limit)
+
+counted_both : (i j : ℕ) (a b : Bound) → counted i ⊑ a → counted j ⊑ b → counted (i + j) ⊑ both a b
+counted_both i j None b h k = tt
+counted_both i j (Some m) None h k = tt
+counted_both i j (Some m) (Some n) h k = omega (arith, h, k)
+
+counted_fewer : (i j : ℕ) (a : Bound) → i ≤ j → counted j ⊑ a → counted i ⊑ a
+counted_fewer i j None le h = tt
+counted_fewer i j (Some m) le h = omega (arith, le, h)
+
+-- a prefix of a type has no more events than the type can have
+word_fits : {t : StreamType} {p : StreamPrefix} → Derives t p → counted (length (canon p)) ⊑ size_of t
+word_fits eps_has_emp = omega arith
+word_fits one_has_emp = omega arith
+word_fits one_has_full = omega arith
+word_fits int_has_emp = omega arith
+word_fits int_has_full = omega arith
+word_fits (par_has_both {s = s} {t = t} {p = p} {q = q} h k) =
+    subst (λ n. counted n ⊑ both (size_of s) (size_of t)) (sym (length-append (map (under Left) (canon p)) (map (under Right) (canon q)) ∙ ap₂ ◌+◌ (length-map (canon p) (under Left)) (length-map (canon q) (under Right))))
+    (counted_both (length (canon p)) (length (canon q)) (size_of s) (size_of t) (word_fits h) (word_fits k))
+word_fits (cat_has_fst {s = s} {t = t} {p = p} h) =
+    counted_fewer (length (map (under First) (canon p))) ((length (canon p) + 0) + 0) _ (let e = length-map (canon p) (under First) in omega (arith, e))
+    (counted_both (length (canon p) + 0) 0 (both (size_of s) (size_of t)) (Some 1) (counted_both (length (canon p)) 0 (size_of s) (size_of t) (word_fits h) (nothing_at_most (size_of t))) (omega arith))
+word_fits (cat_has_both {s = s} {t = t} {p = p} {q = q} h m k) =
+    counted_fewer (length (map (under First) (canon p) ++ leaf_of Cut ∷ canon q)) ((length (canon p) + length (canon q)) + 1) _
+    (let e = length-append (map (under First) (canon p)) (leaf_of Cut ∷ canon q) in let f = length-map (canon p) (under First) in omega (arith, e, f))
+    (counted_both (length (canon p) + length (canon q)) 1 (both (size_of s) (size_of t)) (Some 1) (counted_both (length (canon p)) (length (canon q)) (size_of s) (size_of t) (word_fits h) (word_fits k)) (omega arith))
+word_fits (sum_has_emp {s = s} {t = t}) = nothing_at_most (size_of (sum s t))
+word_fits (sum_has_left {s = s} {t = t} {p = p} h) =
+    counted_fewer _ (1 + length (canon p)) _ (omega arith) (counted_both 1 (length (canon p)) (Some 1) (greater (size_of s) (size_of t)) (omega arith) (at_most_left (counted (length (canon p))) (size_of s) (size_of t) (word_fits h)))
+word_fits (sum_has_right {s = s} {t = t} {p = p} h) =
+    counted_fewer _ (1 + length (canon p)) _ (omega arith) (counted_both 1 (length (canon p)) (Some 1) (greater (size_of s) (size_of t)) (omega arith) (at_most_right (counted (length (canon p))) (size_of s) (size_of t) (word_fits h)))
+word_fits star_has_emp = tt
+word_fits star_has_done = tt
+word_fits (star_has_first h) = tt
+word_fits (star_has_rest h m k) = tt
+
+-- where nothing has come there is no event
+empty_word : (p : StreamPrefix) → is_empty p ≡ true → length (canon p) ≡ 0
+empty_word eps_emp h = refl
+empty_word one_emp h = refl
+empty_word int_emp h = refl
+empty_word (par_both p q) h =
+    length-append (map (under Left) (canon p)) (map (under Right) (canon q)) ∙ ap₂ ◌+◌ (length-map (canon p) (under Left) ∙ empty_word p (and_first (is_empty p) (is_empty q) h)) (length-map (canon q) (under Right) ∙ empty_word q (and_second (is_empty p) (is_empty q) h))
+empty_word (cat_fst p) h = length-map (canon p) (under First) ∙ empty_word p h
+empty_word sum_emp h = refl
+empty_word star_emp h = refl
+empty_word _ h = absurd (true≢false (sym h))
+
+-- a number for each name of a list, added up
+abbrev sum_of : (ℕ → ℕ) → List ℕ → ℕ
+sum_of f [] = 0
+sum_of f (x ∷ xs) = f x + sum_of f xs
+
+-- without a name that is there it is less by that name's number, or by more
+sum_without : (f : ℕ → ℕ) (x : ℕ) (ys : List ℕ) → sum_of f (without x ys) ≤ sum_of f ys
+sum_without f x [] = omega arith
+sum_without f x (y ∷ ys) = go (eqb y x) (sum_without f x ys)
+  where
+    go : (b : Bool) → sum_of f (without x ys) ≤ sum_of f ys → sum_of f (if b then without x ys else y ∷ without x ys) ≤ f y + sum_of f ys
+    go true h = omega (arith, h)
+    go false h = omega (arith, h)
+
+sum_there : (f : ℕ → ℕ) (x : ℕ) (ys : List ℕ) → holds x ys ≡ true → f x + sum_of f (without x ys) ≤ sum_of f ys
+sum_there f x [] m = absurd (true≢false (sym m))
+sum_there f x (y ∷ ys) m = go (eqb x y) refl (eqb y x) refl m (sum_there f x ys)
+  where
+    go : (a : Bool) → eqb x y ≡ a → (b : Bool) → eqb y x ≡ b → (a || holds x ys) ≡ true → (holds x ys ≡ true → f x + sum_of f (without x ys) ≤ sum_of f ys)
+        → f x + sum_of f (if b then without x ys else y ∷ without x ys) ≤ f y + sum_of f ys
+    go true e true g m h = let same = ap f (eqb-true x y e) in let less = sum_without f x ys in omega (arith, same, less)
+    go true e false g m h = absurd (true≢false (sym (eqb-same y) ∙ (ap (λ w. eqb y w) (sym (eqb-true x y e)) ∙ g)))
+    go false e true g m h = let rest = h m in omega (arith, rest)
+    go false e false g m h = let rest = h m in omega (arith, rest)
+
+none_of : (b : Bool) → not b ≡ true → b ≡ false
+none_of false h = refl
+none_of true h = absurd (true≢false (sym h))
+
+other_than : (x y : ℕ) (xs : List ℕ) → holds x xs ≡ false → holds y xs ≡ true → eqb y x ≡ false
+other_than x y xs n m = go (eqb y x) refl
+  where
+    go : (b : Bool) → eqb y x ≡ b → eqb y x ≡ false
+    go true e = absurd (true≢false (sym m ∙ (ap (λ w. holds w xs) (eqb-true y x e) ∙ n)))
+    go false e = e
+
+-- names that stand once each, all in another list but for those without a number
+sum_among : (f : ℕ → ℕ) (xs ys : List ℕ) → is_distinct xs ≡ true → ((x : ℕ) → holds x xs ≡ true → (holds x ys ≡ true) ⊎ (f x ≡ 0)) → sum_of f xs ≤ sum_of f ys
+sum_among f [] ys d h = omega arith
+sum_among f (x ∷ xs) ys d h =
+    go (h x (holds-head x xs))
+    (sum_among f xs ys (and_second (not (holds x xs)) (is_distinct xs) d) (λ y m. h y (holds-tail y x xs m)))
+    (sum_among f xs (without x ys) (and_second (not (holds x xs)) (is_distinct xs) d) (λ y m. ⊎_elim (λ i. inl (holds-without y x ys (other_than x y xs (none_of (holds x xs) (and_first (not (holds x xs)) (is_distinct xs) d)) m) i)) (λ e. inr e) (h y (holds-tail y x xs m))))
+  where
+    go : (holds x ys ≡ true) ⊎ (f x ≡ 0) → sum_of f xs ≤ sum_of f ys → sum_of f xs ≤ sum_of f (without x ys) → f x + sum_of f xs ≤ sum_of f ys
+    go (inl m) all less = let there = sum_there f x ys m in omega (arith, less, there)
+    go (inr e) all less = omega (arith, e, all)
+
+counted_total : (f : ℕ → ℕ) (g : ℕ → Bound) (xs : List ℕ) → ((x : ℕ) → holds x xs ≡ true → counted (f x) ⊑ g x) → counted (sum_of f xs) ⊑ total g xs
+counted_total f g [] h = omega arith
+counted_total f g (x ∷ xs) h = counted_both (f x) (sum_of f xs) (g x) (total g xs) (h x (holds-head x xs)) (counted_total f g xs (λ y m. h y (holds-tail y x xs m)))
+
+-- the number of events held of a name
+abbrev events_of : List HeldName → ℕ → ℕ
+events_of held x = length (canon (prefixes_held held x))
+
+-- what is held of names that are held once each
+events_named : (held more : List HeldName) → ((x : ℕ) → holds x (held_names held) ≡ true → prefixes_held held x ≡ prefixes_held more x) → is_distinct (held_names held) ≡ true → events_in (plain_held held) ≡ sum_of (events_of more) (held_names held)
+events_named [] more h d = refl
+events_named (k ∷ held) more h d =
+    sum_by-cons (λ h. length (canon h.1)) (k.name, k.prefix) (plain_held held)
+    ∙ ap₂ ◌+◌ (ap (λ p. length (canon p)) (sym (ap (λ b. if b then k.prefix else prefixes_held held k.name) (eqb-same k.name)) ∙ h k.name (holds-head k.name (held_names held))))
+    (events_named held more (λ x m. sym (ap (λ b. if b then k.prefix else prefixes_held held x) (other_than k.name x (held_names held) (none_of (holds k.name (held_names held)) (and_first (not (holds k.name (held_names held))) (is_distinct (held_names held)) d)) m))
+    ∙ h x (holds-tail x k.name (held_names held) m)) (and_second (not (holds k.name (held_names held))) (is_distinct (held_names held)) d))
+
+module _ (c : Context) (free : List ℕ) (held : List HeldName) (h : IsHeld c free held) (z : ℕ) (waits : is_maximal (prefixes_held held z) ≡ false) where
+  -- what is held of a name is no more than can come on it while the subject isn't whole
+  fits_room : (y : ℕ) → holds y free ≡ true → counted (events_of held y) ⊑ room_of (types_held held) (facts_held held c.order) z y
+  fits_room y m = go (facts_held held c.order z y) refl
+    where
+      go : (b : Bool) → facts_held held c.order z y ≡ b → counted (events_of held y) ⊑ (if b then Some 0 else size_of (types_held held y))
+      go true e =
+          let fact = and_second (c.order z y) (is_maximal (prefixes_held held z) || is_empty (prefixes_held held y)) (and_second (holds z (held_names held) && holds y (held_names held)) (c.order z y && (is_maximal (prefixes_held held z) || is_empty (prefixes_held held y))) e) in
+          let none = ⊎_elim (λ i. absurd (true≢false (sym i ∙ waits))) (λ i. empty_word (prefixes_held held y) i) (or_split (is_maximal (prefixes_held held z)) (is_empty (prefixes_held held y)) fact) in
+          omega (arith, none)
+      go false e = word_fits (derives (types_held held y) (prefixes_held held y) (held_at (λ x t p. IsPrefix t p) held h.are_prefixes y (h.are_free y ∙ m)))
+
+  all_events : events_in (plain_held held) ≡ sum_of (events_of held) (held_names held)
+  all_events = events_named held held (λ x m. refl) h.are_once
+
+  waiting_events : counted (events_in (plain_held held)) ⊑ wait_room (types_held held) (facts_held held c.order) z free
+  waiting_events =
+      counted_fewer _ (sum_of (events_of held) (once free)) _
+      (let few = sum_among (events_of held) (held_names held) (once free) h.are_once (λ x m. inl (holds-once x free ∙ (sym (h.are_free x) ∙ m))) in omega (arith, few, all_events))
+      (counted_total (events_of held) _ (once free) (λ y m. fits_room y (sym (holds-once y free) ∙ m)))
+
+  case_events : events_of held z ≡ 0 → counted (events_in (plain_held held)) ⊑ case_room (types_held held) (facts_held held c.order) z free
+  case_events none =
+      counted_fewer _ (sum_of (events_of held) (without z (once free))) _
+      (let few = sum_among (events_of held) (held_names held) (without z (once free)) h.are_once (λ x m. by_name x (holds-once x free ∙ (sym (h.are_free x) ∙ m))) in omega (arith, few, all_events))
+      (counted_total (events_of held) _ (without z (once free)) (λ y m. fits_room y (sym (holds-once y free) ∙ holds-kept y z (once free) m)))
+    where
+      by_name : (x : ℕ) → holds x (once free) ≡ true → (holds x (without z (once free)) ≡ true) ⊎ (events_of held x ≡ 0)
+      by_name x m = go (eqb x z) refl
+        where
+          go : (b : Bool) → eqb x z ≡ b → (holds x (without z (once free)) ≡ true) ⊎ (events_of held x ≡ 0)
+          go true e = inr (ap (events_of held) (eqb-true x z e) ∙ none)
+          go false e = inl (holds-without x z (once free) e m)
+
+module _ (funs : List CoreBody) (counts : ℕ → Bool) (numbers : ℕ → Bound) where
+  mutual
+    pub settled_holds : (s : StateTree) (c : Context) (r : StreamType) → HasStateType funs counts c s r → is_settled s r ≡ true → counted (events_held (without_marks s)) ⊑ state_bound funs numbers s c
+    settled_holds (sink t) c r h i = omega arith
+    settled_holds (var_state x) c r h i = omega arith
+    settled_holds (par_state a b) c (par s t) h i =
+        counted_both (events_held (without_marks a)) (events_held (without_marks b)) _ _ (settled_holds a c s h.0 (and_first (is_settled a s) (is_settled b t) i)) (settled_holds b c t h.1 (and_second (is_settled a s) (is_settled b t) i))
+    settled_holds (par_state a b) c _ h i = absurd h
+    settled_holds (cat_state a l) c (cat s t) h i = at_most_left (counted (events_held (without_marks a))) (state_bound funs numbers a c) _ (settled_holds a c s h.0 (and_first (is_settled a s) (not (null_of s)) i))
+    settled_holds (cat_state a l) c _ h i = absurd h
+    settled_holds (let_state x s a b) c r h i =
+        counted_both (events_held (without_marks a)) (events_held (without_marks b)) _ _ (settled_holds a c s h.0 (and_first (is_settled a s) (is_settled b r) i))
+        (settled_holds b (with_name x s (place_let x (free_in_state a) true c.order) c) r h.1 (and_second (is_settled a s) (is_settled b r) i))
+    settled_holds (let_par_state x y z a) c r h i = settled_holds a (with_parts x (par_left (type_at c z)) y (par_right (type_at c z)) z c) r h.2 i
+    settled_holds (let_cat_state x y z a) c r h i = settled_holds a (with_fact x y (with_parts x (cat_first (type_at c z)) y (cat_second (type_at c z)) z c)) r h.2 i
+    settled_holds (sum_state z t held x l y m) c r h i =
+        let typed = mark_is held z _ h.2.subject_typed in
+        let none = sum_untagged _ _ (prefixes_held held z) (subst (λ s. IsPrefix s (prefixes_held held z)) typed (held_at (λ x t p. IsPrefix t p) held h.1.are_prefixes z (h.1.are_free z ∙ holds-head z _))) (is_not (has_tag (prefixes_held held z)) i) in
+        at_most_left (counted (events_in (plain_held held))) (case_room (types_held held) (facts_held held c.order) z (free_in_sum z x l y m)) _ (case_events c (free_in_sum z x l y m) held h.1 z (ap is_maximal none) (ap (λ p. length (canon p)) none))
+    settled_holds (star_state z t held l y ys m) c r h i =
+        let typed = mark_is held z _ h.2.subject_typed in
+        let none = star_untagged _ (prefixes_held held z) (subst (λ s. IsPrefix s (prefixes_held held z)) typed (held_at (λ x t p. IsPrefix t p) held h.1.are_prefixes z (h.1.are_free z ∙ holds-head z _))) (is_not (has_tag (prefixes_held held z)) i) in
+        at_most_left (counted (events_in (plain_held held))) (case_room (types_held held) (facts_held held c.order) z (free_in_star z l y ys m)) _ (case_events c (free_in_star z l y ys m) held h.1 z (ap is_maximal none) (ap (λ p. length (canon p)) none))
+    settled_holds (wait_state x t held l) c r h i =
+        at_most_left (counted (events_in (plain_held held))) (wait_room (types_held held) (facts_held held c.order) x (free_in_wait x l)) _ (waiting_events c (free_in_wait x l) held h.1 x (is_not (is_maximal (prefixes_held held x)) i))
+    settled_holds (frame_state args s) c r h i =
+        counted_both (events_held_by (arguments_without_marks args)) (events_held (without_marks s)) _ _ (settled_hold args c h.0 (and_first (are_settled args) (is_settled s r) i)) (settled_holds s (context_of_arguments c args) r h.1 (and_second (are_settled args) (is_settled s r) i))
+
+    pub settled_hold : (args : ArgumentTrees) (c : Context) → HaveArgumentTypes funs counts c args → are_settled args ≡ true → counted (events_held_by (arguments_without_marks args)) ⊑ argument_bounds funs numbers args c
+    settled_hold no_arguments c h i = omega arith
+    settled_hold (argument_before x t s args) c h i =
+        counted_both (events_held (without_marks s)) (events_held_by (arguments_without_marks args)) _ _ (settled_holds s c t h.0 (and_first (is_settled s t) (are_settled args) i)) (settled_hold args c h.1 (and_second (is_settled s t) (are_settled args) i))
+
+-- below the limit the bound is a number of events
+pub below_limit : (e n : ℕ) (b : Bound) → counted e ⊑ b → b ⊑ Some n → n < limit → e ≤ n
+below_limit e n None h k l = absurd k
+below_limit e n (Some m) h k l = omega (arith, h, k, l)

@@ -1,0 +1,13 @@
+-- The lemmas.
+pub mod BoundOrder
+pub mod MoreFacts
+pub mod TermsWithMoreFacts
+pub mod StatesWithMoreFacts
+pub mod LeftNames
+pub mod RestsOfTerms
+pub mod StateStreams
+pub mod RestsOfStates
+pub mod HeldEvents
+pub mod ProgramBounds
+pub mod ProgramNumbers
+mod Examples

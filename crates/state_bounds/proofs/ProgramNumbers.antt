@@ -1,0 +1,66 @@
+-- Where no number grows any more, the numbers of a program's functions are enough.
+use Rattle.std.proofs.Common.{◌≡◌, ◌∙◌, ℕ, zero, suc, Bool, true, false, true≢false, List, [], ◌∷◌, ◌++◌, length, if◌then◌else◌, ap, refl, subst, sym, arith}
+use Rattle.std.proofs.lemmas.Bool.{eqb-true}
+use Rattle.std.proofs.lemmas.List.{length-append}
+use Rattle.std.specs.Prelude.{Some, None}
+use Rattle.core_term.specs.CoreTerm.{CoreProgram, fun_at}
+use Rattle.core_term.specs.Inert.{is_inert_fun}
+use Rattle.state_bounds.specs.Bounds.{Bound, ◌⊑◌}
+use Rattle.state_bounds.specs.TermBounds.{body_bound}
+use Rattle.state_bounds.specs.ProgramBound.{is_marked, tabulated, repeated, reached_marks, mark_count, number_at, first_numbers, numbers_after, program_numbers, is_same_bound, first_other}
+use Rattle.state_bounds.specs.Laws.{NumbersAreEnough}
+use Rattle.state_bounds.proofs.BoundOrder.{at_most_same}
+
+pub length-tabulated : {A : Type 0} (n : ℕ) (g : ℕ → A) → length (tabulated n g) ≡ n
+length-tabulated zero g = refl
+length-tabulated (suc n) g = let before = length-tabulated n g in length-append (tabulated n g) (g n ∷ []) ∙ omega (arith, before)
+
+-- past its end a list has none, and one more element doesn't change what stands before
+at-last : (xs : List Bound) (x : Bound) (f : ℕ) (P : Bound → Type 0) → (f ≡ length xs → P x) → P None → P (number_at xs f) → P (number_at (xs ++ x ∷ []) f)
+at-last [] x zero P h k i = h refl
+at-last [] x (suc f) P h k i = k
+at-last (y ∷ ys) x zero P h k i = i
+at-last (y ∷ ys) x (suc f) P h k i = at-last ys x f P (λ e. h (ap suc e)) k i
+
+-- what is true of none and of what stands at each number is true of what is read
+tabulated-at : (n : ℕ) (g : ℕ → Bound) (f : ℕ) (P : Bound → Type 0) → P None → P (g f) → P (number_at (tabulated n g) f)
+tabulated-at zero g f P k h = k
+tabulated-at (suc n) g f P k h = at-last (tabulated n g) (g n) f P (λ e. subst (λ m. P (g m)) (e ∙ length-tabulated n g) h) k (tabulated-at n g f P k h)
+
+same_is : (m n : Bound) → is_same_bound m n ≡ true → m ≡ n
+same_is None None h = refl
+same_is None (Some n) h = absurd (true≢false (sym h))
+same_is (Some m) None h = absurd (true≢false (sym h))
+same_is (Some m) (Some n) h = ap Some (eqb-true m n h)
+
+-- where none differs, all are the same
+none_other : (g : ℕ) (ms ns : List Bound) → length ms ≡ length ns → first_other g ms ns ≡ None → (f : ℕ) → number_at ns f ≡ number_at ms f
+none_other g [] [] l h f = refl
+none_other g [] (n ∷ ns) l h f = absurd (omega (arith, l))
+none_other g (m ∷ ms) [] l h f = absurd (omega (arith, l))
+none_other g (m ∷ ms) (n ∷ ns) l h f =
+    let same : length ms ≡ length ns = omega (arith, l) in
+    go (is_same_bound m n) refl h (λ k f. none_other (suc g) ms ns same k f) f
+  where
+    go : (b : Bool) → is_same_bound m n ≡ b → (if b then first_other (suc g) ms ns else Some g) ≡ None → (first_other (suc g) ms ns ≡ None → (f : ℕ) → number_at ns f ≡ number_at ms f) → (f : ℕ) → number_at (n ∷ ns) f ≡ number_at (m ∷ ms) f
+    go true e k rest zero = sym (same_is m n e)
+    go true e k rest (suc f) = rest k f
+    go false e k rest f = absurd (cc k)
+
+-- there are as many numbers as functions
+pub length-numbers : (c : CoreProgram) (marks : List Bool) (k : ℕ) → length (repeated k (numbers_after c marks) (first_numbers c marks)) ≡ length c.funs
+length-numbers c marks zero = length-tabulated (length c.funs) _
+length-numbers c marks (suc k) = length-tabulated (length c.funs) _
+
+pub numbers_are_enough : NumbersAreEnough
+numbers_are_enough c steady f =
+    let bound = body_bound (fun_at c.funs) (is_inert_fun c.funs) (number_at (program_numbers c)) (fun_at c.funs f) in
+    let next = numbers_after c (reached_marks c) (program_numbers c) in
+    let same = length-numbers c (reached_marks c) (mark_count (reached_marks c)) ∙ sym (length-tabulated (length c.funs) _) in
+    subst (λ b. bound ⊑ b) (none_other 0 (program_numbers c) next same steady f)
+    (tabulated-at (length c.funs) _ f (λ b. bound ⊑ b) tt (by_mark (is_marked (reached_marks c) f)))
+  where
+    by_mark : (m : Bool) → body_bound (fun_at c.funs) (is_inert_fun c.funs) (number_at (program_numbers c)) (fun_at c.funs f)
+        ⊑ (if m then body_bound (fun_at c.funs) (is_inert_fun c.funs) (number_at (program_numbers c)) (fun_at c.funs f) else None)
+    by_mark true = at_most_same (body_bound (fun_at c.funs) (is_inert_fun c.funs) (number_at (program_numbers c)) (fun_at c.funs f))
+    by_mark false = tt

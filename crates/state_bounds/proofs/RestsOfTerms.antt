@@ -1,0 +1,347 @@
+-- What is left of a term holds no more than the term can.
+use Rattle.std.proofs.Common.{◌≡◌, ◌∙◌, ◌≤◌, ◌⊎◌, inl, inr, ⊎_elim, ℕ, zero, suc, Bool, true, false, true≢false, ◌&&◌, ◌||◌, List, [], ◌∷◌, eqb, if◌then◌else◌, ap, ap₂, refl, subst, sym, arith}
+use Rattle.std.specs.Prelude.{Some, None, is_some, unwrap_or, IsTrue, map, length}
+use Rattle.std.specs.List.{All, list_all}
+use Rattle.stream_type.specs.StreamType.{StreamType, eps, cat, par, star}
+use Rattle.stream_prefix.specs.StreamPrefix.{StreamPrefix, eps_emp, in_left, in_right, sum_emp, star_emp, star_first, star_rest, emp, is_maximal, der}
+use Rattle.stream_prefix.proofs.Derivations.{Derives, is_prefix, par_has_both, cat_has_fst, cat_has_both, star_has_emp, star_has_first, star_has_rest}
+use Rattle.stream_prefix.proofs.Joins.{der-emp}
+use Rattle.bunch.specs.Names.{put, holds, value_at}
+use Rattle.bunch.specs.BunchTree.{BunchTree, leaf_names, stands_before}
+use Rattle.bunch.specs.Facts.{Facts, place_like, place_let, put_before}
+use Rattle.bunch.proofs.Bunches.{first_is_there, second_is_there}
+use Rattle.hist_value.specs.HistType.{past as past_type}
+use Rattle.hist_value.specs.HistValue.{HistValue, unit_value}
+use Rattle.hist_value.specs.Wholes.{value_of}
+use Rattle.hist_value.specs.Laws.{HasTypes}
+use Rattle.hist_value.proofs.WholeLaws.{value_has_past}
+use Rattle.core_term.specs.CoreTerm.{CoreTerm, CoreTerms, CoreBody, case_sum_term, case_star_term, wait_term, leaf_types, past_names, past_types, no_body, fun_at}
+use Rattle.core_term.specs.FreeNames.{free_names, free_in_terms, without, once}
+use Rattle.core_term.specs.Environment.{Environment, NameTypes}
+use Rattle.core_term.specs.Agreement.{Agrees, types_in}
+use Rattle.core_term.specs.Inert.{is_inert, is_inert_fun}
+use Rattle.core_term.specs.Parts.{par_left, par_right, cat_first, cat_second, sum_left, sum_right, star_item, star_items, left_part, right_part, first_part, second_part}
+use Rattle.core_term.specs.Run.{Run, cat_run, cat_run_at, sum_run, star_run, wait_run}
+use Rattle.core_term.specs.Meaning.{values, call_at, run_all, run_at}
+use Rattle.core_term.specs.Typing.{Context, types_of, is_before, IsTypedBody, context_of, past_params, passed, with_name}
+use Rattle.core_term.proofs.Sides.{and_second, holds-head, holds-all}
+use Rattle.core_term.proofs.Placing.{like_agrees, let_agrees, pair_agrees, row_agrees}
+use Rattle.core_term.proofs.Parameters.{Prefixes, PastValues, no_values, value_before, length-leaf_types, value_at-leaf_types, params_derive, values_have, past_params_have}
+use Rattle.core_term.proofs.InertFunctions.{inert_bodies}
+use Rattle.core_term.proofs.InertRuns.{EmptyOn, run_at_nothing}
+use Rattle.core_term.proofs.GrowingRuns.{Streams, streams_put, streams_put_two, par_parts, cat_parts, par_parts_whole, cat_parts_whole}
+use Rattle.core_term.proofs.Monotone.{pasts_put, run_at_derives, runs_at_derive}
+use Rattle.core_term.proofs.TypedTerms.{PastTypes, Typed, TypedAll, var_typed, eps_typed, unit_typed, nil_typed, past_typed, par_typed, cat_typed, cons_typed, inl_typed, inr_typed, let_typed, let_par_typed, let_cat_typed, case_sum_typed, case_star_typed, wait_typed, call_typed, none_typed, more_typed, StandBefore, PassedInOrder}
+use Rattle.core_term.proofs.TypedRuns.{Any, typed_bodies, free_are_streams, at_index}
+use Rattle.core_term.proofs.WholeRuns.{cat_calls_first, run_at_whole}
+use Rattle.delta_state.specs.StateTree.{Known, HeldName, StateTree, ArgumentTrees, cat_state, sum_state, star_state, wait_state, argument_names, argument_at, free_in_state}
+use Rattle.delta_state.specs.StateMeaning.{past_in, types_held, prefixes_held}
+use Rattle.delta_state.specs.Apart.{BindsApart, BindApart}
+use Rattle.delta_state.specs.StateTyping.{is_empty, facts_held, marks_of_arguments, context_of_arguments}
+use Rattle.delta_state.specs.Rest.{taken, known_of, rest_all, call_rest_at, rest_at}
+use Rattle.state_steps.proofs.NamesAmong.{among_passed}
+use Rattle.state_steps.proofs.FactsWithin.{WithinOn, within_on_let}
+use Rattle.state_steps.proofs.NoNewNames.{free_in_rest, free_in_argument}
+use Rattle.state_steps.proofs.HeldForms.{Holds, held_is, within_held, taken_holds}
+use Rattle.state_steps.proofs.Steps.{by_test, sequence_calls_second}
+use Rattle.state_steps.proofs.PartSteps.{cat_order, par_der}
+use Rattle.state_steps.proofs.CalledBodies.{past_known}
+use Rattle.state_steps.proofs.PassedArguments.{split_before, passed_agree}
+use Rattle.state_bounds.specs.Bounds.{Bound, greater, ◌⊑◌}
+use Rattle.state_bounds.specs.TermBounds.{case_room, wait_room, bound_of, bounds_of, body_bound}
+use Rattle.state_bounds.specs.StateBounds.{state_bound, argument_bounds}
+use Rattle.state_bounds.proofs.BoundOrder.{at_most_next, both_at_most, greater_at_most, at_most_left, at_most_right, nothing_at_most}
+use Rattle.state_bounds.proofs.MoreFacts.{Gains, gains_left, gains_right, gains_tail}
+use Rattle.state_bounds.proofs.TermsWithMoreFacts.{term_at_most}
+use Rattle.state_bounds.proofs.LeftNames.{Leaves, leaves_type, leaves_put, pair_bound, cut_bound, sum_rest_bound, star_rest_bound}
+
+-- where nothing came on names they keep their types
+pub nothing_left : (xs : List ℕ) (T : NameTypes) (O : Facts) (d : Environment) (c : Context) → EmptyOn xs T d → Leaves xs T O d c → Gains xs T (types_of c) O c.order
+nothing_left xs T O d c e h = record {
+  types = λ x m. sym (ap (λ o. unwrap_or o eps) (leaves_type xs T O d c h x m ∙ ap Some (ap (λ p. der p (T x)) (e.at x m) ∙ der-emp (T x))));
+  order = h.order;
+}
+
+-- what is held is of the types from before, and agrees with each fact with which what came does
+pub gains_held : (free : List ℕ) (T : NameTypes) (O Q : Facts) (d : Environment) (held : List HeldName) → Holds free T d held → Agrees T O d → WithinOn free O Q → Gains free T (types_held held) O (facts_held held Q)
+gains_held free T O Q d held h agrees w = record { types = λ x m. (held_is free T d held h x m).0; order = within_held free T d held h O Q agrees w }
+
+-- a name that is before another is so among what is left
+pub before_after : (xs : List ℕ) (T : NameTypes) (O : Facts) (d : Environment) (c : Context) → Leaves xs T O d c → (x y : ℕ) → holds x xs ≡ true → holds y xs ≡ true → O x y ≡ true → is_before c x y ≡ true
+before_after xs T O d c h x y m n k = ap₂ ◌&&◌ (ap₂ ◌&&◌ (ap is_some (leaves_type xs T O d c h x m)) (ap is_some (leaves_type xs T O d c h y n))) (h.order.at x y m n k)
+
+-- a side that came isn't nothing, nor is an item
+pub left_none : (p : StreamPrefix) → in_left p ≡ sum_emp → ⊥
+left_none p e = grind arith
+
+pub right_none : (p : StreamPrefix) → in_right p ≡ sum_emp → ⊥
+right_none p e = grind arith
+
+first_none : (p : StreamPrefix) → star_first p ≡ star_emp → ⊥
+first_none p e = grind arith
+
+rest_none : (p q : StreamPrefix) → star_rest p q ≡ star_emp → ⊥
+rest_none p q e = grind arith
+
+-- an item p came on a stream of items, and q of the others
+abbrev pub CameItem : StreamPrefix → StreamPrefix → StreamPrefix → Type 0
+CameItem o p q = (o ≡ star_rest p q) ⊎ ((o ≡ star_first p) × (q ≡ star_emp))
+
+pub star_none : (p q o : StreamPrefix) → CameItem o p q → o ≡ star_emp → ⊥
+star_none p q o (inl e) m = rest_none p q (sym e ∙ m)
+star_none p q o (inr e) m = first_none p (sym e.0 ∙ m)
+
+item_parts : {s : StreamType} {p q : StreamPrefix} → Derives (star s) (star_rest p q) → Derives s p × Derives (star s) q × IsTrue (is_maximal p)
+item_parts (star_has_rest h m k) = (h, k, m)
+
+first_parts : {s : StreamType} {p : StreamPrefix} → Derives (star s) (star_first p) → Derives s p
+first_parts (star_has_first h) = h
+
+pub star_came : (s : StreamType) (o p q : StreamPrefix) → Derives (star s) o → CameItem o p q → Derives s p × Derives (star s) q × (IsTrue (is_maximal o) → IsTrue (is_maximal p) × IsTrue (is_maximal q))
+star_came s o p q h (inl e) =
+    let i = item_parts (subst (Derives (star s)) e h) in
+    (i.0, i.1, λ m. (i.2, and_second (is_maximal p) (is_maximal q) (sym (ap is_maximal e) ∙ m)))
+star_came s o p q h (inr e) = (first_parts (subst (Derives (star s)) e.0 h), subst (Derives (star s)) (sym e.1) star_has_emp, λ m. absurd (true≢false (sym m ∙ ap is_maximal e.0)))
+
+pub star_turn : (s t : StreamType) (o p q : StreamPrefix) → Derives (star s) o → t ≡ star s → CameItem o p q → IsTrue (is_maximal p) ⊎ (q ≡ emp t)
+star_turn s t o p q h e (inl k) = inl (item_parts (subst (Derives (star s)) k h)).2
+star_turn s t o p q h e (inr k) = inr (k.1 ∙ ap emp (sym e))
+
+-- the calls of the branch of an item
+pub star_calls : (r : StreamType) (k : ℕ) (o p q : StreamPrefix) → CameItem o p q → (a : Run) (b : StreamPrefix → StreamPrefix → Run) → (star_run r o a b).calls ≤ k → (b p q).calls ≤ k
+star_calls r k o p q (inl e) a b le = subst (λ w. (star_run r w a b).calls ≤ k) e le
+star_calls r k o p q (inr e) a b le = subst (λ w. (b p w).calls ≤ k) (sym e.1) (subst (λ w. (star_run r w a b).calls ≤ k) e.0 le)
+
+module _ (funs : List CoreBody) (all_typed : All (IsTypedBody funs) funs) (all_apart : All (λ b. BindsApart b.body) funs) (numbers : ℕ → Bound)
+    (enough : (f : ℕ) → body_bound (fun_at funs) (is_inert_fun funs) numbers (fun_at funs f) ⊑ numbers f) where
+  -- the functions by their numbers, and which of them are inert
+  abbrev F : ℕ → CoreBody
+  F = fun_at funs
+
+  abbrev I : ℕ → Bool
+  I = is_inert_fun funs
+
+  -- what a term can hold at most
+  abbrev most : CoreTerm → NameTypes → Facts → Bound
+  most e T O = bound_of F I numbers e T O
+
+  -- what a call at this depth leaves holds no more than its function's number
+  abbrev CallsHold : ℕ → Type 0
+  CallsHold k =
+      (f : ℕ) (vs : List HistValue) (ps : List StreamPrefix) → PastValues (past_types (F f)) vs → Prefixes (leaf_types (F f).params) ps
+      → Agrees (types_in (F f).params) (stands_before (F f).params) (value_at eps_emp (leaf_names (F f).params) ps)
+      → (call_at F k f vs ps).calls ≤ k → (c : Context)
+      → Leaves (free_names (F f).body) (types_in (F f).params) (stands_before (F f).params) (value_at eps_emp (leaf_names (F f).params) ps) c
+      → state_bound funs numbers (call_rest_at F k f vs ps) c ⊑ numbers f
+
+  module _ (k : ℕ) (calls_hold : CallsHold k) where
+    -- what is left of a term
+    abbrev rest : CoreTerm → NameTypes → StreamType → Environment → List Known → StateTree
+    rest e T r d past = rest_at F k e T r d past
+
+    -- what is left of a sequence: its second part's own rest, or the first's, with nothing come on the second
+    sequence_bound : {T : NameTypes} {O : Facts} {H : PastTypes} (a b : CoreTerm) {s : StreamType} (t : StreamType) → Typed F I Any T O H a s → StandBefore O (free_names a) (free_names b)
+        → (d : Environment) (past : List Known) → Streams T d → Agrees T O d → HasTypes H (past_in past) → (run_at F k a T s d (past_in past)).calls ≤ k → (c : Context) → Leaves (free_names b) T O d c
+        → state_bound funs numbers (rest a T s d past) c ⊑ most a T O → (is_maximal (run_at F k a T s d (past_in past)).out ≡ true → state_bound funs numbers (rest b T t d past) c ⊑ most b T O)
+        → state_bound funs numbers (if is_maximal (run_at F k a T s d (past_in past)).out then rest b T t d past else cat_state (rest a T s d past) (record { term = b; past = past; depth = k })) c ⊑ greater (most a T O) (most b T O)
+    sequence_bound {T = T} {O = O} a b {s = s} t i o d past st agrees f le c h first second =
+        by_test (λ w. state_bound funs numbers (if w then rest b T t d past else cat_state (rest a T s d past) (record { term = b; past = past; depth = k })) c ⊑ greater (most a T O) (most b T O))
+        (is_maximal (run_at F k a T s d (past_in past)).out) (λ m. at_most_right _ (most a T O) (most b T O) (second m))
+        (λ n. greater_at_most _ _ _ _ first (term_at_most F I numbers b T (types_of c) O c.order (nothing_left (free_names b) T O d c (empties n) h)))
+      where
+        empties : is_maximal (run_at F k a T s d (past_in past)).out ≡ false → EmptyOn (free_names b) T d
+        empties n =
+            ⊎_elim (λ w. absurd (true≢false (sym (run_at_whole F I Any (typed_bodies funs all_typed) k i d (past_in past) st f w le) ∙ n))) (λ e. e)
+            (split_before T O d (free_names a) (free_names b) agrees o)
+
+    -- what is left of arguments has their names, and of their types what is left
+    arguments_left : (us : List ℕ) {T : NameTypes} {O : Facts} {H : PastTypes} {es : CoreTerms} {ts : List StreamType} → TypedAll F I Any T O H es ts → length us ≡ length ts → (d : Environment) (past : List Known)
+        → (argument_names (rest_all F k (call_rest_at F k) es us ts T d past) ≡ us)
+        × ((x : ℕ) → holds x us ≡ true → marks_of_arguments (rest_all F k (call_rest_at F k) es us ts T d past) x
+        ≡ Some (der (value_at eps_emp us (run_all F (call_at F k) es ts T d (past_in past)).outs x) (value_at eps us ts x)))
+    arguments_left [] none_typed n d past = (refl, λ x m. absurd (true≢false (sym m)))
+    arguments_left (u ∷ us) none_typed n d past = absurd (omega (arith, n))
+    arguments_left [] (more_typed i j) n d past = absurd (omega (arith, n))
+    arguments_left (u ∷ us) (more_typed {T = T} {e = e} {es = es} {t = t} {ts = ts} i j) n d past =
+        let same : length us ≡ length ts = omega (arith, n) in
+        let others = arguments_left us j same d past in
+        (ap (λ vs. u ∷ vs) others.0, λ x m. go x (eqb x u) (others.1 x) m)
+      where
+        go : (x : ℕ) (b : Bool)
+            → (holds x us ≡ true → marks_of_arguments (rest_all F k (call_rest_at F k) es us ts T d past) x
+            ≡ Some (der (value_at eps_emp us (run_all F (call_at F k) es ts T d (past_in past)).outs x) (value_at eps us ts x)))
+            → (b || holds x us) ≡ true
+            → (if b then Some (der (run_at F k e T t d (past_in past)).out t) else marks_of_arguments (rest_all F k (call_rest_at F k) es us ts T d past) x)
+            ≡ Some (der (if b then (run_at F k e T t d (past_in past)).out else value_at eps_emp us (run_all F (call_at F k) es ts T d (past_in past)).outs x) (if b then t else value_at eps us ts x))
+        go x true g m = refl
+        go x false g m = g m
+
+    -- what a called body has of its parameters
+    body_leaves : {T : NameTypes} {O : Facts} {H : PastTypes} (f : ℕ) {es : CoreTerms} → TypedAll F I Any T O H es (leaf_types (F f).params)
+        → ((u v : ℕ) → stands_before (F f).params u v ≡ true → PassedInOrder F I O (F f) es u v)
+        → (d : Environment) (past : List Known) (c : Context) → Leaves (free_in_terms es) T O d c
+        → Leaves (free_names (F f).body) (types_in (F f).params) (stands_before (F f).params)
+        (value_at eps_emp (leaf_names (F f).params) (run_all F (call_at F k) es (leaf_types (F f).params) T d (past_in past)).outs)
+        (context_of_arguments c (rest_all F k (call_rest_at F k) es (leaf_names (F f).params) (leaf_types (F f).params) T d past))
+    body_leaves {T = T} {O = O} f {es = es} i o d past c h = record {
+      types = λ x m. sym (left.1 x (there x m) ∙ ap (λ t. Some (der (value_at eps_emp us outs x) t)) (value_at-leaf_types params x));
+      order = record { at = λ u v m n b. ap₂ ◌&&◌ (ap₂ ◌&&◌ (named u (first_is_there params u v b)) (named v (second_is_there params u v b))) (in_order u v (o u v b).in_order) };
+    }
+      where
+        params : BunchTree
+        params = (F f).params
+
+        us : List ℕ
+        us = leaf_names (F f).params
+
+        args : ArgumentTrees
+        args = rest_all F k (call_rest_at F k) es (leaf_names (F f).params) (leaf_types (F f).params) T d past
+
+        outs : List StreamPrefix
+        outs = (run_all F (call_at F k) es (leaf_types (F f).params) T d (past_in past)).outs
+
+        left : (argument_names args ≡ us) × ((x : ℕ) → holds x us ≡ true → marks_of_arguments args x ≡ Some (der (value_at eps_emp us outs x) (value_at eps us (leaf_types (F f).params) x)))
+        left = arguments_left us i (sym (length-leaf_types params)) d past
+
+        -- a body's free names are its parameters
+        there : (x : ℕ) → holds x (free_names (F f).body) ≡ true → holds x us ≡ true
+        there x m = go (holds x us) refl ((free_are_streams funs I (F f).body (context_of (F f)) (F f).result (at_index (IsTypedBody funs) no_body funs all_typed refl f)).at x m)
+          where
+            go : (b : Bool) → holds x us ≡ b → is_some (if b then Some (types_in (F f).params x) else None) ≡ true → holds x us ≡ true
+            go true e n = e
+            go false e n = absurd (true≢false (sym n))
+
+        named : (u : ℕ) → holds u us ≡ true → holds u (argument_names args) ≡ true
+        named u m = ap (holds u) left.0 ∙ m
+
+        in_order : (u v : ℕ) → StandBefore O (free_names (passed (F f) es u)) (free_names (passed (F f) es v))
+            → list_all (λ x. list_all (λ y. is_before c x y) (free_in_state (argument_at args v))) (free_in_state (argument_at args u)) ≡ true
+        in_order u v w =
+            holds-all (λ x. list_all (λ y. is_before c x y) (free_in_state (argument_at args v))) (free_in_state (argument_at args u)) (λ x m. holds-all (λ y. is_before c x y) (free_in_state (argument_at args v)) (λ y n.
+            let i = (free_in_argument F k (call_rest_at F k) es us (leaf_types (F f).params) T d past u).at x m in
+            let j = (free_in_argument F k (call_rest_at F k) es us (leaf_types (F f).params) T d past v).at y n in
+            before_after (free_in_terms es) T O d c h x y ((among_passed us es u).at x i) ((among_passed us es v).at y j) (w.at x y i j)))
+
+    mutual
+      -- what is left of a term holds no more than the term can,
+      rest_bound : {T : NameTypes} {O : Facts} {H : PastTypes} {e : CoreTerm} {r : StreamType} → Typed F I Any T O H e r → BindsApart e → (d : Environment) (past : List Known) → Streams T d → Agrees T O d → HasTypes H (past_in past)
+          → (run_at F k e T r d (past_in past)).calls ≤ k → (c : Context) → Leaves (free_names e) T O d c → state_bound funs numbers (rest e T r d past) c ⊑ most e T O
+      rest_bound (var_typed e) ap' d past s agrees f le c h = omega arith
+      rest_bound eps_typed ap' d past s agrees f le c h = omega arith
+      rest_bound unit_typed ap' d past s agrees f le c h = omega arith
+      rest_bound nil_typed ap' d past s agrees f le c h = omega arith
+      rest_bound (past_typed i) ap' d past s agrees f le c h = omega arith
+      rest_bound (par_typed {T = T} {O = O} {a = a} {b = b} i j) w d past s agrees f le c h =
+          both_at_most _ _ _ _ (rest_bound i w.0 d past s agrees f (omega (arith, le)) c (gains_left (free_names a) (free_names b) _ c.types O c.order h)) (rest_bound j w.1 d past s agrees f (omega (arith, le)) c (gains_right (free_names a) (free_names b) _ c.types O c.order h))
+      rest_bound (cat_typed {T = T} {O = O} {a = a} {b = b} {s = u} {t = v} i j o) w d past s agrees f le c h =
+          let first = run_at F k a T u d (past_in past) in
+          let second = run_at F k b T v d (past_in past) in
+          let m = cat_calls_first first second k le in
+          sequence_bound a b v i o d past s agrees f m c (gains_right (free_names a) (free_names b) _ c.types O c.order h) (rest_bound i w.0 d past s agrees f m c (gains_left (free_names a) (free_names b) _ c.types O c.order h))
+          (λ e. let n = sequence_calls_second first second 0 k e (omega (arith, le)) in rest_bound j w.1 d past s agrees f (omega (arith, n)) c (gains_right (free_names a) (free_names b) _ c.types O c.order h))
+      rest_bound (cons_typed {T = T} {O = O} {a = a} {b = b} {s = u} i j o) w d past s agrees f le c h =
+          let first = run_at F k a T u d (past_in past) in
+          let second = run_at F k b T (star u) d (past_in past) in
+          let m = cat_calls_first first second k le in
+          sequence_bound a b (star u) i o d past s agrees f m c (gains_right (free_names a) (free_names b) _ c.types O c.order h) (rest_bound i w.0 d past s agrees f m c (gains_left (free_names a) (free_names b) _ c.types O c.order h))
+          (λ e. let n = sequence_calls_second first second 0 k e (omega (arith, le)) in rest_bound j w.1 d past s agrees f (omega (arith, n)) c (gains_right (free_names a) (free_names b) _ c.types O c.order h))
+      rest_bound (inl_typed i) w d past s agrees f le c h = rest_bound i w d past s agrees f le c h
+      rest_bound (inr_typed i) w d past s agrees f le c h = rest_bound i w d past s agrees f le c h
+      rest_bound (let_typed {T = T} {O = O} {x = x} {s = u} {r = r} {a = a} {b = b} i j) w d past s agrees f le c h =
+          let p = (run_at F k a T u d (past_in past)).out in
+          let inert = is_inert F I a u in
+          let free = free_in_state (rest a T u d past) in
+          let m : (run_at F k a T u d (past_in past)).calls ≤ k = omega (arith, le) in
+          let n : (run_at F k b (put x u T) r (put x p d) (past_in past)).calls ≤ k = omega (arith, le) in
+          both_at_most _ _ _ _ (rest_bound i w.0 d past s agrees f m c (gains_left (free_names a) (without x (free_names b)) _ c.types O c.order h))
+          (rest_bound j w.1 (put x p d) past (streams_put x u p T d (run_at_derives F I Any (typed_bodies funs all_typed) k i d (past_in past) s f) s)
+          (let_agrees T O d x (free_names a) inert u p agrees (λ v. run_at_whole F I Any (typed_bodies funs all_typed) k i d (past_in past) s f (record { at = v }) m)
+          (λ q v. run_at_nothing F I Any (typed_bodies funs all_typed) (inert_bodies funs) k i q d (past_in past) f (record { at = v })))
+          f n (with_name x (der p u) (place_let x free true c.order) c)
+          (leaves_put x u (der p u) p (free_names b) T O (place_let x (free_names a) inert O) (place_let x free true c.order) d c refl (gains_right (free_names a) (without x (free_names b)) _ c.types O c.order h)
+          (within_on_let x (free_names a) free (free_names b) inert true O c.order h.order (free_in_rest F k (call_rest_at F k) a T u d past) (λ q. refl))))
+      rest_bound (let_par_typed {T = T} {O = O} {x = x} {y = y} {z = z} {r = r} {a = a} v e i) w d past s agrees f le c h =
+          let hz : Derives (par (par_left (T z)) (par_right (T z))) (d z) = subst (λ t. Derives t (d z)) e (s.at z) in
+          let q = par_parts hz in
+          pair_bound funs numbers x y z (par_left (T z)) (der (left_part (d z)) (par_left (T z))) (par_right (T z)) (der (right_part (d z)) (par_right (T z))) (left_part (d z)) (right_part (d z)) (free_names a) T O d c (rest a (put y (par_right (T z)) (put x (par_left (T z)) T)) r (put y (right_part (d z)) (put x (left_part (d z)) d)) past) (most a (put y (par_right (T z)) (put x (par_left (T z)) T)) (place_like y z (place_like x z O)))
+          (leaves_type _ T O d c h z (holds-head z _) ∙ ap Some (ap (der (d z)) e ∙ par_der hz)) refl refl h
+          (λ c' h'. rest_bound i w.1 _ past (streams_put_two x y (par_left (T z)) (par_right (T z)) _ _ T d q.0 q.1 s)
+          (pair_agrees T O d x y z (par_left (T z)) (par_right (T z)) (left_part (d z)) (right_part (d z)) agrees w.0 (λ m. par_parts_whole hz m) (λ n. (ap left_part (n ∙ ap emp e), ap right_part (n ∙ ap emp e)))) f le c' h')
+      rest_bound (let_cat_typed {T = T} {O = O} {x = x} {y = y} {z = z} {r = r} {a = a} v v' e i) w d past s agrees f le c h =
+          let hz : Derives (cat (cat_first (T z)) (cat_second (T z))) (d z) = subst (λ t. Derives t (d z)) e (s.at z) in
+          let q = cat_parts hz in
+          cut_bound funs numbers x y z (T z) (free_names a) T O d c (rest a (put y (cat_second (T z)) (put x (cat_first (T z)) T)) r (put y (second_part (cat_second (T z)) (d z)) (put x (first_part (d z)) d)) past) (most a (put y (cat_second (T z)) (put x (cat_first (T z)) T)) (put_before x y (place_like y z (place_like x z O)))) w.0.from_subject w.0.from_second e refl hz h
+          (λ c' h'. rest_bound i w.1 _ past (streams_put_two x y (cat_first (T z)) (cat_second (T z)) _ _ T d q.0 q.1 s)
+          (row_agrees T O d x y z (cat_first (T z)) (cat_second (T z)) (first_part (d z)) (second_part (cat_second (T z)) (d z)) agrees w.0.from_subject w.0.from_second (λ m. cat_parts_whole hz m)
+          (λ n. (ap first_part (n ∙ ap emp e), ap (second_part (cat_second (T z))) (n ∙ ap emp e))) (cat_order hz)) f le c' h')
+      rest_bound (case_sum_typed {T = T} {O = O} {x = x} {y = y} {z = z} {r = r} {a = a} {b = b} e i j) w d past s agrees f le c h =
+          let fs = free_names (case_sum_term z r x a y b) in
+          let held = taken (once (free_names (case_sum_term z r x a y b))) T d in
+          let runs : StreamPrefix → ℕ = λ o. (sum_run r o (λ p. run_at F k a (put x (sum_left (T z)) T) r (put x p d) (past_in past)) (λ p. run_at F k b (put y (sum_right (T z)) T) r (put y p d) (past_in past))).calls in
+          let left = most a (put x (sum_left (T z)) T) (place_like x z O) in
+          let right = most b (put y (sum_right (T z)) T) (place_like y z O) in
+          sum_rest_bound funs numbers z x y (T z) (free_names a) (free_names b) T O d c (sum_state z r held x (record { term = a; past = past; depth = k }) y (record { term = b; past = past; depth = k })) (λ p. rest a (put x (sum_left (T z)) T) r (put x p d) past) (λ p. rest b (put y (sum_right (T z)) T) r (put y p d) past) (greater (case_room T O z fs) (greater left right)) (subst (λ t. Derives t (d z)) e (s.at z)) h
+          (λ p n q c' h'. at_most_right _ (case_room T O z fs) (greater left right) (at_most_left _ left right (rest_bound i w.0 (put x p d) past (streams_put x (sum_left (T z)) p T d q s)
+          (like_agrees T O d x z (sum_left (T z)) p agrees (λ m. sym (ap is_maximal n) ∙ m) (λ m. absurd (left_none p (sym n ∙ (m ∙ ap emp e))))) f (subst (λ o. runs o ≤ k) n le) c' h')))
+          (λ p n q c' h'. at_most_right _ (case_room T O z fs) (greater left right) (at_most_right _ left right (rest_bound j w.1 (put y p d) past (streams_put y (sum_right (T z)) p T d q s)
+          (like_agrees T O d y z (sum_right (T z)) p agrees (λ m. sym (ap is_maximal n) ∙ m) (λ m. absurd (right_none p (sym n ∙ (m ∙ ap emp e))))) f (subst (λ o. runs o ≤ k) n le) c' h')))
+          (λ n. term_at_most F I numbers (case_sum_term z r x a y b) T (types_held held) O (facts_held held c.order) (gains_held fs T O c.order d held (taken_holds fs T d) agrees h.order))
+      rest_bound (case_star_typed {T = T} {O = O} {y = y} {ys = ys} {z = z} {r = r} {a = a} {b = b} v v' e i j) w d past s agrees f le c h =
+          let fs = free_names (case_star_term z r a y ys b) in
+          let held = taken (once (free_names (case_star_term z r a y ys b))) T d in
+          let runs : StreamPrefix → ℕ = λ o. (star_run r o (run_at F k a T r d (past_in past)) (λ p q. run_at F k b (put ys (star_items (T z)) (put y (star_item (T z)) T)) r (put ys q (put y p d)) (past_in past))).calls in
+          let items : star_items (T z) ≡ star (star_item (T z)) = ap star_items e in
+          let left = most a T O in
+          let right = most b (put ys (star_items (T z)) (put y (star_item (T z)) T)) (put_before y ys (place_like ys z (place_like y z O))) in
+          star_rest_bound funs numbers z y ys (T z) (free_names a) (free_names b) T O d c (star_state z r held (record { term = a; past = past; depth = k }) y ys (record { term = b; past = past; depth = k })) (rest a T r d past) (λ p q. rest b (put ys (star_items (T z)) (put y (star_item (T z)) T)) r (put ys q (put y p d)) past) (greater (case_room T O z fs) (greater left right)) w.0.from_subject w.0.from_second refl e (items ∙ sym e) refl (subst (λ t. Derives t (d z)) e (s.at z)) h
+          (λ n. at_most_right _ (case_room T O z fs) (greater left right) (at_most_left _ left right (rest_bound i w.1 d past s agrees f (subst (λ o. runs o ≤ k) n le) c (gains_left (free_names a) _ _ c.types O c.order (gains_tail z _ _ c.types O c.order h)))))
+          (λ p q n c' h'. at_most_right _ (case_room T O z fs) (greater left right) (at_most_right _ left right
+          (let g = star_came (star_item (T z)) (d z) p q (subst (λ t. Derives t (d z)) e (s.at z)) n in
+          rest_bound j w.2 (put ys q (put y p d)) past (streams_put_two y ys (star_item (T z)) (star_items (T z)) p q T d g.0 (subst (λ t. Derives t q) (sym items) g.1) s)
+          (row_agrees T O d y ys z (star_item (T z)) (star_items (T z)) p q agrees w.0.from_subject w.0.from_second (λ m. g.2 m) (λ m. absurd (star_none p q (d z) n (m ∙ ap emp e))) (star_turn (star_item (T z)) (star_items (T z)) (d z) p q (subst (λ t. Derives t (d z)) e (s.at z)) items n))
+          f (star_calls r k (d z) p q n (run_at F k a T r d (past_in past)) (λ p q. run_at F k b (put ys (star_items (T z)) (put y (star_item (T z)) T)) r (put ys q (put y p d)) (past_in past)) le) c' h')))
+          (λ n. term_at_most F I numbers (case_star_term z r a y ys b) T (types_held held) O (facts_held held c.order) (gains_held fs T O c.order d held (taken_holds fs T d) agrees h.order))
+      rest_bound (wait_typed {T = T} {O = O} {H = H} {x = x} {r = r} {a = a} n i) w d past s agrees f le c h =
+          let held = taken (once (free_names (wait_term x r a))) T d in
+          let known : List Known = record { name = x; type = T x; value = value_of (d x) } ∷ past in
+          by_test (λ b. state_bound funs numbers (if b then rest a T r d known else wait_state x r held (record { term = a; past = past; depth = k })) c ⊑ most (wait_term x r a) T O) (is_maximal (d x))
+          (λ m. at_most_right _ (wait_room T O x (free_names (wait_term x r a))) (most a T O) (rest_bound i w d known s agrees (pasts_put x (past_type (T x)) (value_of (d x)) H (past_in past) (value_has_past (T x) (d x) (is_prefix (s.at x)) m) f)
+          (subst (λ b. (wait_run r b (run_at F k a T r d (put x (value_of (d x)) (past_in past)))).calls ≤ k) m le) c (gains_tail x (free_names a) _ c.types O c.order h)))
+          (λ m. term_at_most F I numbers (wait_term x r a) T (types_held held) O (facts_held held c.order) (gains_held (free_names (wait_term x r a)) T O c.order d held (taken_holds (free_names (wait_term x r a)) T d) agrees h.order))
+      rest_bound (call_typed {T = T} {O = O} {H = H} {f = g} {ms = ms} {es = es} e i as' o) w d past s agrees f le c h =
+          let params = (F g).params in
+          let runs = run_all F (call_at F k) es (leaf_types (F g).params) T d (past_in past) in
+          let m : runs.calls ≤ k = omega (arith, le) in
+          let n : (call_at F k g (values ms (past_in past)) runs.outs).calls ≤ k = omega (arith, le) in
+          both_at_most _ _ _ _ (rests_bound as' (leaf_names (F g).params) w d past s agrees f m c h)
+          (calls_hold g (values ms (past_in past)) runs.outs (values_have H ms (past_types (F g)) (past_in past) f i) (runs_at_derive F I Any (typed_bodies funs all_typed) k as' d (past_in past) s f)
+          (passed_agree funs all_typed k (call_typed {ms = ms} e i as' o) d (past_in past) s agrees f m) n _ (body_leaves g as' o d past c h))
+
+      -- and what is left of arguments no more than the arguments can
+      rests_bound : {T : NameTypes} {O : Facts} {H : PastTypes} {es : CoreTerms} {ts : List StreamType} → TypedAll F I Any T O H es ts → (us : List ℕ) → BindApart es → (d : Environment) (past : List Known) → Streams T d → Agrees T O d
+          → HasTypes H (past_in past) → (run_all F (call_at F k) es ts T d (past_in past)).calls ≤ k → (c : Context) → Leaves (free_in_terms es) T O d c
+          → argument_bounds funs numbers (rest_all F k (call_rest_at F k) es us ts T d past) c ⊑ bounds_of F I numbers es T O
+      rests_bound none_typed us w d past s agrees f le c h = omega arith
+      rests_bound (more_typed i j) [] w d past s agrees f le c h = nothing_at_most _
+      rests_bound (more_typed {T = T} {O = O} {e = e} {es = es} i j) (u ∷ us) w d past s agrees f le c h =
+          both_at_most _ _ _ _ (rest_bound i w.0 d past s agrees f (omega (arith, le)) c (gains_left (free_names e) (free_in_terms es) _ c.types O c.order h)) (rests_bound j us w.1 d past s agrees f (omega (arith, le)) c (gains_right (free_names e) (free_in_terms es) _ c.types O c.order h))
+
+  -- at each depth calls leave no more than that: the body leaves no more than it can hold, which the number isn't below
+  calls_hold_at : (k : ℕ) → CallsHold k
+  unfolding call_at call_rest_at
+  calls_hold_at zero f vs ps hv hp agrees le c h = nothing_at_most (numbers f)
+  calls_hold_at (suc k) f vs ps hv hp agrees le c h =
+      let b = F f in
+      let T = types_in b.params in
+      let d = value_at eps_emp (leaf_names b.params) ps in
+      let past = known_of b.past vs in
+      let same : past_in past ≡ value_at unit_value (past_names b) vs = λ i x. past_known b.past vs x i in
+      let le' : (run_at F k b.body T b.result d (past_in past)).calls ≤ k = subst (λ p. (run_at F k b.body T b.result d p).calls ≤ k) (sym same) (omega (arith, le)) in
+      at_most_next _ _ _
+      (rest_bound k (calls_hold_at k) ((typed_bodies funs all_typed).body f) (at_index (λ b. BindsApart b.body) no_body funs all_apart tt f) d past (record { at = params_derive b.params hp }) agrees
+      (subst (HasTypes (past_params b.past)) (sym same) (past_params_have b hv)) le' c h) (enough f)
+
+  -- so what is left of a term holds no more than the term can, over any context that has what is left of its names
+  pub rest_at_most : (k : ℕ) {T : NameTypes} {O : Facts} {H : PastTypes} {e : CoreTerm} {r : StreamType} → Typed F I Any T O H e r → BindsApart e → (d : Environment) (past : List Known) → Streams T d → Agrees T O d
+      → HasTypes H (past_in past) → (run_at F k e T r d (past_in past)).calls ≤ k → (c : Context) → Leaves (free_names e) T O d c → state_bound funs numbers (rest_at F k e T r d past) c ⊑ bound_of F I numbers e T O
+  rest_at_most k i w d past s agrees f le c h = rest_bound k (calls_hold_at k) i w d past s agrees f le c h
