@@ -2,7 +2,8 @@
 use Rattle.std.proofs.Common.{◌≡◌, ◌∙◌, ◌≤◌, ◌<◌, ◌+◌, ⊎_elim, ◌⊎◌, inl, inr, ℕ, Bool, true, false, true≢false, not, ◌&&◌, ◌||◌, List, [], ◌∷◌, ◌++◌, eqb, if◌then◌else◌, ap, ap₂, refl, subst, sym, arith}
 use Rattle.std.proofs.lemmas.Bool.{eqb-true}
 use Rattle.std.specs.Prelude.{min, Some, None, map, length}
-use Rattle.std.proofs.lemmas.List.{length-map, length-append}
+use Rattle.std.proofs.lemmas.List.Elements.{All-head, All-tail}
+use Rattle.std.specs.List.{All}
 use Rattle.std.proofs.lemmas.List.Sums.{sum_by-cons}
 use Rattle.stream_type.specs.StreamType.{StreamType, cat, par, sum, null_of}
 use Rattle.stream_prefix.specs.StreamPrefix.{StreamPrefix, eps_emp, one_emp, int_emp, par_both, cat_fst, sum_emp, star_emp, is_maximal, IsPrefix}
@@ -30,124 +31,22 @@ use Rattle.delta_state.proofs.SettledStates.{is_not, sum_untagged, star_untagged
 use Rattle.state_bounds.specs.Bounds.{Bound, both, greater, ◌⊑◌, size_of, total, limit}
 use Rattle.state_bounds.specs.TermBounds.{room_of, case_room, wait_room}
 use Rattle.state_bounds.specs.StateBounds.{state_bound, argument_bounds}
-use Rattle.state_bounds.proofs.BoundOrder.{at_most_left, at_most_right, nothing_at_most}
+use Rattle.state_steps.proofs.HeldForms.{own_held}
+use Rattle.state_bounds.proofs.BoundOrder.{at_most_left}
+use Rattle.state_bounds.proofs.WordSizes.{counted, counted_both, counted_fewer, word_fits, empty_word}
+use Rattle.state_bounds.proofs.NameSums.{sum_of, sum_among, counted_total}
 
--- so many events, but for the limit
-abbrev pub counted : ℕ → Bound
-counted n = Some (min n limit)
-
-counted_both : (i j : ℕ) (a b : Bound) → counted i ⊑ a → counted j ⊑ b → counted (i + j) ⊑ both a b
-counted_both i j None b h k = tt
-counted_both i j (Some m) None h k = tt
-counted_both i j (Some m) (Some n) h k = omega (arith, h, k)
-
-counted_fewer : (i j : ℕ) (a : Bound) → i ≤ j → counted j ⊑ a → counted i ⊑ a
-counted_fewer i j None le h = tt
-counted_fewer i j (Some m) le h = omega (arith, le, h)
-
--- a prefix of a type has no more events than the type can have
-word_fits : {t : StreamType} {p : StreamPrefix} → Derives t p → counted (length (canon p)) ⊑ size_of t
-word_fits eps_has_emp = omega arith
-word_fits one_has_emp = omega arith
-word_fits one_has_full = omega arith
-word_fits int_has_emp = omega arith
-word_fits int_has_full = omega arith
-word_fits (par_has_both {s = s} {t = t} {p = p} {q = q} h k) =
-    subst (λ n. counted n ⊑ both (size_of s) (size_of t)) (sym (length-append (map (under Left) (canon p)) (map (under Right) (canon q)) ∙ ap₂ ◌+◌ (length-map (canon p) (under Left)) (length-map (canon q) (under Right))))
-    (counted_both (length (canon p)) (length (canon q)) (size_of s) (size_of t) (word_fits h) (word_fits k))
-word_fits (cat_has_fst {s = s} {t = t} {p = p} h) =
-    counted_fewer (length (map (under First) (canon p))) ((length (canon p) + 0) + 0) _ (let e = length-map (canon p) (under First) in omega (arith, e))
-    (counted_both (length (canon p) + 0) 0 (both (size_of s) (size_of t)) (Some 1) (counted_both (length (canon p)) 0 (size_of s) (size_of t) (word_fits h) (nothing_at_most (size_of t))) (omega arith))
-word_fits (cat_has_both {s = s} {t = t} {p = p} {q = q} h m k) =
-    counted_fewer (length (map (under First) (canon p) ++ leaf_of Cut ∷ canon q)) ((length (canon p) + length (canon q)) + 1) _
-    (let e = length-append (map (under First) (canon p)) (leaf_of Cut ∷ canon q) in let f = length-map (canon p) (under First) in omega (arith, e, f))
-    (counted_both (length (canon p) + length (canon q)) 1 (both (size_of s) (size_of t)) (Some 1) (counted_both (length (canon p)) (length (canon q)) (size_of s) (size_of t) (word_fits h) (word_fits k)) (omega arith))
-word_fits (sum_has_emp {s = s} {t = t}) = nothing_at_most (size_of (sum s t))
-word_fits (sum_has_left {s = s} {t = t} {p = p} h) =
-    counted_fewer _ (1 + length (canon p)) _ (omega arith) (counted_both 1 (length (canon p)) (Some 1) (greater (size_of s) (size_of t)) (omega arith) (at_most_left (counted (length (canon p))) (size_of s) (size_of t) (word_fits h)))
-word_fits (sum_has_right {s = s} {t = t} {p = p} h) =
-    counted_fewer _ (1 + length (canon p)) _ (omega arith) (counted_both 1 (length (canon p)) (Some 1) (greater (size_of s) (size_of t)) (omega arith) (at_most_right (counted (length (canon p))) (size_of s) (size_of t) (word_fits h)))
-word_fits star_has_emp = tt
-word_fits star_has_done = tt
-word_fits (star_has_first h) = tt
-word_fits (star_has_rest h m k) = tt
-
--- where nothing has come there is no event
-empty_word : (p : StreamPrefix) → is_empty p ≡ true → length (canon p) ≡ 0
-empty_word eps_emp h = refl
-empty_word one_emp h = refl
-empty_word int_emp h = refl
-empty_word (par_both p q) h =
-    length-append (map (under Left) (canon p)) (map (under Right) (canon q)) ∙ ap₂ ◌+◌ (length-map (canon p) (under Left) ∙ empty_word p (and_first (is_empty p) (is_empty q) h)) (length-map (canon q) (under Right) ∙ empty_word q (and_second (is_empty p) (is_empty q) h))
-empty_word (cat_fst p) h = length-map (canon p) (under First) ∙ empty_word p h
-empty_word sum_emp h = refl
-empty_word star_emp h = refl
-empty_word _ h = absurd (true≢false (sym h))
-
--- a number for each name of a list, added up
-abbrev sum_of : (ℕ → ℕ) → List ℕ → ℕ
-sum_of f [] = 0
-sum_of f (x ∷ xs) = f x + sum_of f xs
-
--- without a name that is there it is less by that name's number, or by more
-sum_without : (f : ℕ → ℕ) (x : ℕ) (ys : List ℕ) → sum_of f (without x ys) ≤ sum_of f ys
-sum_without f x [] = omega arith
-sum_without f x (y ∷ ys) = go (eqb y x) (sum_without f x ys)
-  where
-    go : (b : Bool) → sum_of f (without x ys) ≤ sum_of f ys → sum_of f (if b then without x ys else y ∷ without x ys) ≤ f y + sum_of f ys
-    go true h = omega (arith, h)
-    go false h = omega (arith, h)
-
-sum_there : (f : ℕ → ℕ) (x : ℕ) (ys : List ℕ) → holds x ys ≡ true → f x + sum_of f (without x ys) ≤ sum_of f ys
-sum_there f x [] m = absurd (true≢false (sym m))
-sum_there f x (y ∷ ys) m = go (eqb x y) refl (eqb y x) refl m (sum_there f x ys)
-  where
-    go : (a : Bool) → eqb x y ≡ a → (b : Bool) → eqb y x ≡ b → (a || holds x ys) ≡ true → (holds x ys ≡ true → f x + sum_of f (without x ys) ≤ sum_of f ys)
-        → f x + sum_of f (if b then without x ys else y ∷ without x ys) ≤ f y + sum_of f ys
-    go true e true g m h = let same = ap f (eqb-true x y e) in let less = sum_without f x ys in omega (arith, same, less)
-    go true e false g m h = absurd (true≢false (sym (eqb-same y) ∙ (ap (λ w. eqb y w) (sym (eqb-true x y e)) ∙ g)))
-    go false e true g m h = let rest = h m in omega (arith, rest)
-    go false e false g m h = let rest = h m in omega (arith, rest)
-
-none_of : (b : Bool) → not b ≡ true → b ≡ false
-none_of false h = refl
-none_of true h = absurd (true≢false (sym h))
-
-other_than : (x y : ℕ) (xs : List ℕ) → holds x xs ≡ false → holds y xs ≡ true → eqb y x ≡ false
-other_than x y xs n m = go (eqb y x) refl
-  where
-    go : (b : Bool) → eqb y x ≡ b → eqb y x ≡ false
-    go true e = absurd (true≢false (sym m ∙ (ap (λ w. holds w xs) (eqb-true y x e) ∙ n)))
-    go false e = e
-
--- names that stand once each, all in another list but for those without a number
-sum_among : (f : ℕ → ℕ) (xs ys : List ℕ) → is_distinct xs ≡ true → ((x : ℕ) → holds x xs ≡ true → (holds x ys ≡ true) ⊎ (f x ≡ 0)) → sum_of f xs ≤ sum_of f ys
-sum_among f [] ys d h = omega arith
-sum_among f (x ∷ xs) ys d h =
-    go (h x (holds-head x xs))
-    (sum_among f xs ys (and_second (not (holds x xs)) (is_distinct xs) d) (λ y m. h y (holds-tail y x xs m)))
-    (sum_among f xs (without x ys) (and_second (not (holds x xs)) (is_distinct xs) d) (λ y m. ⊎_elim (λ i. inl (holds-without y x ys (other_than x y xs (none_of (holds x xs) (and_first (not (holds x xs)) (is_distinct xs) d)) m) i)) (λ e. inr e) (h y (holds-tail y x xs m))))
-  where
-    go : (holds x ys ≡ true) ⊎ (f x ≡ 0) → sum_of f xs ≤ sum_of f ys → sum_of f xs ≤ sum_of f (without x ys) → f x + sum_of f xs ≤ sum_of f ys
-    go (inl m) all less = let there = sum_there f x ys m in omega (arith, less, there)
-    go (inr e) all less = omega (arith, e, all)
-
-counted_total : (f : ℕ → ℕ) (g : ℕ → Bound) (xs : List ℕ) → ((x : ℕ) → holds x xs ≡ true → counted (f x) ⊑ g x) → counted (sum_of f xs) ⊑ total g xs
-counted_total f g [] h = omega arith
-counted_total f g (x ∷ xs) h = counted_both (f x) (sum_of f xs) (g x) (total g xs) (h x (holds-head x xs)) (counted_total f g xs (λ y m. h y (holds-tail y x xs m)))
-
--- the number of events held of a name
+-- how many events are held of a name
 abbrev events_of : List HeldName → ℕ → ℕ
 events_of held x = length (canon (prefixes_held held x))
 
--- what is held of names that are held once each
-events_named : (held more : List HeldName) → ((x : ℕ) → holds x (held_names held) ≡ true → prefixes_held held x ≡ prefixes_held more x) → is_distinct (held_names held) ≡ true → events_in (plain_held held) ≡ sum_of (events_of more) (held_names held)
-events_named [] more h d = refl
-events_named (k ∷ held) more h d =
-    sum_by-cons (λ h. length (canon h.1)) (k.name, k.prefix) (plain_held held)
-    ∙ ap₂ ◌+◌ (ap (λ p. length (canon p)) (sym (ap (λ b. if b then k.prefix else prefixes_held held k.name) (eqb-same k.name)) ∙ h k.name (holds-head k.name (held_names held))))
-    (events_named held more (λ x m. sym (ap (λ b. if b then k.prefix else prefixes_held held x) (other_than k.name x (held_names held) (none_of (holds k.name (held_names held)) (and_first (not (holds k.name (held_names held))) (is_distinct (held_names held)) d)) m))
-    ∙ h x (holds-tail x k.name (held_names held) m)) (and_second (not (holds k.name (held_names held))) (is_distinct (held_names held)) d))
+-- where a list has at each held name what is held, the events held are its events of these names
+events_named : (held more : List HeldName) → All (λ h. (types_held more h.name ≡ h.type) × (prefixes_held more h.name ≡ h.prefix)) held → events_in (plain_held held) ≡ sum_of (events_of more) (held_names held)
+events_named [] more a = refl
+events_named (h ∷ held) more a =
+    let own = All-head (λ h. (types_held more h.name ≡ h.type) × (prefixes_held more h.name ≡ h.prefix)) h held a in
+    let others = events_named held more (All-tail (λ h. (types_held more h.name ≡ h.type) × (prefixes_held more h.name ≡ h.prefix)) h held a) in
+    sum_by-cons (λ h. length (canon h.1)) (h.name, h.prefix) (plain_held held) ∙ ap₂ ◌+◌ (ap (λ p. length (canon p)) (sym own.1)) others
 
 module _ (c : Context) (free : List ℕ) (held : List HeldName) (h : IsHeld c free held) (z : ℕ) (waits : is_maximal (prefixes_held held z) ≡ false) where
   -- what is held of a name is no more than can come on it while the subject isn't whole
@@ -161,15 +60,18 @@ module _ (c : Context) (free : List ℕ) (held : List HeldName) (h : IsHeld c fr
           omega (arith, none)
       go false e = word_fits (derives (types_held held y) (prefixes_held held y) (held_at (λ x t p. IsPrefix t p) held h.are_prefixes y (h.are_free y ∙ m)))
 
+  -- so each event that is held is one of a held name,
   all_events : events_in (plain_held held) ≡ sum_of (events_of held) (held_names held)
-  all_events = events_named held held (λ x m. refl) h.are_once
+  all_events = events_named held held (own_held held h.are_once)
 
+  -- a wait holds no more than can come on its free names,
   waiting_events : counted (events_in (plain_held held)) ⊑ wait_room (types_held held) (facts_held held c.order) z free
   waiting_events =
       counted_fewer _ (sum_of (events_of held) (once free)) _
       (let few = sum_among (events_of held) (held_names held) (once free) h.are_once (λ x m. inl (holds-once x free ∙ (sym (h.are_free x) ∙ m))) in omega (arith, few, all_events))
       (counted_total (events_of held) _ (once free) (λ y m. fits_room y (sym (holds-once y free) ∙ m)))
 
+  -- and a case no more than can come on those other than its subject, of which nothing came
   case_events : events_of held z ≡ 0 → counted (events_in (plain_held held)) ⊑ case_room (types_held held) (facts_held held c.order) z free
   case_events none =
       counted_fewer _ (sum_of (events_of held) (without z (once free))) _
@@ -185,6 +87,7 @@ module _ (c : Context) (free : List ℕ) (held : List HeldName) (h : IsHeld c fr
 
 module _ (funs : List CoreBody) (counts : ℕ → Bool) (numbers : ℕ → Bound) where
   mutual
+    -- a settled state holds no more events than its bound says,
     pub settled_holds : (s : StateTree) (c : Context) (r : StreamType) → HasStateType funs counts c s r → is_settled s r ≡ true → counted (events_held (without_marks s)) ⊑ state_bound funs numbers s c
     settled_holds (sink t) c r h i = omega arith
     settled_holds (var_state x) c r h i = omega arith
@@ -211,12 +114,8 @@ module _ (funs : List CoreBody) (counts : ℕ → Bool) (numbers : ℕ → Bound
     settled_holds (frame_state args s) c r h i =
         counted_both (events_held_by (arguments_without_marks args)) (events_held (without_marks s)) _ _ (settled_hold args c h.0 (and_first (are_settled args) (is_settled s r) i)) (settled_holds s (context_of_arguments c args) r h.1 (and_second (are_settled args) (is_settled s r) i))
 
+    -- and so do the arguments of a frame
     pub settled_hold : (args : ArgumentTrees) (c : Context) → HaveArgumentTypes funs counts c args → are_settled args ≡ true → counted (events_held_by (arguments_without_marks args)) ⊑ argument_bounds funs numbers args c
     settled_hold no_arguments c h i = omega arith
     settled_hold (argument_before x t s args) c h i =
         counted_both (events_held (without_marks s)) (events_held_by (arguments_without_marks args)) _ _ (settled_holds s c t h.0 (and_first (is_settled s t) (are_settled args) i)) (settled_hold args c h.1 (and_second (is_settled s t) (are_settled args) i))
-
--- below the limit the bound is a number of events
-pub below_limit : (e n : ℕ) (b : Bound) → counted e ⊑ b → b ⊑ Some n → n < limit → e ≤ n
-below_limit e n None h k l = absurd k
-below_limit e n (Some m) h k l = omega (arith, h, k, l)

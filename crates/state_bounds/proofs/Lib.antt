@@ -7,6 +7,8 @@ pub mod LeftNames
 pub mod RestsOfTerms
 pub mod StateStreams
 pub mod RestsOfStates
+pub mod WordSizes
+pub mod NameSums
 pub mod HeldEvents
 pub mod ProgramBounds
 pub mod ProgramNumbers

@@ -40,7 +40,8 @@ use Rattle.state_bounds.proofs.LeftNames.{Leaves}
 use Rattle.state_bounds.proofs.RestsOfTerms.{rest_at_most}
 use Rattle.state_bounds.proofs.StateStreams.{state_streams}
 use Rattle.state_bounds.proofs.RestsOfStates.{step_at_most}
-use Rattle.state_bounds.proofs.HeldEvents.{settled_holds as settled_counted, below_limit}
+use Rattle.state_bounds.proofs.WordSizes.{below_limit}
+use Rattle.state_bounds.proofs.HeldEvents.{settled_holds as settled_counted}
 
 -- what has a type where only parameters have types is a parameter
 is_parameter : (params : BunchTree) (T : NameTypes) (x : ℕ) → is_some (if holds x (leaf_names params) then Some (T x) else None) ≡ true → holds x (leaf_names params) ≡ true
