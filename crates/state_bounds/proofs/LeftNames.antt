@@ -1,6 +1,6 @@
 -- What a context has of names after something came on them, and what a state made of a part holds over it.
-use Rattle.std.proofs.Common.{◌≡◌, ◌≢◌, ◌∙◌, ◌⊎◌, inl, inr, ℕ, Bool, true, false, List, [], ◌∷◌, ◌++◌, eqb, if◌then◌else◌, ap, ap₂, refl, subst, sym}
-use Rattle.std.specs.Prelude.{Some, unwrap_or}
+use Rattle.std.proofs.Common.{◌≡◌, ◌≢◌, ◌∙◌, ◌⊎◌, inl, inr, ℕ, Bool, true, false, List, [], ◌∷◌, ◌++◌, ◌&&◌, eqb, if◌then◌else◌, ap, ap₂, refl, subst, sym}
+use Rattle.std.specs.Prelude.{Some, unwrap_or, is_some}
 use Rattle.stream_type.specs.StreamType.{StreamType, eps, cat, par, sum, star}
 use Rattle.stream_prefix.specs.StreamPrefix.{StreamPrefix, in_left, in_right, sum_emp, star_emp, star_done, star_first, star_rest, emp, der}
 use Rattle.stream_prefix.proofs.Derivations.{Derives, cat_has_fst, cat_has_both, sum_has_emp, sum_has_left, sum_has_right, star_has_emp, star_has_done, star_has_first, star_has_rest}
@@ -9,16 +9,21 @@ use Rattle.bunch.specs.Names.{put, holds}
 use Rattle.bunch.specs.Facts.{Facts, place_like, place_let, put_before}
 use Rattle.core_term.specs.CoreTerm.{CoreBody}
 use Rattle.core_term.specs.FreeNames.{without}
+use Rattle.core_term.specs.Agreement.{Agrees}
 use Rattle.core_term.specs.Environment.{Environment, NameTypes, left_at}
 use Rattle.core_term.specs.Parts.{par_left, par_right, cat_first, cat_second, sum_left, sum_right, star_item, star_items, first_part, second_part}
-use Rattle.core_term.specs.Typing.{Context, type_at, with_name, with_name_like, with_fact, with_parts}
+use Rattle.core_term.specs.Typing.{Context, type_at, types_of, is_before, with_name, with_name_like, with_fact, with_parts}
+use Rattle.core_term.proofs.InertRuns.{EmptyOn}
 use Rattle.core_term.proofs.Sides.{holds-head, holds-left, holds-right}
 use Rattle.core_term.proofs.Without.{holds-tail, put_on}
 use Rattle.core_term.proofs.Retyping.{Among}
-use Rattle.delta_state.specs.StateTree.{StateTree, let_par_state, let_cat_state}
+use Rattle.delta_state.specs.StateTree.{HeldName, StateTree, let_par_state, let_cat_state}
 use Rattle.delta_state.specs.Rest.{cut_state, sum_rest, star_rest_state}
 use Rattle.state_steps.proofs.NamesAmong.{among_under, among_first, among_second}
 use Rattle.state_steps.proofs.FactsWithin.{WithinOn, within_on_like, within_on_before, like_alias, row_facts}
+use Rattle.delta_state.specs.StateMeaning.{types_held}
+use Rattle.delta_state.specs.StateTyping.{facts_held}
+use Rattle.state_steps.proofs.HeldForms.{Holds, held_is, within_held}
 use Rattle.state_bounds.specs.Bounds.{Bound, ◌⊑◌}
 use Rattle.state_bounds.specs.StateBounds.{state_bound}
 use Rattle.state_bounds.proofs.BoundOrder.{beside_nothing}
@@ -31,6 +36,21 @@ Leaves xs T O d c = Gains xs (λ x. Some (left_at d T x)) c.types O c.order
 -- such a name has its type there
 pub leaves_type : (xs : List ℕ) (T : NameTypes) (O : Facts) (d : Environment) (c : Context) → Leaves xs T O d c → (x : ℕ) → holds x xs ≡ true → c.types x ≡ Some (der (d x) (T x))
 leaves_type xs T O d c h x m = sym (h.types x m)
+
+-- where nothing came on names they keep their types
+pub nothing_left : (xs : List ℕ) (T : NameTypes) (O : Facts) (d : Environment) (c : Context) → EmptyOn xs T d → Leaves xs T O d c → Gains xs T (types_of c) O c.order
+nothing_left xs T O d c e h = record {
+  types = λ x m. sym (ap (λ o. unwrap_or o eps) (leaves_type xs T O d c h x m ∙ ap Some (ap (λ p. der p (T x)) (e.at x m) ∙ der-emp (T x))));
+  order = h.order;
+}
+
+-- what is held is of the types from before, and agrees with each fact with which what came does
+pub gains_held : (free : List ℕ) (T : NameTypes) (O Q : Facts) (d : Environment) (held : List HeldName) → Holds free T d held → Agrees T O d → WithinOn free O Q → Gains free T (types_held held) O (facts_held held Q)
+gains_held free T O Q d held h agrees w = record { types = λ x m. (held_is free T d held h x m).0; order = within_held free T d held h O Q agrees w }
+
+-- a name that is before another is so among what is left
+pub before_after : (xs : List ℕ) (T : NameTypes) (O : Facts) (d : Environment) (c : Context) → Leaves xs T O d c → (x y : ℕ) → holds x xs ≡ true → holds y xs ≡ true → O x y ≡ true → is_before c x y ≡ true
+before_after xs T O d c h x y m n k = ap₂ ◌&&◌ (ap₂ ◌&&◌ (ap is_some (leaves_type xs T O d c h x m)) (ap is_some (leaves_type xs T O d c h y n))) (h.order.at x y m n k)
 
 -- a name may be put of which p came, once it has what p leaves of its type,
 pub leaves_put : (x : ℕ) (s t : StreamType) (p : StreamPrefix) (ys : List ℕ) (T : NameTypes) (O F G : Facts) (d : Environment) (c : Context) → t ≡ der p s → Leaves (without x ys) T O d c → WithinOn ys F G

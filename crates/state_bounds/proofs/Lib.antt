@@ -4,6 +4,7 @@ pub mod MoreFacts
 pub mod TermsWithMoreFacts
 pub mod StatesWithMoreFacts
 pub mod LeftNames
+pub mod StarItems
 pub mod RestsOfTerms
 pub mod StateStreams
 pub mod RestsOfStates

@@ -48,7 +48,7 @@ use Rattle.state_steps.proofs.NarrowedStates.{facts_follow}
 use Rattle.state_steps.proofs.NoNewNames.{free_in_step, free_in_argument_step}
 use Rattle.state_steps.proofs.Inputs.{Inputs}
 use Rattle.state_steps.proofs.HeldForms.{more_holds}
-use Rattle.state_steps.proofs.Steps.{by_test, sequence_calls_second}
+use Rattle.state_steps.proofs.Steps.{by_test, left_emp, right_emp, sequence_calls_second}
 use Rattle.state_steps.proofs.PartSteps.{cat_order, par_der}
 use Rattle.state_steps.proofs.TermSteps.{some_type}
 use Rattle.state_steps.proofs.HeldSteps.{inputs_held}
@@ -59,8 +59,9 @@ use Rattle.state_bounds.specs.StateBounds.{later_bound, waiting_bound, state_bou
 use Rattle.state_bounds.proofs.BoundOrder.{at_most_next, both_at_most, greater_at_most, at_most_left, at_most_right}
 use Rattle.state_bounds.proofs.MoreFacts.{Gains, gains_left, gains_right, gains_tail}
 use Rattle.state_bounds.proofs.TermsWithMoreFacts.{term_at_most}
-use Rattle.state_bounds.proofs.LeftNames.{Leaves, leaves_type, leaves_put, pair_bound, cut_bound, sum_rest_bound, star_rest_bound}
-use Rattle.state_bounds.proofs.RestsOfTerms.{nothing_left, gains_held, before_after, left_none, right_none, star_none, star_came, star_turn, star_calls, rest_at_most}
+use Rattle.state_bounds.proofs.StarItems.{star_none, star_came, star_turn, star_calls}
+use Rattle.state_bounds.proofs.LeftNames.{Leaves, leaves_type, nothing_left, gains_held, before_after, leaves_put, pair_bound, cut_bound, sum_rest_bound, star_rest_bound}
+use Rattle.state_bounds.proofs.RestsOfTerms.{rest_at_most}
 use Rattle.state_bounds.proofs.StateStreams.{state_streams}
 
 -- stream names of a context have there the types of all names
@@ -226,11 +227,11 @@ module _ (funs : List CoreBody) (all_typed : All (IsTypedBody funs) funs) (all_a
         (λ u i q e' k'. at_most_right _ room (greater left right) (at_most_left _ left right
         (code_bound l _ (put x (sum_left (B z)) B) (place_like x z O) r K.left_typed.has_type (extends_name (with_past l.past c') B (known_types l.past) x _ _ _ (extends_past l.past c' B w) (ap sum_left same)) (ap (place_like x z) (past_order-same l.past c'))
         K.left_typed.binds_apart (known_values l.past K.left_typed.has_values) (All-head (HasDepth n) l (m ∷ []) g.deep) (put x u p) (streams_put x (sum_left (B z)) u B p q at.streams)
-        (like_agrees B O p x z (sum_left (B z)) u at.agrees (λ j. sym (ap is_maximal i) ∙ j) (λ j. absurd (left_none u (sym i ∙ (j ∙ ap emp form))))) (subst (λ o. runs o ≤ n) i le) e' k')))
+        (like_agrees B O p x z (sum_left (B z)) u at.agrees (λ j. sym (ap is_maximal i) ∙ j) (λ j. absurd (left_emp u (sym i ∙ (j ∙ ap emp form))))) (subst (λ o. runs o ≤ n) i le) e' k')))
         (λ u i q e' k'. at_most_right _ room (greater left right) (at_most_right _ left right
         (code_bound m _ (put y (sum_right (B z)) B) (place_like y z O) r K.right_typed.has_type (extends_name (with_past m.past c') B (known_types m.past) y _ _ _ (extends_past m.past c' B w) (ap sum_right same)) (ap (place_like y z) (past_order-same m.past c'))
         K.right_typed.binds_apart (known_values m.past K.right_typed.has_values) (All-head (HasDepth n) m [] (All-tail (HasDepth n) l (m ∷ []) g.deep)) (put y u p) (streams_put y (sum_right (B z)) u B p q at.streams)
-        (like_agrees B O p y z (sum_right (B z)) u at.agrees (λ j. sym (ap is_maximal i) ∙ j) (λ j. absurd (right_none u (sym i ∙ (j ∙ ap emp form))))) (subst (λ o. runs o ≤ n) i le) e' k')))
+        (like_agrees B O p y z (sum_right (B z)) u at.agrees (λ j. sym (ap is_maximal i) ∙ j) (λ j. absurd (right_emp u (sym i ∙ (j ∙ ap emp form))))) (subst (λ o. runs o ≤ n) i le) e' k')))
         (λ i. term_at_most F I numbers (case_sum_term z t x l.term y m.term) B (types_held (held_more held d)) O (facts_held (held_more held d) e.order) (gains_held free B O e.order p (held_more held d) (more_holds c free held d hd) at.agrees kl.order))
     step_at_most (star_state z t held l y ys m) c T r g d s agrees le e k =
         let free = free_in_star z l y ys m in

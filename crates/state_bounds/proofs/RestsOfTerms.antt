@@ -43,7 +43,7 @@ use Rattle.state_steps.proofs.NamesAmong.{among_passed}
 use Rattle.state_steps.proofs.FactsWithin.{WithinOn, within_on_let}
 use Rattle.state_steps.proofs.NoNewNames.{free_in_rest, free_in_argument}
 use Rattle.state_steps.proofs.HeldForms.{Holds, held_is, within_held, taken_holds}
-use Rattle.state_steps.proofs.Steps.{by_test, sequence_calls_second}
+use Rattle.state_steps.proofs.Steps.{by_test, left_emp, right_emp, sequence_calls_second}
 use Rattle.state_steps.proofs.PartSteps.{cat_order, par_der}
 use Rattle.state_steps.proofs.CalledBodies.{past_known}
 use Rattle.state_steps.proofs.PassedArguments.{split_before, passed_agree}
@@ -53,64 +53,8 @@ use Rattle.state_bounds.specs.StateBounds.{state_bound, argument_bounds}
 use Rattle.state_bounds.proofs.BoundOrder.{at_most_next, both_at_most, greater_at_most, at_most_left, at_most_right, nothing_at_most}
 use Rattle.state_bounds.proofs.MoreFacts.{Gains, gains_left, gains_right, gains_tail}
 use Rattle.state_bounds.proofs.TermsWithMoreFacts.{term_at_most}
-use Rattle.state_bounds.proofs.LeftNames.{Leaves, leaves_type, leaves_put, pair_bound, cut_bound, sum_rest_bound, star_rest_bound}
-
--- where nothing came on names they keep their types
-pub nothing_left : (xs : List ℕ) (T : NameTypes) (O : Facts) (d : Environment) (c : Context) → EmptyOn xs T d → Leaves xs T O d c → Gains xs T (types_of c) O c.order
-nothing_left xs T O d c e h = record {
-  types = λ x m. sym (ap (λ o. unwrap_or o eps) (leaves_type xs T O d c h x m ∙ ap Some (ap (λ p. der p (T x)) (e.at x m) ∙ der-emp (T x))));
-  order = h.order;
-}
-
--- what is held is of the types from before, and agrees with each fact with which what came does
-pub gains_held : (free : List ℕ) (T : NameTypes) (O Q : Facts) (d : Environment) (held : List HeldName) → Holds free T d held → Agrees T O d → WithinOn free O Q → Gains free T (types_held held) O (facts_held held Q)
-gains_held free T O Q d held h agrees w = record { types = λ x m. (held_is free T d held h x m).0; order = within_held free T d held h O Q agrees w }
-
--- a name that is before another is so among what is left
-pub before_after : (xs : List ℕ) (T : NameTypes) (O : Facts) (d : Environment) (c : Context) → Leaves xs T O d c → (x y : ℕ) → holds x xs ≡ true → holds y xs ≡ true → O x y ≡ true → is_before c x y ≡ true
-before_after xs T O d c h x y m n k = ap₂ ◌&&◌ (ap₂ ◌&&◌ (ap is_some (leaves_type xs T O d c h x m)) (ap is_some (leaves_type xs T O d c h y n))) (h.order.at x y m n k)
-
--- a side that came isn't nothing, nor is an item
-pub left_none : (p : StreamPrefix) → in_left p ≡ sum_emp → ⊥
-left_none p e = grind arith
-
-pub right_none : (p : StreamPrefix) → in_right p ≡ sum_emp → ⊥
-right_none p e = grind arith
-
-first_none : (p : StreamPrefix) → star_first p ≡ star_emp → ⊥
-first_none p e = grind arith
-
-rest_none : (p q : StreamPrefix) → star_rest p q ≡ star_emp → ⊥
-rest_none p q e = grind arith
-
--- an item p came on a stream of items, and q of the others
-abbrev pub CameItem : StreamPrefix → StreamPrefix → StreamPrefix → Type 0
-CameItem o p q = (o ≡ star_rest p q) ⊎ ((o ≡ star_first p) × (q ≡ star_emp))
-
-pub star_none : (p q o : StreamPrefix) → CameItem o p q → o ≡ star_emp → ⊥
-star_none p q o (inl e) m = rest_none p q (sym e ∙ m)
-star_none p q o (inr e) m = first_none p (sym e.0 ∙ m)
-
-item_parts : {s : StreamType} {p q : StreamPrefix} → Derives (star s) (star_rest p q) → Derives s p × Derives (star s) q × IsTrue (is_maximal p)
-item_parts (star_has_rest h m k) = (h, k, m)
-
-first_parts : {s : StreamType} {p : StreamPrefix} → Derives (star s) (star_first p) → Derives s p
-first_parts (star_has_first h) = h
-
-pub star_came : (s : StreamType) (o p q : StreamPrefix) → Derives (star s) o → CameItem o p q → Derives s p × Derives (star s) q × (IsTrue (is_maximal o) → IsTrue (is_maximal p) × IsTrue (is_maximal q))
-star_came s o p q h (inl e) =
-    let i = item_parts (subst (Derives (star s)) e h) in
-    (i.0, i.1, λ m. (i.2, and_second (is_maximal p) (is_maximal q) (sym (ap is_maximal e) ∙ m)))
-star_came s o p q h (inr e) = (first_parts (subst (Derives (star s)) e.0 h), subst (Derives (star s)) (sym e.1) star_has_emp, λ m. absurd (true≢false (sym m ∙ ap is_maximal e.0)))
-
-pub star_turn : (s t : StreamType) (o p q : StreamPrefix) → Derives (star s) o → t ≡ star s → CameItem o p q → IsTrue (is_maximal p) ⊎ (q ≡ emp t)
-star_turn s t o p q h e (inl k) = inl (item_parts (subst (Derives (star s)) k h)).2
-star_turn s t o p q h e (inr k) = inr (k.1 ∙ ap emp (sym e))
-
--- the calls of the branch of an item
-pub star_calls : (r : StreamType) (k : ℕ) (o p q : StreamPrefix) → CameItem o p q → (a : Run) (b : StreamPrefix → StreamPrefix → Run) → (star_run r o a b).calls ≤ k → (b p q).calls ≤ k
-star_calls r k o p q (inl e) a b le = subst (λ w. (star_run r w a b).calls ≤ k) e le
-star_calls r k o p q (inr e) a b le = subst (λ w. (b p w).calls ≤ k) (sym e.1) (subst (λ w. (star_run r w a b).calls ≤ k) e.0 le)
+use Rattle.state_bounds.proofs.StarItems.{star_none, star_came, star_turn, star_calls}
+use Rattle.state_bounds.proofs.LeftNames.{Leaves, leaves_type, nothing_left, gains_held, before_after, leaves_put, pair_bound, cut_bound, sum_rest_bound, star_rest_bound}
 
 module _ (funs : List CoreBody) (all_typed : All (IsTypedBody funs) funs) (all_apart : All (λ b. BindsApart b.body) funs) (numbers : ℕ → Bound)
     (enough : (f : ℕ) → body_bound (fun_at funs) (is_inert_fun funs) numbers (fun_at funs f) ⊑ numbers f) where
@@ -282,9 +226,9 @@ module _ (funs : List CoreBody) (all_typed : All (IsTypedBody funs) funs) (all_a
           let right = most b (put y (sum_right (T z)) T) (place_like y z O) in
           sum_rest_bound funs numbers z x y (T z) (free_names a) (free_names b) T O d c (sum_state z r held x (record { term = a; past = past; depth = k }) y (record { term = b; past = past; depth = k })) (λ p. rest a (put x (sum_left (T z)) T) r (put x p d) past) (λ p. rest b (put y (sum_right (T z)) T) r (put y p d) past) (greater (case_room T O z fs) (greater left right)) (subst (λ t. Derives t (d z)) e (s.at z)) h
           (λ p n q c' h'. at_most_right _ (case_room T O z fs) (greater left right) (at_most_left _ left right (rest_bound i w.0 (put x p d) past (streams_put x (sum_left (T z)) p T d q s)
-          (like_agrees T O d x z (sum_left (T z)) p agrees (λ m. sym (ap is_maximal n) ∙ m) (λ m. absurd (left_none p (sym n ∙ (m ∙ ap emp e))))) f (subst (λ o. runs o ≤ k) n le) c' h')))
+          (like_agrees T O d x z (sum_left (T z)) p agrees (λ m. sym (ap is_maximal n) ∙ m) (λ m. absurd (left_emp p (sym n ∙ (m ∙ ap emp e))))) f (subst (λ o. runs o ≤ k) n le) c' h')))
           (λ p n q c' h'. at_most_right _ (case_room T O z fs) (greater left right) (at_most_right _ left right (rest_bound j w.1 (put y p d) past (streams_put y (sum_right (T z)) p T d q s)
-          (like_agrees T O d y z (sum_right (T z)) p agrees (λ m. sym (ap is_maximal n) ∙ m) (λ m. absurd (right_none p (sym n ∙ (m ∙ ap emp e))))) f (subst (λ o. runs o ≤ k) n le) c' h')))
+          (like_agrees T O d y z (sum_right (T z)) p agrees (λ m. sym (ap is_maximal n) ∙ m) (λ m. absurd (right_emp p (sym n ∙ (m ∙ ap emp e))))) f (subst (λ o. runs o ≤ k) n le) c' h')))
           (λ n. term_at_most F I numbers (case_sum_term z r x a y b) T (types_held held) O (facts_held held c.order) (gains_held fs T O c.order d held (taken_holds fs T d) agrees h.order))
       rest_bound (case_star_typed {T = T} {O = O} {y = y} {ys = ys} {z = z} {r = r} {a = a} {b = b} v v' e i j) w d past s agrees f le c h =
           let fs = free_names (case_star_term z r a y ys b) in
