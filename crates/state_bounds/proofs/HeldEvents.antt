@@ -1,25 +1,22 @@
 -- A settled state holds no more events than its bound says.
-use Rattle.std.proofs.Common.{◌≡◌, ◌∙◌, ◌≤◌, ◌<◌, ◌+◌, ⊎_elim, ◌⊎◌, inl, inr, ℕ, Bool, true, false, true≢false, not, ◌&&◌, ◌||◌, List, [], ◌∷◌, ◌++◌, eqb, if◌then◌else◌, ap, ap₂, refl, subst, sym, arith}
+use Rattle.std.proofs.Common.{◌≡◌, ◌∙◌, ◌+◌, ⊎_elim, ◌⊎◌, inl, inr, ℕ, Bool, true, false, true≢false, not, ◌&&◌, ◌||◌, List, [], ◌∷◌, eqb, if◌then◌else◌, ap, ap₂, refl, subst, sym, arith}
 use Rattle.std.proofs.lemmas.Bool.{eqb-true}
-use Rattle.std.specs.Prelude.{min, Some, None, map, length}
+use Rattle.std.specs.Prelude.{Some, length}
 use Rattle.std.proofs.lemmas.List.Elements.{All-head, All-tail}
 use Rattle.std.specs.List.{All}
 use Rattle.std.proofs.lemmas.List.Sums.{sum_by-cons}
-use Rattle.stream_type.specs.StreamType.{StreamType, cat, par, sum, null_of}
-use Rattle.stream_prefix.specs.StreamPrefix.{StreamPrefix, eps_emp, one_emp, int_emp, par_both, cat_fst, sum_emp, star_emp, is_maximal, IsPrefix}
-use Rattle.stream_prefix.proofs.Derivations.{Derives, derives, eps_has_emp, one_has_emp, one_has_full, int_has_emp, int_has_full, par_has_both, cat_has_fst, cat_has_both, sum_has_emp, sum_has_left, sum_has_right, star_has_emp, star_has_done, star_has_first, star_has_rest}
+use Rattle.stream_type.specs.StreamType.{StreamType, cat, par, null_of}
+use Rattle.stream_prefix.specs.StreamPrefix.{is_maximal, IsPrefix}
+use Rattle.stream_prefix.proofs.Derivations.{derives}
 use Rattle.bunch.specs.Names.{holds}
 use Rattle.bunch.specs.Facts.{place_let}
-use Rattle.event_word.specs.declared.event.Step.TheVariants.{Left, Right, First}
-use Rattle.event_word.specs.declared.event.Leaf.TheVariants.{Cut}
-use Rattle.event_word.specs.StreamEvent.{leaf_of, under}
 use Rattle.event_word.specs.Canon.{canon}
 use Rattle.core_term.specs.CoreTerm.{CoreBody}
-use Rattle.core_term.specs.FreeNames.{without, once, is_distinct}
+use Rattle.core_term.specs.FreeNames.{without, once}
 use Rattle.core_term.specs.Parts.{par_left, par_right, cat_first, cat_second}
 use Rattle.core_term.specs.Typing.{Context, type_at, with_name, with_fact, with_parts}
-use Rattle.core_term.proofs.Sides.{and_first, and_second, or_split, eqb-same, holds-head}
-use Rattle.core_term.proofs.Without.{holds-tail, holds-without, holds-kept}
+use Rattle.core_term.proofs.Sides.{and_first, and_second, or_split, holds-head}
+use Rattle.core_term.proofs.Without.{holds-without, holds-kept}
 use Rattle.core_term.proofs.OnceEach.{holds-once}
 use Rattle.delta_state.specs.StateTree.{HeldName, StateTree, ArgumentTrees, sink, var_state, par_state, cat_state, let_state, let_par_state, let_cat_state, sum_state, star_state, wait_state, frame_state, no_arguments, argument_before, held_names, free_in_state, free_in_sum, free_in_star, free_in_wait}
 use Rattle.delta_state.specs.StateMeaning.{types_held, prefixes_held}
@@ -28,7 +25,7 @@ use Rattle.delta_state.specs.Settled.{has_tag, is_settled, are_settled}
 use Rattle.delta_state.specs.PlainState.{without_marks, arguments_without_marks, plain_held, events_in, events_held, events_held_by}
 use Rattle.delta_state.proofs.HeldNames.{held_at, mark_is}
 use Rattle.delta_state.proofs.SettledStates.{is_not, sum_untagged, star_untagged}
-use Rattle.state_bounds.specs.Bounds.{Bound, both, greater, ◌⊑◌, size_of, total, limit}
+use Rattle.state_bounds.specs.Bounds.{Bound, ◌⊑◌, size_of}
 use Rattle.state_bounds.specs.TermBounds.{room_of, case_room, wait_room}
 use Rattle.state_bounds.specs.StateBounds.{state_bound, argument_bounds}
 use Rattle.state_steps.proofs.HeldForms.{own_held}

@@ -14,9 +14,7 @@ use Rattle.core_term.specs.Environment.{Environment, NameTypes, left_at}
 use Rattle.core_term.specs.Parts.{par_left, par_right, cat_first, cat_second, sum_left, sum_right, star_item, star_items, first_part, second_part}
 use Rattle.core_term.specs.Typing.{Context, type_at, types_of, is_before, with_name, with_name_like, with_fact, with_parts}
 use Rattle.core_term.proofs.InertRuns.{EmptyOn}
-use Rattle.core_term.proofs.Sides.{holds-head, holds-left, holds-right}
-use Rattle.core_term.proofs.Without.{holds-tail, put_on}
-use Rattle.core_term.proofs.Retyping.{Among}
+use Rattle.core_term.proofs.Sides.{holds-head}
 use Rattle.delta_state.specs.StateTree.{HeldName, StateTree, let_par_state, let_cat_state}
 use Rattle.delta_state.specs.Rest.{cut_state, sum_rest, star_rest_state}
 use Rattle.state_steps.proofs.NamesAmong.{among_under, among_first, among_second}

@@ -1,14 +1,9 @@
 -- The same types of the names of a list and no fewer facts between them: what it is to see less come, and that
 -- each way of placing a name keeps it.
-use Rattle.std.proofs.Common.{◌≡◌, ℕ, true, List, ◌∷◌, ◌++◌, ap, subst, sym, eqb, if◌then◌else◌, Bool, false, refl, ◌≢◌, []}
-use Rattle.std.specs.Prelude.{Some}
-use Rattle.stream_type.specs.StreamType.{StreamType}
-use Rattle.stream_prefix.specs.StreamPrefix.{StreamPrefix, der}
-use Rattle.bunch.specs.Facts.{Facts, place_like, place_let, put_before}
+use Rattle.std.proofs.Common.{◌≡◌, ℕ, true, List, ◌∷◌, ◌++◌}
+use Rattle.bunch.specs.Facts.{Facts, place_like, put_before}
 use Rattle.bunch.specs.Names.{put, holds}
-use Rattle.core_term.specs.Environment.{Environment, NameTypes, left_at}
 use Rattle.core_term.specs.FreeNames.{without}
-use Rattle.core_term.specs.Typing.{Context}
 use Rattle.core_term.proofs.Retyping.{Among, among_same}
 use Rattle.core_term.proofs.Without.{put_on}
 use Rattle.state_steps.proofs.FactsWithin.{WithinOn, within_fewer, within_on_like, within_on_before}

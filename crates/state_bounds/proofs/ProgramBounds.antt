@@ -1,17 +1,16 @@
 -- The laws of buffer bounds for whole programs.
-use Rattle.std.proofs.Common.{◌≡◌, ◌∙◌, ◌≤◌, length, ℕ, Bool, true, false, true≢false, List, [], ◌∷◌, ◌++◌, if◌then◌else◌, ap, refl, subst, sym, arith}
-use Rattle.std.specs.Prelude.{Option, Some, None, is_some}
-use Rattle.stream_type.specs.StreamType.{StreamType}
+use Rattle.std.proofs.Common.{◌≡◌, ◌∙◌, ◌≤◌, length, ℕ, Bool, true, false, true≢false, [], if◌then◌else◌, ap, refl, subst, sym, arith}
+use Rattle.std.specs.Prelude.{Some, None, is_some}
 use Rattle.stream_prefix.specs.StreamPrefix.{StreamPrefix, emp, der, join}
 use Rattle.stream_prefix.proofs.Derivations.{Derives, derives, is_prefix}
 use Rattle.stream_prefix.proofs.Joins.{emp_is_prefix}
-use Rattle.bunch.specs.BunchTree.{BunchTree, as_type, leaf_names, stands_before}
+use Rattle.bunch.specs.BunchTree.{BunchTree, as_type, leaf_names}
 use Rattle.bunch.specs.Names.{holds}
 use Rattle.event_word.specs.Word.{one_of, after_word}
 use Rattle.event_word.proofs.Words.{word_derives}
 use Rattle.core_term.specs.Agreement.{types_in}
 use Rattle.core_term.specs.CoreTerm.{CoreProgram}
-use Rattle.core_term.specs.Environment.{Environment, NameTypes, left_at}
+use Rattle.core_term.specs.Environment.{NameTypes, left_at}
 use Rattle.core_term.specs.Inert.{is_inert_fun}
 use Rattle.core_term.specs.Meaning.{calls_of, horizon}
 use Rattle.core_term.specs.Split.{split, split_after}
@@ -36,7 +35,6 @@ use Rattle.state_steps.proofs.ProgramSteps.{extends_after, event_derives, input_
 use Rattle.state_bounds.specs.Bounds.{Bound, ◌⊑◌}
 use Rattle.state_bounds.specs.ProgramBound.{AreEnough, main_bound}
 use Rattle.state_bounds.specs.Laws.{bound_after, FirstHolds, StepHolds, EventHolds, SettledHolds, MachineHolds}
-use Rattle.state_bounds.proofs.LeftNames.{Leaves}
 use Rattle.state_bounds.proofs.RestsOfTerms.{rest_at_most}
 use Rattle.state_bounds.proofs.StateStreams.{state_streams}
 use Rattle.state_bounds.proofs.RestsOfStates.{step_at_most}

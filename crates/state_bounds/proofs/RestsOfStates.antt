@@ -1,8 +1,8 @@
 -- What is left of a state after a step holds no more than the state can.
-use Rattle.std.proofs.Common.{◌≡◌, ◌∙◌, ◌≤◌, inl, inr, ⊎_elim, ℕ, Bool, true, false, true≢false, not, ◌&&◌, ◌||◌, List, [], ◌∷◌, ◌++◌, eqb, if◌then◌else◌, ap, ap₂, refl, subst, sym, arith}
+use Rattle.std.proofs.Common.{◌≡◌, ◌∙◌, ◌≤◌, ⊎_elim, ℕ, Bool, true, false, true≢false, not, ◌&&◌, ◌||◌, List, [], ◌∷◌, eqb, if◌then◌else◌, ap, ap₂, refl, subst, sym, arith}
 use Rattle.std.specs.Prelude.{Some, is_some, unwrap_or}
 use Rattle.std.specs.List.{All, list_all}
-use Rattle.std.proofs.lemmas.List.Elements.{All-nil, All-cons, All-head, All-tail}
+use Rattle.std.proofs.lemmas.List.Elements.{All-head, All-tail}
 use Rattle.stream_type.specs.StreamType.{StreamType, eps, cat, par, sum, star, null_of}
 use Rattle.stream_prefix.specs.StreamPrefix.{StreamPrefix, eps_emp, emp, is_maximal, der}
 use Rattle.stream_prefix.proofs.Derivations.{Derives, derives, is_prefix}
@@ -22,15 +22,14 @@ use Rattle.core_term.specs.Inert.{is_inert_fun}
 use Rattle.core_term.specs.Parts.{par_left, par_right, cat_first, cat_second, sum_left, sum_right, star_item, star_items, left_part, right_part, first_part, second_part}
 use Rattle.core_term.specs.Run.{sum_run, star_run, wait_run}
 use Rattle.core_term.specs.Typing.{Context, type_at, types_of, is_before, HasType, IsTypedBody, with_name, with_fact, with_parts}
-use Rattle.core_term.proofs.Sides.{and_first, and_second, holds-head, all-holds}
+use Rattle.core_term.proofs.Sides.{and_first, and_second, holds-head}
 use Rattle.core_term.proofs.Placing.{like_agrees, let_agrees, pair_agrees, row_agrees}
 use Rattle.core_term.proofs.Agreements.{whole_or_empty}
-use Rattle.core_term.proofs.InertRuns.{EmptyOn}
 use Rattle.core_term.proofs.GrowingRuns.{Streams, continues_same, streams_put, streams_put_two, par_parts, cat_parts, par_parts_whole, cat_parts_whole}
 use Rattle.core_term.proofs.Monotone.{pasts_put}
-use Rattle.core_term.proofs.TypedTerms.{PastTypes, Typed, Extends, type_in, extends_name, derive}
+use Rattle.core_term.proofs.TypedTerms.{Typed, Extends, type_in, extends_name, derive}
 use Rattle.core_term.proofs.TypedRuns.{Any, AreStreams, free_are_streams}
-use Rattle.core_term.proofs.WholeRuns.{WholeOn, cat_calls_first}
+use Rattle.core_term.proofs.WholeRuns.{cat_calls_first}
 use Rattle.delta_state.specs.StateTree.{HeldName, LaterTree, StateTree, ArgumentTrees, sink, var_state, par_state, cat_state, let_state, let_par_state, let_cat_state, sum_state, star_state, wait_state, frame_state, no_arguments, argument_before, held_names, argument_names, argument_at, free_in_state, free_in_arguments, free_in_sum, free_in_star, free_in_wait, laters_of, laters_in}
 use Rattle.delta_state.specs.StateMeaning.{past_in, knowing, types_held, prefixes_held, with_held, types_of_arguments, run_later, run_state, run_arguments}
 use Rattle.delta_state.specs.Apart.{BindsApart}
@@ -38,8 +37,7 @@ use Rattle.delta_state.specs.Settled.{is_settled, are_settled}
 use Rattle.delta_state.specs.StateTyping.{HasStateType, HaveArgumentTypes, IsHeld, is_empty, facts_held, context_held, marks_of_arguments, facts_of_arguments, context_of_arguments, with_known, with_past, no_pasts}
 use Rattle.delta_state.specs.Rest.{held_more, rest_of, rest_of_arguments, rest_later}
 use Rattle.delta_state.proofs.HeldNames.{held_left, held_prefix, arguments_extend}
-use Rattle.delta_state.proofs.SettledStates.{settled_nothing}
-use Rattle.delta_state.proofs.GrowingStates.{known_types, extends_known, extends_past, known_values, held_extend, state_run_grows, arguments_run_grow}
+use Rattle.delta_state.proofs.GrowingStates.{known_types, extends_known, extends_past, known_values, held_extend, arguments_run_grow}
 use Rattle.delta_state.proofs.WholeStates.{HasDepth, all_left, all_right}
 use Rattle.state_steps.proofs.NamesAmong.{among_argument}
 use Rattle.state_steps.proofs.FactsWithin.{within_itself, within_on_let}

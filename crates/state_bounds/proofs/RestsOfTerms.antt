@@ -1,11 +1,10 @@
 -- What is left of a term holds no more than the term can.
-use Rattle.std.proofs.Common.{◌≡◌, ◌∙◌, ◌≤◌, ◌⊎◌, inl, inr, ⊎_elim, ℕ, zero, suc, Bool, true, false, true≢false, ◌&&◌, ◌||◌, List, [], ◌∷◌, eqb, if◌then◌else◌, ap, ap₂, refl, subst, sym, arith}
-use Rattle.std.specs.Prelude.{Some, None, is_some, unwrap_or, IsTrue, map, length}
+use Rattle.std.proofs.Common.{◌≡◌, ◌∙◌, ◌≤◌, ⊎_elim, ℕ, zero, suc, Bool, true, false, true≢false, ◌&&◌, ◌||◌, List, [], ◌∷◌, eqb, if◌then◌else◌, ap, ap₂, refl, subst, sym, arith}
+use Rattle.std.specs.Prelude.{Some, None, is_some, length}
 use Rattle.std.specs.List.{All, list_all}
 use Rattle.stream_type.specs.StreamType.{StreamType, eps, cat, par, star}
-use Rattle.stream_prefix.specs.StreamPrefix.{StreamPrefix, eps_emp, in_left, in_right, sum_emp, star_emp, star_first, star_rest, emp, is_maximal, der}
-use Rattle.stream_prefix.proofs.Derivations.{Derives, is_prefix, par_has_both, cat_has_fst, cat_has_both, star_has_emp, star_has_first, star_has_rest}
-use Rattle.stream_prefix.proofs.Joins.{der-emp}
+use Rattle.stream_prefix.specs.StreamPrefix.{StreamPrefix, eps_emp, emp, is_maximal, der}
+use Rattle.stream_prefix.proofs.Derivations.{Derives, is_prefix}
 use Rattle.bunch.specs.Names.{put, holds, value_at}
 use Rattle.bunch.specs.BunchTree.{BunchTree, leaf_names, stands_before}
 use Rattle.bunch.specs.Facts.{Facts, place_like, place_let, put_before}
@@ -21,12 +20,12 @@ use Rattle.core_term.specs.Environment.{Environment, NameTypes}
 use Rattle.core_term.specs.Agreement.{Agrees, types_in}
 use Rattle.core_term.specs.Inert.{is_inert, is_inert_fun}
 use Rattle.core_term.specs.Parts.{par_left, par_right, cat_first, cat_second, sum_left, sum_right, star_item, star_items, left_part, right_part, first_part, second_part}
-use Rattle.core_term.specs.Run.{Run, cat_run, cat_run_at, sum_run, star_run, wait_run}
+use Rattle.core_term.specs.Run.{sum_run, star_run, wait_run}
 use Rattle.core_term.specs.Meaning.{values, call_at, run_all, run_at}
 use Rattle.core_term.specs.Typing.{Context, types_of, is_before, IsTypedBody, context_of, past_params, passed, with_name}
-use Rattle.core_term.proofs.Sides.{and_second, holds-head, holds-all}
+use Rattle.core_term.proofs.Sides.{holds-head, holds-all}
 use Rattle.core_term.proofs.Placing.{like_agrees, let_agrees, pair_agrees, row_agrees}
-use Rattle.core_term.proofs.Parameters.{Prefixes, PastValues, no_values, value_before, length-leaf_types, value_at-leaf_types, params_derive, values_have, past_params_have}
+use Rattle.core_term.proofs.Parameters.{Prefixes, PastValues, length-leaf_types, value_at-leaf_types, params_derive, values_have, past_params_have}
 use Rattle.core_term.proofs.InertFunctions.{inert_bodies}
 use Rattle.core_term.proofs.InertRuns.{EmptyOn, run_at_nothing}
 use Rattle.core_term.proofs.GrowingRuns.{Streams, streams_put, streams_put_two, par_parts, cat_parts, par_parts_whole, cat_parts_whole}
@@ -34,15 +33,15 @@ use Rattle.core_term.proofs.Monotone.{pasts_put, run_at_derives, runs_at_derive}
 use Rattle.core_term.proofs.TypedTerms.{PastTypes, Typed, TypedAll, var_typed, eps_typed, unit_typed, nil_typed, past_typed, par_typed, cat_typed, cons_typed, inl_typed, inr_typed, let_typed, let_par_typed, let_cat_typed, case_sum_typed, case_star_typed, wait_typed, call_typed, none_typed, more_typed, StandBefore, PassedInOrder}
 use Rattle.core_term.proofs.TypedRuns.{Any, typed_bodies, free_are_streams, at_index}
 use Rattle.core_term.proofs.WholeRuns.{cat_calls_first, run_at_whole}
-use Rattle.delta_state.specs.StateTree.{Known, HeldName, StateTree, ArgumentTrees, cat_state, sum_state, star_state, wait_state, argument_names, argument_at, free_in_state}
-use Rattle.delta_state.specs.StateMeaning.{past_in, types_held, prefixes_held}
+use Rattle.delta_state.specs.StateTree.{Known, StateTree, ArgumentTrees, cat_state, sum_state, star_state, wait_state, argument_names, argument_at, free_in_state}
+use Rattle.delta_state.specs.StateMeaning.{past_in, types_held}
 use Rattle.delta_state.specs.Apart.{BindsApart, BindApart}
-use Rattle.delta_state.specs.StateTyping.{is_empty, facts_held, marks_of_arguments, context_of_arguments}
+use Rattle.delta_state.specs.StateTyping.{facts_held, marks_of_arguments, context_of_arguments}
 use Rattle.delta_state.specs.Rest.{taken, known_of, rest_all, call_rest_at, rest_at}
 use Rattle.state_steps.proofs.NamesAmong.{among_passed}
-use Rattle.state_steps.proofs.FactsWithin.{WithinOn, within_on_let}
+use Rattle.state_steps.proofs.FactsWithin.{within_on_let}
 use Rattle.state_steps.proofs.NoNewNames.{free_in_rest, free_in_argument}
-use Rattle.state_steps.proofs.HeldForms.{Holds, held_is, within_held, taken_holds}
+use Rattle.state_steps.proofs.HeldForms.{taken_holds}
 use Rattle.state_steps.proofs.Steps.{by_test, left_emp, right_emp, sequence_calls_second}
 use Rattle.state_steps.proofs.PartSteps.{cat_order, par_der}
 use Rattle.state_steps.proofs.CalledBodies.{past_known}
@@ -51,7 +50,7 @@ use Rattle.state_bounds.specs.Bounds.{Bound, greater, ◌⊑◌}
 use Rattle.state_bounds.specs.TermBounds.{case_room, wait_room, bound_of, bounds_of, body_bound}
 use Rattle.state_bounds.specs.StateBounds.{state_bound, argument_bounds}
 use Rattle.state_bounds.proofs.BoundOrder.{at_most_next, both_at_most, greater_at_most, at_most_left, at_most_right, nothing_at_most}
-use Rattle.state_bounds.proofs.MoreFacts.{Gains, gains_left, gains_right, gains_tail}
+use Rattle.state_bounds.proofs.MoreFacts.{gains_left, gains_right, gains_tail}
 use Rattle.state_bounds.proofs.TermsWithMoreFacts.{term_at_most}
 use Rattle.state_bounds.proofs.StarItems.{star_none, star_came, star_turn, star_calls}
 use Rattle.state_bounds.proofs.LeftNames.{Leaves, leaves_type, nothing_left, gains_held, before_after, leaves_put, pair_bound, cut_bound, sum_rest_bound, star_rest_bound}

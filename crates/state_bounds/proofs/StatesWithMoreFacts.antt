@@ -1,19 +1,18 @@
 -- The bound of a state depends on what its context has of its free names alone, and with more facts it is no
 -- greater.
-use Rattle.std.proofs.Common.{◌≡◌, ◌∙◌, ℕ, Bool, true, false, ◌&&◌, List, ◌∷◌, ◌++◌, eqb, if◌then◌else◌, ap, ap₂, refl, sym, arith}
+use Rattle.std.proofs.Common.{◌≡◌, ◌∙◌, ℕ, true, ◌&&◌, List, ap, ap₂, refl, sym, arith}
 use Rattle.std.specs.Prelude.{Some, is_some, unwrap_or}
 use Rattle.std.specs.List.{list_all}
-use Rattle.stream_type.specs.StreamType.{StreamType, eps}
+use Rattle.stream_type.specs.StreamType.{eps}
 use Rattle.bunch.specs.Names.{holds}
-use Rattle.bunch.specs.Facts.{Facts, place_let}
+use Rattle.bunch.specs.Facts.{place_let}
 use Rattle.core_term.specs.CoreTerm.{CoreBody, case_sum_term, case_star_term, wait_term, fun_at}
 use Rattle.core_term.specs.FreeNames.{without, free_names}
 use Rattle.core_term.specs.Inert.{is_inert_fun}
 use Rattle.core_term.specs.Parts.{par_left, par_right, cat_first, cat_second}
-use Rattle.core_term.specs.Typing.{Context, type_at, types_of, is_before, with_name, with_name_like, with_fact, with_parts}
-use Rattle.core_term.proofs.Sides.{and_first, and_second, holds-head, holds-left, holds-right}
-use Rattle.core_term.proofs.Without.{holds-tail, holds-without}
-use Rattle.core_term.proofs.Retyping.{Among, among_same}
+use Rattle.core_term.specs.Typing.{Context, type_at, types_of, is_before, with_name, with_fact, with_parts}
+use Rattle.core_term.proofs.Sides.{and_first, and_second, holds-head}
+use Rattle.core_term.proofs.Retyping.{among_same}
 use Rattle.delta_state.specs.StateTree.{HeldName, StateTree, ArgumentTrees, sink, var_state, par_state, cat_state, let_state, let_par_state, let_cat_state, sum_state, star_state, wait_state, frame_state, no_arguments, argument_before, argument_names, argument_at, free_in_state, free_in_arguments, free_in_sum, free_in_star, free_in_wait}
 use Rattle.delta_state.specs.StateMeaning.{types_held}
 use Rattle.delta_state.specs.StateTyping.{facts_held, context_of_arguments}

@@ -2,18 +2,17 @@
 -- facts it is no greater.
 use Rattle.std.proofs.Common.{◌≡◌, ◌∙◌, ℕ, Bool, true, false, true≢false, List, ◌∷◌, ◌++◌, if◌then◌else◌, ap, refl, subst, sym, arith}
 use Rattle.std.specs.Prelude.{Some}
-use Rattle.stream_type.specs.StreamType.{StreamType}
 use Rattle.bunch.specs.Names.{put, holds}
-use Rattle.bunch.specs.Facts.{Facts, place_like, place_let, put_before}
+use Rattle.bunch.specs.Facts.{Facts, place_let}
 use Rattle.core_term.specs.CoreTerm.{CoreTerm, CoreTerms, CoreBody, var_term, eps_term, unit_term, nil_term, past_term, par_term, cat_term, cons_term, inl_term, inr_term, let_term, let_par_term, let_cat_term, case_sum_term, case_star_term, wait_term, call_term, no_terms, term_before}
 use Rattle.core_term.specs.FreeNames.{free_names, free_in_terms, without, once}
 use Rattle.core_term.specs.Environment.{NameTypes}
 use Rattle.core_term.specs.Inert.{is_inert}
 use Rattle.core_term.specs.Parts.{par_left, par_right, cat_first, cat_second, sum_left, sum_right, star_item, star_items}
-use Rattle.core_term.proofs.Sides.{holds-head, holds-left, holds-right}
-use Rattle.core_term.proofs.Without.{holds-tail, holds-kept, put_on}
+use Rattle.core_term.proofs.Sides.{holds-head}
+use Rattle.core_term.proofs.Without.{holds-kept}
 use Rattle.core_term.proofs.OnceEach.{holds-once}
-use Rattle.core_term.proofs.Retyping.{Among, among_same}
+use Rattle.core_term.proofs.Retyping.{among_same}
 use Rattle.state_steps.proofs.FactsWithin.{within_on_let}
 use Rattle.state_steps.proofs.NamesAmong.{among_first, among_second}
 use Rattle.state_bounds.specs.Bounds.{Bound, ◌⊑◌, size_of}

@@ -3,12 +3,12 @@
 -- Choices that are not obvious:
 -- - Only functions that are reached from the main program by calls have numbers. They are found in as many
 --   rounds as there are functions: each round adds what those found before call.
--- - All numbers begin with 0, and a round takes each function's from its body with the numbers before. After
---   as many rounds as functions are reached each number that still grows comes back to itself by calls: then
---   the program has no bound.
+-- - All numbers begin with 0, and a round takes each function's from its body with the numbers before. Where a
+--   number still grows after as many rounds as functions are reached, as that of a function that calls itself
+--   and holds more at each call, the program has no bound.
 -- - A case or a wait that counts a name whose type has a star in it has no bound. The first such name is told
 --   of each node (`first_large`).
-use Rattle.std.specs.Prelude.{ℕ, zero, suc, ◌==◌, ◌≡◌, Bool, true, false, ◌&&◌, ◌||◌, List, [], ◌∷◌, ◌++◌, length, slice_index_or, Option, Some, None, if◌then◌else◌}
+use Rattle.std.specs.Prelude.{ℕ, zero, suc, ◌==◌, Bool, true, false, ◌&&◌, ◌||◌, List, [], ◌∷◌, ◌++◌, length, slice_index_or, Option, Some, None, if◌then◌else◌}
 use Rattle.bunch.specs.Names.{holds}
 use Rattle.core_term.specs.CoreTerm.{CoreTerm, CoreTerms, CoreBody, CoreProgram, var_term, eps_term, unit_term, nil_term, past_term, par_term, cat_term, cons_term, inl_term, inr_term, let_term, let_par_term, let_cat_term, case_sum_term, case_star_term, wait_term, call_term, no_terms, term_before, fun_at}
 use Rattle.core_term.specs.Inert.{is_inert_fun}
