@@ -4,10 +4,8 @@ use Rattle.std.proofs.lemmas.Bool.{eqb-true}
 use Rattle.std.proofs.lemmas.List.{length-append}
 use Rattle.std.specs.Prelude.{Some, None}
 use Rattle.core_term.specs.CoreTerm.{CoreProgram, fun_at}
-use Rattle.core_term.specs.Inert.{is_inert_fun}
 use Rattle.state_bounds.specs.Bounds.{Bound, ◌⊑◌}
-use Rattle.state_bounds.specs.TermBounds.{body_bound}
-use Rattle.state_bounds.specs.ProgramBound.{is_marked, tabulated, repeated, reached_marks, mark_count, number_at, first_numbers, numbers_after, program_numbers, is_same_bound, first_other}
+use Rattle.state_bounds.specs.ProgramBound.{bound_of_body, is_marked, tabulated, repeated, reached_marks, mark_count, number_at, first_numbers, numbers_after, program_numbers, is_same_bound, first_other}
 use Rattle.state_bounds.specs.Laws.{NumbersAreEnough}
 use Rattle.state_bounds.proofs.BoundOrder.{at_most_same}
 
@@ -57,13 +55,13 @@ length-numbers c marks (suc k) = length-tabulated (length c.funs) _
 -- so a function that is reached has the bound of its body, and another has none to pass
 pub numbers_are_enough : NumbersAreEnough
 numbers_are_enough c steady f =
-    let bound = body_bound (fun_at c.funs) (is_inert_fun c.funs) (number_at (program_numbers c)) (fun_at c.funs f) in
     let next = numbers_after c (reached_marks c) (program_numbers c) in
     let same = length-numbers c (reached_marks c) (mark_count (reached_marks c)) ∙ sym (length-tabulated (length c.funs) _) in
-    subst (λ b. bound ⊑ b) (none_other 0 (program_numbers c) next same steady f)
-    (read_table (length c.funs) _ f (λ b. bound ⊑ b) tt (by_mark (is_marked (reached_marks c) f)))
+    subst (λ b. own ⊑ b) (none_other 0 (program_numbers c) next same steady f) (read_table (length c.funs) _ f (λ b. own ⊑ b) tt (by_mark (is_marked (reached_marks c) f)))
   where
-    by_mark : (m : Bool) → body_bound (fun_at c.funs) (is_inert_fun c.funs) (number_at (program_numbers c)) (fun_at c.funs f)
-        ⊑ (if m then body_bound (fun_at c.funs) (is_inert_fun c.funs) (number_at (program_numbers c)) (fun_at c.funs f) else None)
-    by_mark true = at_most_same (body_bound (fun_at c.funs) (is_inert_fun c.funs) (number_at (program_numbers c)) (fun_at c.funs f))
+    own : Bound
+    own = bound_of_body c (number_at (program_numbers c)) (fun_at c.funs f)
+
+    by_mark : (m : Bool) → own ⊑ (if m then own else None)
+    by_mark true = at_most_same own
     by_mark false = tt

@@ -53,7 +53,7 @@ use Rattle.state_steps.proofs.HeldSteps.{inputs_held}
 use Rattle.state_steps.proofs.StateSteps.{IsReady, parameter_there, state_derives, state_whole, state_nothing, arguments_agree}
 use Rattle.state_bounds.specs.Bounds.{Bound, greater, ◌⊑◌}
 use Rattle.state_bounds.specs.TermBounds.{case_room, wait_room, body_bound}
-use Rattle.state_bounds.specs.StateBounds.{later_bound, waiting_bound, state_bound, argument_bounds}
+use Rattle.state_bounds.specs.StateBounds.{code_bound, state_bound, argument_bounds}
 use Rattle.state_bounds.proofs.BoundOrder.{at_most_next, both_at_most, greater_at_most, at_most_left, at_most_right}
 use Rattle.state_bounds.proofs.MoreFacts.{Gains, gains_left, gains_right, gains_tail}
 use Rattle.state_bounds.proofs.TermsWithMoreFacts.{term_at_most}
@@ -113,9 +113,9 @@ module _ (funs : List CoreBody) (all_typed : All (IsTypedBody funs) funs) (all_a
   I = is_inert_fun funs
 
   -- what is left of code that is reached holds no more than the code can,
-  code_bound : (l : LaterTree) (c : Context) (T : NameTypes) (O : Facts) (r : StreamType) → HasType funs I c l.term r → Extends c T (known_types l.past) → c.order ≡ O → BindsApart l.term → HasTypes (known_types l.past) (past_in l.past) → n ≤ l.depth
-      → (d : Environment) → Streams T d → Agrees T O d → (run_later F l T r d).calls ≤ n → (e : Context) → Leaves (free_names l.term) T O d e → state_bound funs numbers (rest_later F l T r d) e ⊑ later_bound funs numbers l T O
-  code_bound l c T O r h w o a v deep d s agrees le e k =
+  code_at_most : (l : LaterTree) (c : Context) (T : NameTypes) (O : Facts) (r : StreamType) → HasType funs I c l.term r → Extends c T (known_types l.past) → c.order ≡ O → BindsApart l.term → HasTypes (known_types l.past) (past_in l.past) → n ≤ l.depth
+      → (d : Environment) → Streams T d → Agrees T O d → (run_later F l T r d).calls ≤ n → (e : Context) → Leaves (free_names l.term) T O d e → state_bound funs numbers (rest_later F l T r d) e ⊑ code_bound funs numbers l.term T O
+  code_at_most l c T O r h w o a v deep d s agrees le e k =
       rest_at_most funs all_typed all_apart numbers enough l.depth (subst (λ o. Typed F I Any T o (known_types l.past) l.term r) o (derive funs I Any (λ u v. tt) l.term c T (known_types l.past) r w h)) a d l.past s agrees v (omega (arith, deep, le)) e k
 
   -- what a called body has of its parameters after a step
@@ -153,12 +153,12 @@ module _ (funs : List CoreBody) (all_typed : All (IsTypedBody funs) funs) (all_a
         let known = extends_past l.past c T g.extends in
         let streams : AreStreams c (free_names l.term) = record { at = λ x m. ap (λ t. is_some (t x)) (sym (past_types-same l.past c)) ∙ (free_are_streams funs I l.term (with_past l.past c) v g.typed.1.has_type).at x m } in
         let own = term_at_most F I numbers l.term (types_of c) T c.order c.order (gains_own (free_names l.term) c T g.extends streams) in
-        by_test (λ w. state_bound funs numbers (if w then rest_later F l T v d else cat_state (rest_of F a T u d) l) e ⊑ greater (state_bound funs numbers a c) (later_bound funs numbers l (types_of c) c.order)) (is_maximal (run_state F a T u d).out)
-        (λ i. at_most_right _ (state_bound funs numbers a c) (later_bound funs numbers l (types_of c) c.order)
-        (at_most_next _ (later_bound funs numbers l T c.order) _
-        (code_bound l (with_past l.past c) T c.order v g.typed.1.has_type known (past_order-same l.past c) g.typed.1.binds_apart (known_values l.past g.typed.1.has_values) deep d s agrees (let few = sequence_calls_second first second 0 n i (omega (arith, le)) in omega (arith, few)) e kl) own))
+        by_test (λ w. state_bound funs numbers (if w then rest_later F l T v d else cat_state (rest_of F a T u d) l) e ⊑ greater (state_bound funs numbers a c) (code_bound funs numbers l.term (types_of c) c.order)) (is_maximal (run_state F a T u d).out)
+        (λ i. at_most_right _ (state_bound funs numbers a c) (code_bound funs numbers l.term (types_of c) c.order)
+        (at_most_next _ (code_bound funs numbers l.term T c.order) _
+        (code_at_most l (with_past l.past c) T c.order v g.typed.1.has_type known (past_order-same l.past c) g.typed.1.binds_apart (known_values l.past g.typed.1.has_values) deep d s agrees (let few = sequence_calls_second first second 0 n i (omega (arith, le)) in omega (arith, few)) e kl) own))
         (λ i. greater_at_most _ _ _ _ (step_at_most a c T u ga d s agrees m e (gains_left (free_in_state a) (free_names l.term) _ e.types c.order e.order k))
-        (at_most_next _ (later_bound funs numbers l T c.order) _ (term_at_most F I numbers l.term T (types_of e) c.order e.order (nothing_left (free_names l.term) T c.order d e
+        (at_most_next _ (code_bound funs numbers l.term T c.order) _ (term_at_most F I numbers l.term T (types_of e) c.order e.order (nothing_left (free_names l.term) T c.order d e
         (⊎_elim (λ w. absurd (true≢false (sym (state_whole funs all_typed n a c T u ga d s (record { at = w }) m) ∙ i))) (λ q. record { at = q })
         (whole_or_empty T d (free_in_state a) (free_names l.term) (λ x y mx my. agrees x y (and_second (is_some (c.types x) && is_some (c.types y)) (c.order x y) (g.typed.2 x y mx my))))) kl)) own))
     step_at_most (cat_state a l) c T _ g d s agrees le e k = absurd g.typed
@@ -217,17 +217,17 @@ module _ (funs : List CoreBody) (all_typed : All (IsTypedBody funs) funs) (all_a
         let form : B z ≡ sum (sum_left (B z)) (sum_right (B z)) = subst (λ u. B z ≡ sum (sum_left u) (sum_right u)) same (w.stream z _ K.subject_typed) in
         let kl = leaves_held c T free held g.extends hd d s e k in
         let runs : StreamPrefix → ℕ = λ o. (sum_run r o (λ u. run_later F l (put x (sum_left (B z)) B) r (put x u p)) (λ u. run_later F m (put y (sum_right (B z)) B) r (put y u p))).calls in
-        let left = later_bound funs numbers l (put x (sum_left (B z)) B) (place_like x z O) in
-        let right = later_bound funs numbers m (put y (sum_right (B z)) B) (place_like y z O) in
+        let left = code_bound funs numbers l.term (put x (sum_left (B z)) B) (place_like x z O) in
+        let right = code_bound funs numbers m.term (put y (sum_right (B z)) B) (place_like y z O) in
         let room = case_room B O z free in
         sum_rest_bound funs numbers z x y (B z) (free_names l.term) (free_names m.term) B O p e (sum_state z t (held_more held d) x l y m) (λ u. rest_later F l (put x (sum_left (B z)) B) r (put x u p)) (λ u. rest_later F m (put y (sum_right (B z)) B) r (put y u p))
         (greater room (greater left right)) (subst (λ u. Derives u (p z)) form (at.streams.at z)) kl
         (λ u i q e' k'. at_most_right _ room (greater left right) (at_most_left _ left right
-        (code_bound l _ (put x (sum_left (B z)) B) (place_like x z O) r K.left_typed.has_type (extends_name (with_past l.past c') B (known_types l.past) x _ _ _ (extends_past l.past c' B w) (ap sum_left same)) (ap (place_like x z) (past_order-same l.past c'))
+        (code_at_most l _ (put x (sum_left (B z)) B) (place_like x z O) r K.left_typed.has_type (extends_name (with_past l.past c') B (known_types l.past) x _ _ _ (extends_past l.past c' B w) (ap sum_left same)) (ap (place_like x z) (past_order-same l.past c'))
         K.left_typed.binds_apart (known_values l.past K.left_typed.has_values) (All-head (HasDepth n) l (m ∷ []) g.deep) (put x u p) (streams_put x (sum_left (B z)) u B p q at.streams)
         (like_agrees B O p x z (sum_left (B z)) u at.agrees (λ j. sym (ap is_maximal i) ∙ j) (λ j. absurd (left_emp u (sym i ∙ (j ∙ ap emp form))))) (subst (λ o. runs o ≤ n) i le) e' k')))
         (λ u i q e' k'. at_most_right _ room (greater left right) (at_most_right _ left right
-        (code_bound m _ (put y (sum_right (B z)) B) (place_like y z O) r K.right_typed.has_type (extends_name (with_past m.past c') B (known_types m.past) y _ _ _ (extends_past m.past c' B w) (ap sum_right same)) (ap (place_like y z) (past_order-same m.past c'))
+        (code_at_most m _ (put y (sum_right (B z)) B) (place_like y z O) r K.right_typed.has_type (extends_name (with_past m.past c') B (known_types m.past) y _ _ _ (extends_past m.past c' B w) (ap sum_right same)) (ap (place_like y z) (past_order-same m.past c'))
         K.right_typed.binds_apart (known_values m.past K.right_typed.has_values) (All-head (HasDepth n) m [] (All-tail (HasDepth n) l (m ∷ []) g.deep)) (put y u p) (streams_put y (sum_right (B z)) u B p q at.streams)
         (like_agrees B O p y z (sum_right (B z)) u at.agrees (λ j. sym (ap is_maximal i) ∙ j) (λ j. absurd (right_emp u (sym i ∙ (j ∙ ap emp form))))) (subst (λ o. runs o ≤ n) i le) e' k')))
         (λ i. term_at_most F I numbers (case_sum_term z t x l.term y m.term) B (types_held (held_more held d)) O (facts_held (held_more held d) e.order) (gains_held free B O e.order p (held_more held d) (more_holds c free held d hd) at.agrees kl.order))
@@ -251,17 +251,17 @@ module _ (funs : List CoreBody) (all_typed : All (IsTypedBody funs) funs) (all_a
         let one = extends_name (with_past m.past c') B (known_types m.past) y _ _ (place_like y z (with_past m.past c').order) (extends_past m.past c' B w) (ap star_item same) in
         let two = extends_name _ _ (known_types m.past) ys _ _ (place_like ys z (place_like y z (with_past m.past c').order)) one (ap star_items same) in
         let runs : StreamPrefix → ℕ = λ o. (star_run r o (run_later F l B r p) (λ u v. run_later F m (put ys (star_items (B z)) (put y (star_item (B z)) B)) r (put ys v (put y u p)))).calls in
-        let left = later_bound funs numbers l B O in
-        let right = later_bound funs numbers m T1 O1 in
+        let left = code_bound funs numbers l.term B O in
+        let right = code_bound funs numbers m.term T1 O1 in
         let room = case_room B O z free in
         star_rest_bound funs numbers z y ys (B z) (free_names l.term) (free_names m.term) B O p e (star_state z t (held_more held d) l y ys m) (rest_later F l B r p) (λ u v. rest_later F m T1 r (put ys v (put y u p)))
         (greater room (greater left right)) K.item_apart.from_subject K.item_apart.from_second refl form (items ∙ sym form) refl hz kl
         (λ i. at_most_right _ room (greater left right) (at_most_left _ left right
-        (code_bound l (with_past l.past c') B O r K.end_typed.has_type (extends_past l.past c' B w) (past_order-same l.past c') K.end_typed.binds_apart (known_values l.past K.end_typed.has_values) (All-head (HasDepth n) l (m ∷ []) g.deep) p at.streams at.agrees (subst (λ o. runs o ≤ n) i le) e
+        (code_at_most l (with_past l.past c') B O r K.end_typed.has_type (extends_past l.past c' B w) (past_order-same l.past c') K.end_typed.binds_apart (known_values l.past K.end_typed.has_values) (All-head (HasDepth n) l (m ∷ []) g.deep) p at.streams at.agrees (subst (λ o. runs o ≤ n) i le) e
         (gains_left (free_names l.term) _ _ e.types O e.order (gains_tail z _ _ e.types O e.order kl)))))
         (λ u v i e' k'. at_most_right _ room (greater left right) (at_most_right _ left right
         (let came = star_came (star_item (B z)) (p z) u v hz i in
-        code_bound m _ T1 O1 r K.item_typed.has_type (record { stream = two.stream; historical = two.historical }) (ap (λ o. put_before y ys (place_like ys z (place_like y z o))) (past_order-same m.past c'))
+        code_at_most m _ T1 O1 r K.item_typed.has_type (record { stream = two.stream; historical = two.historical }) (ap (λ o. put_before y ys (place_like ys z (place_like y z o))) (past_order-same m.past c'))
         K.item_typed.binds_apart (known_values m.past K.item_typed.has_values) (All-head (HasDepth n) m [] (All-tail (HasDepth n) l (m ∷ []) g.deep)) (put ys v (put y u p))
         (streams_put_two y ys (star_item (B z)) (star_items (B z)) u v B p came.0 (subst (λ q. Derives q v) (sym items) came.1) at.streams)
         (row_agrees B O p y ys z (star_item (B z)) (star_items (B z)) u v at.agrees K.item_apart.from_subject K.item_apart.from_second (λ j. came.2 j) (λ j. absurd (star_none u v (p z) i (j ∙ ap emp form))) (star_turn (star_item (B z)) (star_items (B z)) (p z) u v hz items i))
@@ -280,9 +280,9 @@ module _ (funs : List CoreBody) (all_typed : All (IsTypedBody funs) funs) (all_a
         let same = type_in c' B no_pasts w x _ K.subject_typed in
         let kl = leaves_held c T free held g.extends hd d s e k in
         let known = knowing x (B x) (value_of (p x)) l in
-        by_test (λ b. state_bound funs numbers (if b then rest_later F known B r p else wait_state x t (held_more held d) l) e ⊑ waiting_bound funs numbers x l B O) (is_maximal (p x))
-        (λ i. at_most_right _ (wait_room B O x free) (later_bound funs numbers l B O)
-        (code_bound known (with_known x (type_at c' x) (with_past l.past c')) B O r K.rest_typed.has_type
+        by_test (λ b. state_bound funs numbers (if b then rest_later F known B r p else wait_state x t (held_more held d) l) e ⊑ code_bound funs numbers (wait_term x t l.term) B O) (is_maximal (p x))
+        (λ i. at_most_right _ (wait_room B O x free) (code_bound funs numbers l.term B O)
+        (code_at_most known (with_known x (type_at c' x) (with_past l.past c')) B O r K.rest_typed.has_type
         (subst (λ u. Extends (with_known x u (with_past l.past c')) B (put x (Some (past_type (B x))) (known_types l.past))) (sym same) (extends_known (with_past l.past c') B (known_types l.past) x (B x) (extends_past l.past c' B w)))
         (past_order-same l.past c') K.rest_typed.binds_apart
         (pasts_put x (past_type (B x)) (value_of (p x)) (known_types l.past) (past_in l.past) (value_has_past (B x) (p x) (is_prefix (at.streams.at x)) i) (known_values l.past K.rest_typed.has_values))

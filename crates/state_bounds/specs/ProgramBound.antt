@@ -15,14 +15,17 @@ use Rattle.core_term.specs.Inert.{is_inert_fun}
 use Rattle.state_bounds.specs.Bounds.{Bound, ◌⊑◌}
 use Rattle.state_bounds.specs.TermBounds.{body_bound}
 
--- numbers for the functions of a program that none of their bodies passes. A function without a number has none
--- to pass
+-- what a body can hold at most, with numbers for the functions of the program
+abbrev pub bound_of_body : CoreProgram → (ℕ → Bound) → CoreBody → Bound
+bound_of_body c numbers b = body_bound (fun_at c.funs) (is_inert_fun c.funs) numbers b
+
+-- numbers that no function's body passes. A function without a number has none to pass
 abbrev pub AreEnough : CoreProgram → (ℕ → Bound) → Type 0
-AreEnough c numbers = (f : ℕ) → body_bound (fun_at c.funs) (is_inert_fun c.funs) numbers (fun_at c.funs f) ⊑ numbers f
+AreEnough c numbers = (f : ℕ) → bound_of_body c numbers (fun_at c.funs f) ⊑ numbers f
 
 -- what the main program can hold at most, with such numbers
 abbrev pub main_bound : CoreProgram → (ℕ → Bound) → Bound
-main_bound c numbers = body_bound (fun_at c.funs) (is_inert_fun c.funs) numbers c.main
+main_bound c numbers = bound_of_body c numbers c.main
 
 abbrev mutual
   -- the functions that a term calls, each as often as it does,
@@ -98,7 +101,7 @@ first_numbers c marks = tabulated (length c.funs) (λ f. if is_marked marks f th
 -- and after a round what each marked body can hold at most with the numbers before
 abbrev pub numbers_after : CoreProgram → List Bool → List Bound → List Bound
 numbers_after c marks ns =
-    tabulated (length c.funs) (λ f. if is_marked marks f then body_bound (fun_at c.funs) (is_inert_fun c.funs) (number_at ns) (fun_at c.funs f) else None)
+    tabulated (length c.funs) (λ f. if is_marked marks f then bound_of_body c (number_at ns) (fun_at c.funs f) else None)
 
 -- the numbers after so many rounds
 abbrev pub numbers_in : CoreProgram → ℕ → List Bound
