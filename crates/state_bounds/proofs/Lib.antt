@@ -5,8 +5,9 @@ pub mod TermsWithMoreFacts
 pub mod StatesWithMoreFacts
 pub mod LeftNames
 pub mod StarItems
-pub mod RestsOfTerms
 pub mod StateStreams
+pub mod LeftParameters
+pub mod RestsOfTerms
 pub mod RestsOfStates
 pub mod WordSizes
 pub mod NameSums

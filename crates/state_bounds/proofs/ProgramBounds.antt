@@ -1,6 +1,6 @@
 -- The laws of buffer bounds for whole programs.
-use Rattle.std.proofs.Common.{◌≡◌, ◌∙◌, ◌≤◌, length, ℕ, Bool, true, false, true≢false, [], if◌then◌else◌, ap, refl, subst, sym, arith}
-use Rattle.std.specs.Prelude.{Some, None, is_some}
+use Rattle.std.proofs.Common.{◌≡◌, ◌∙◌, ◌≤◌, length, ℕ, true, [], if◌then◌else◌, ap, subst, sym, arith}
+use Rattle.std.specs.Prelude.{Some, None}
 use Rattle.stream_prefix.specs.StreamPrefix.{StreamPrefix, emp, der, join}
 use Rattle.stream_prefix.proofs.Derivations.{Derives, derives, is_prefix}
 use Rattle.stream_prefix.proofs.Joins.{emp_is_prefix}
@@ -35,19 +35,12 @@ use Rattle.state_steps.proofs.ProgramSteps.{extends_after, event_derives, input_
 use Rattle.state_bounds.specs.Bounds.{Bound, ◌⊑◌}
 use Rattle.state_bounds.specs.ProgramBound.{AreEnough, main_bound}
 use Rattle.state_bounds.specs.Laws.{bound_after, FirstHolds, StepHolds, EventHolds, SettledHolds, MachineHolds}
+use Rattle.state_bounds.proofs.LeftParameters.{is_parameter}
 use Rattle.state_bounds.proofs.RestsOfTerms.{rest_at_most}
 use Rattle.state_bounds.proofs.StateStreams.{state_streams}
 use Rattle.state_bounds.proofs.RestsOfStates.{step_at_most}
 use Rattle.state_bounds.proofs.WordSizes.{below_limit}
 use Rattle.state_bounds.proofs.HeldEvents.{settled_holds as settled_counted}
-
--- what has a type where only parameters have types is a parameter
-is_parameter : (params : BunchTree) (T : NameTypes) (x : ℕ) → is_some (if holds x (leaf_names params) then Some (T x) else None) ≡ true → holds x (leaf_names params) ≡ true
-is_parameter params T x m = go (holds x (leaf_names params)) m
-  where
-    go : (b : Bool) → is_some (if b then Some (T x) else None) ≡ true → b ≡ true
-    go true m = refl
-    go false m = absurd (true≢false (sym m))
 
 module _ (c : CoreProgram) (runnable : IsRunnable c) (numbers : ℕ → Bound) (enough : AreEnough c numbers) where
   -- the parameters of main, and what an input leaves of their types

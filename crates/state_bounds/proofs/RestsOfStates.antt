@@ -1,7 +1,7 @@
 -- What is left of a state after a step holds no more than the state can.
-use Rattle.std.proofs.Common.{◌≡◌, ◌∙◌, ◌≤◌, ⊎_elim, ℕ, Bool, true, false, true≢false, not, ◌&&◌, ◌||◌, List, [], ◌∷◌, eqb, if◌then◌else◌, ap, ap₂, refl, subst, sym, arith}
+use Rattle.std.proofs.Common.{◌≡◌, ◌∙◌, ◌≤◌, ⊎_elim, ℕ, Bool, true, true≢false, not, ◌&&◌, ◌||◌, List, [], ◌∷◌, if◌then◌else◌, ap, refl, subst, sym, arith}
 use Rattle.std.specs.Prelude.{Some, is_some, unwrap_or}
-use Rattle.std.specs.List.{All, list_all}
+use Rattle.std.specs.List.{All}
 use Rattle.std.proofs.lemmas.List.Elements.{All-head, All-tail}
 use Rattle.stream_type.specs.StreamType.{StreamType, eps, cat, par, sum, star, null_of}
 use Rattle.stream_prefix.specs.StreamPrefix.{StreamPrefix, eps_emp, emp, is_maximal, der}
@@ -21,7 +21,7 @@ use Rattle.core_term.specs.Agreement.{Agrees}
 use Rattle.core_term.specs.Inert.{is_inert_fun}
 use Rattle.core_term.specs.Parts.{par_left, par_right, cat_first, cat_second, sum_left, sum_right, star_item, star_items, left_part, right_part, first_part, second_part}
 use Rattle.core_term.specs.Run.{sum_run, star_run, wait_run}
-use Rattle.core_term.specs.Typing.{Context, type_at, types_of, is_before, HasType, IsTypedBody, with_name, with_fact, with_parts}
+use Rattle.core_term.specs.Typing.{Context, type_at, types_of, HasType, IsTypedBody, with_name, with_fact, with_parts}
 use Rattle.core_term.proofs.Sides.{and_first, and_second, holds-head}
 use Rattle.core_term.proofs.Placing.{like_agrees, let_agrees, pair_agrees, row_agrees}
 use Rattle.core_term.proofs.Agreements.{whole_or_empty}
@@ -30,27 +30,25 @@ use Rattle.core_term.proofs.Monotone.{pasts_put}
 use Rattle.core_term.proofs.TypedTerms.{Typed, Extends, type_in, extends_name, derive}
 use Rattle.core_term.proofs.TypedRuns.{Any, AreStreams, free_are_streams}
 use Rattle.core_term.proofs.WholeRuns.{cat_calls_first}
-use Rattle.delta_state.specs.StateTree.{HeldName, LaterTree, StateTree, ArgumentTrees, sink, var_state, par_state, cat_state, let_state, let_par_state, let_cat_state, sum_state, star_state, wait_state, frame_state, no_arguments, argument_before, held_names, argument_names, argument_at, free_in_state, free_in_arguments, free_in_sum, free_in_star, free_in_wait, laters_of, laters_in}
+use Rattle.delta_state.specs.StateTree.{HeldName, LaterTree, StateTree, ArgumentTrees, sink, var_state, par_state, cat_state, let_state, let_par_state, let_cat_state, sum_state, star_state, wait_state, frame_state, no_arguments, argument_before, held_names, argument_names, free_in_state, free_in_arguments, free_in_sum, free_in_star, free_in_wait, laters_of, laters_in}
 use Rattle.delta_state.specs.StateMeaning.{past_in, knowing, types_held, prefixes_held, with_held, types_of_arguments, run_later, run_state, run_arguments}
 use Rattle.delta_state.specs.Apart.{BindsApart}
 use Rattle.delta_state.specs.Settled.{is_settled, are_settled}
-use Rattle.delta_state.specs.StateTyping.{HasStateType, HaveArgumentTypes, IsHeld, is_empty, facts_held, context_held, marks_of_arguments, facts_of_arguments, context_of_arguments, with_known, with_past, no_pasts}
+use Rattle.delta_state.specs.StateTyping.{HaveArgumentTypes, IsHeld, is_empty, facts_held, context_held, context_of_arguments, with_known, with_past, no_pasts}
 use Rattle.delta_state.specs.Rest.{held_more, rest_of, rest_of_arguments, rest_later}
 use Rattle.delta_state.proofs.HeldNames.{held_left, held_prefix, arguments_extend}
 use Rattle.delta_state.proofs.GrowingStates.{known_types, extends_known, extends_past, known_values, held_extend, arguments_run_grow}
 use Rattle.delta_state.proofs.WholeStates.{HasDepth, all_left, all_right}
-use Rattle.state_steps.proofs.NamesAmong.{among_argument}
 use Rattle.state_steps.proofs.FactsWithin.{within_itself, within_on_let}
 use Rattle.state_steps.proofs.KnownNames.{past_types-same, past_order-same}
-use Rattle.state_steps.proofs.NarrowedStates.{facts_follow}
-use Rattle.state_steps.proofs.NoNewNames.{free_in_step, free_in_argument_step}
+use Rattle.state_steps.proofs.NoNewNames.{free_in_step}
 use Rattle.state_steps.proofs.Inputs.{Inputs}
 use Rattle.state_steps.proofs.HeldForms.{more_holds}
 use Rattle.state_steps.proofs.Steps.{by_test, left_emp, right_emp, sequence_calls_second}
 use Rattle.state_steps.proofs.PartSteps.{cat_order, par_der}
 use Rattle.state_steps.proofs.TermSteps.{some_type}
 use Rattle.state_steps.proofs.HeldSteps.{inputs_held}
-use Rattle.state_steps.proofs.StateSteps.{IsReady, parameter_there, state_derives, state_whole, state_nothing, arguments_agree}
+use Rattle.state_steps.proofs.StateSteps.{IsReady, state_derives, state_whole, state_nothing, arguments_agree}
 use Rattle.state_bounds.specs.Bounds.{Bound, greater, ◌⊑◌}
 use Rattle.state_bounds.specs.TermBounds.{case_room, wait_room, body_bound}
 use Rattle.state_bounds.specs.StateBounds.{code_bound, state_bound, argument_bounds}
@@ -58,9 +56,9 @@ use Rattle.state_bounds.proofs.BoundOrder.{at_most_next, both_at_most, greater_a
 use Rattle.state_bounds.proofs.MoreFacts.{Gains, gains_left, gains_right, gains_tail}
 use Rattle.state_bounds.proofs.TermsWithMoreFacts.{term_at_most}
 use Rattle.state_bounds.proofs.StarItems.{star_none, star_came, star_turn, star_calls}
-use Rattle.state_bounds.proofs.LeftNames.{Leaves, leaves_type, nothing_left, gains_held, before_after, leaves_put, pair_bound, cut_bound, sum_rest_bound, star_rest_bound}
+use Rattle.state_bounds.proofs.LeftNames.{Leaves, leaves_type, nothing_left, gains_held, leaves_put, pair_bound, cut_bound, sum_rest_bound, star_rest_bound}
+use Rattle.state_bounds.proofs.LeftParameters.{frame_leaves}
 use Rattle.state_bounds.proofs.RestsOfTerms.{rest_at_most}
-use Rattle.state_bounds.proofs.StateStreams.{state_streams}
 
 -- stream names of a context have there the types of all names
 gains_own : (xs : List ℕ) (c : Context) (T : NameTypes) → Extends c T no_pasts → AreStreams c xs → Gains xs (types_of c) T c.order c.order
@@ -84,25 +82,6 @@ leaves_held c T free held w h d s e k = record {
   };
 }
 
-module _ (funs : ℕ → CoreBody) where
-  -- after a step arguments have their names,
-  names_after : (args : ArgumentTrees) (T : NameTypes) (d : Environment) → argument_names (rest_of_arguments funs args T d) ≡ argument_names args
-  names_after no_arguments T d = refl
-  names_after (argument_before u t s args) T d = ap (λ us. u ∷ us) (names_after args T d)
-
-  -- and of their types what is left
-  marks_after : (args : ArgumentTrees) (T : NameTypes) (d : Environment) (x : ℕ) → holds x (argument_names args) ≡ true
-      → marks_of_arguments (rest_of_arguments funs args T d) x ≡ Some (der (value_at eps_emp (argument_names args) (run_arguments funs args T d).outs x) (types_of_arguments args x))
-  marks_after no_arguments T d x m = absurd (true≢false (sym m))
-  marks_after (argument_before u t s args) T d x m = go (eqb x u) (marks_after args T d x) m
-    where
-      go : (b : Bool) → (holds x (argument_names args) ≡ true → marks_of_arguments (rest_of_arguments funs args T d) x ≡ Some (der (value_at eps_emp (argument_names args) (run_arguments funs args T d).outs x) (types_of_arguments args x)))
-          → (b || holds x (argument_names args)) ≡ true
-          → (if b then Some (der (run_state funs s T t d).out t) else marks_of_arguments (rest_of_arguments funs args T d) x)
-          ≡ Some (der (if b then (run_state funs s T t d).out else value_at eps_emp (argument_names args) (run_arguments funs args T d).outs x) (if b then t else types_of_arguments args x))
-      go true f m = refl
-      go false f m = f m
-
 module _ (funs : List CoreBody) (all_typed : All (IsTypedBody funs) funs) (all_apart : All (λ b. BindsApart b.body) funs) (numbers : ℕ → Bound)
     (enough : (f : ℕ) → body_bound (fun_at funs) (is_inert_fun funs) numbers (fun_at funs f) ⊑ numbers f) (n : ℕ) where
   -- the functions by their numbers, and which of them are inert
@@ -117,20 +96,6 @@ module _ (funs : List CoreBody) (all_typed : All (IsTypedBody funs) funs) (all_a
       → (d : Environment) → Streams T d → Agrees T O d → (run_later F l T r d).calls ≤ n → (e : Context) → Leaves (free_names l.term) T O d e → state_bound funs numbers (rest_later F l T r d) e ⊑ code_bound funs numbers l.term T O
   code_at_most l c T O r h w o a v deep d s agrees le e k =
       rest_at_most funs all_typed all_apart numbers enough l.depth (subst (λ o. Typed F I Any T o (known_types l.past) l.term r) o (derive funs I Any (λ u v. tt) l.term c T (known_types l.past) r w h)) a d l.past s agrees v (omega (arith, deep, le)) e k
-
-  -- what a called body has of its parameters after a step
-  frame_leaves : (args : ArgumentTrees) (s : StateTree) (c : Context) (T : NameTypes) (r : StreamType) → Extends c T no_pasts → HasStateType funs I (context_of_arguments c args) s r → (d : Environment) (e : Context) → Leaves (free_in_arguments args) T c.order d e
-      → Leaves (free_in_state s) (types_of_arguments args) (facts_of_arguments c args) (value_at eps_emp (argument_names args) (run_arguments F args T d).outs) (context_of_arguments e (rest_of_arguments F args T d))
-  frame_leaves args s c T r w h d e k = record {
-    types = λ x m. sym (marks_after F args T d x (parameter_there args x ((state_streams funs I s (context_of_arguments c args) r h).at x m)));
-    order = record {
-      at = λ u v m n i. ap₂ ◌&&◌
-          (ap (λ us. holds u us && holds v us) (names_after F args T d) ∙ and_first (holds u (argument_names args) && holds v (argument_names args)) (list_all (λ x. list_all (λ y. is_before c x y) (free_in_state (argument_at args v))) (free_in_state (argument_at args u))) i)
-          (facts_follow c e _ _ _ _ (free_in_argument_step F args T d u) (free_in_argument_step F args T d v)
-          (λ x y a b j. before_after (free_in_arguments args) T c.order d e k x y ((among_argument args u).at x a) ((among_argument args v).at y b) (and_second (is_some (c.types x) && is_some (c.types y)) (c.order x y) j))
-          (and_second (holds u (argument_names args) && holds v (argument_names args)) (list_all (λ x. list_all (λ y. is_before c x y) (free_in_state (argument_at args v))) (free_in_state (argument_at args u))) i));
-    };
-  }
 
   mutual
     -- what is left of a state after a step holds no more than the state can,
@@ -298,7 +263,7 @@ module _ (funs : List CoreBody) (all_typed : All (IsTypedBody funs) funs) (all_a
         let gb : IsReady funs n (context_of_arguments c args) U r b = record { extends = arguments_extend c args; typed = g.typed.1; settled = and_second (are_settled args) (is_settled b r) g.settled; deep = all_right (HasDepth n) (laters_in args) (laters_of b) g.deep } in
         both_at_most _ _ _ _ (steps_at_most args c T g.extends g.typed.0 settled deep d s agrees m e k)
         (step_at_most b (context_of_arguments c args) U r gb p grow.streams (arguments_agree funs all_typed n args c T g.extends g.typed.0 settled deep d s agrees m) (omega (arith, le)) (context_of_arguments e (rest_of_arguments F args T d))
-        (frame_leaves args b c T r g.extends g.typed.1 d e k))
+        (frame_leaves funs args b c T r g.typed.1 d e k))
 
     -- and what is left of arguments no more than the arguments can
     pub steps_at_most : (args : ArgumentTrees) (c : Context) (T : NameTypes) → Extends c T no_pasts → HaveArgumentTypes funs I c args → are_settled args ≡ true → All (HasDepth n) (laters_in args) → (d : Environment) → Streams T d → Agrees T c.order d

@@ -1,14 +1,13 @@
 -- What is left of a term holds no more than the term can.
-use Rattle.std.proofs.Common.{◌≡◌, ◌∙◌, ◌≤◌, ⊎_elim, ℕ, zero, suc, Bool, true, false, true≢false, ◌&&◌, ◌||◌, List, [], ◌∷◌, eqb, if◌then◌else◌, ap, ap₂, refl, subst, sym, arith}
-use Rattle.std.specs.Prelude.{Some, None, is_some, length}
-use Rattle.std.specs.List.{All, list_all}
-use Rattle.stream_type.specs.StreamType.{StreamType, eps, cat, par, star}
+use Rattle.std.proofs.Common.{◌≡◌, ◌∙◌, ◌≤◌, ⊎_elim, ℕ, zero, suc, Bool, true, false, true≢false, List, [], ◌∷◌, if◌then◌else◌, ap, refl, subst, sym, arith}
+use Rattle.std.specs.Prelude.{Some}
+use Rattle.std.specs.List.{All}
+use Rattle.stream_type.specs.StreamType.{StreamType, cat, par, star}
 use Rattle.stream_prefix.specs.StreamPrefix.{StreamPrefix, eps_emp, emp, is_maximal, der}
 use Rattle.stream_prefix.proofs.Derivations.{Derives, is_prefix}
-use Rattle.bunch.specs.Names.{put, holds, value_at}
-use Rattle.bunch.specs.BunchTree.{BunchTree, leaf_names, stands_before}
+use Rattle.bunch.specs.Names.{put, value_at}
+use Rattle.bunch.specs.BunchTree.{leaf_names, stands_before}
 use Rattle.bunch.specs.Facts.{Facts, place_like, place_let, put_before}
-use Rattle.bunch.proofs.Bunches.{first_is_there, second_is_there}
 use Rattle.hist_value.specs.HistType.{past as past_type}
 use Rattle.hist_value.specs.HistValue.{HistValue, unit_value}
 use Rattle.hist_value.specs.Wholes.{value_of}
@@ -22,25 +21,24 @@ use Rattle.core_term.specs.Inert.{is_inert, is_inert_fun}
 use Rattle.core_term.specs.Parts.{par_left, par_right, cat_first, cat_second, sum_left, sum_right, star_item, star_items, left_part, right_part, first_part, second_part}
 use Rattle.core_term.specs.Run.{sum_run, star_run, wait_run}
 use Rattle.core_term.specs.Meaning.{values, call_at, run_all, run_at}
-use Rattle.core_term.specs.Typing.{Context, types_of, is_before, IsTypedBody, context_of, past_params, passed, with_name}
-use Rattle.core_term.proofs.Sides.{holds-head, holds-all}
+use Rattle.core_term.specs.Typing.{Context, types_of, IsTypedBody, past_params, with_name}
+use Rattle.core_term.proofs.Sides.{holds-head}
 use Rattle.core_term.proofs.Placing.{like_agrees, let_agrees, pair_agrees, row_agrees}
-use Rattle.core_term.proofs.Parameters.{Prefixes, PastValues, length-leaf_types, value_at-leaf_types, params_derive, values_have, past_params_have}
+use Rattle.core_term.proofs.Parameters.{Prefixes, PastValues, params_derive, values_have, past_params_have}
 use Rattle.core_term.proofs.InertFunctions.{inert_bodies}
 use Rattle.core_term.proofs.InertRuns.{EmptyOn, run_at_nothing}
 use Rattle.core_term.proofs.GrowingRuns.{Streams, streams_put, streams_put_two, par_parts, cat_parts, par_parts_whole, cat_parts_whole}
 use Rattle.core_term.proofs.Monotone.{pasts_put, run_at_derives, runs_at_derive}
-use Rattle.core_term.proofs.TypedTerms.{PastTypes, Typed, TypedAll, var_typed, eps_typed, unit_typed, nil_typed, past_typed, par_typed, cat_typed, cons_typed, inl_typed, inr_typed, let_typed, let_par_typed, let_cat_typed, case_sum_typed, case_star_typed, wait_typed, call_typed, none_typed, more_typed, StandBefore, PassedInOrder}
-use Rattle.core_term.proofs.TypedRuns.{Any, typed_bodies, free_are_streams, at_index}
+use Rattle.core_term.proofs.TypedTerms.{PastTypes, Typed, TypedAll, var_typed, eps_typed, unit_typed, nil_typed, past_typed, par_typed, cat_typed, cons_typed, inl_typed, inr_typed, let_typed, let_par_typed, let_cat_typed, case_sum_typed, case_star_typed, wait_typed, call_typed, none_typed, more_typed, StandBefore}
+use Rattle.core_term.proofs.TypedRuns.{Any, typed_bodies, at_index}
 use Rattle.core_term.proofs.WholeRuns.{cat_calls_first, run_at_whole}
-use Rattle.delta_state.specs.StateTree.{Known, StateTree, ArgumentTrees, cat_state, sum_state, star_state, wait_state, argument_names, argument_at, free_in_state}
+use Rattle.delta_state.specs.StateTree.{Known, StateTree, cat_state, sum_state, star_state, wait_state, free_in_state}
 use Rattle.delta_state.specs.StateMeaning.{past_in, types_held}
 use Rattle.delta_state.specs.Apart.{BindsApart, BindApart}
-use Rattle.delta_state.specs.StateTyping.{facts_held, marks_of_arguments, context_of_arguments}
+use Rattle.delta_state.specs.StateTyping.{facts_held}
 use Rattle.delta_state.specs.Rest.{taken, known_of, rest_all, call_rest_at, rest_at}
-use Rattle.state_steps.proofs.NamesAmong.{among_passed}
 use Rattle.state_steps.proofs.FactsWithin.{within_on_let}
-use Rattle.state_steps.proofs.NoNewNames.{free_in_rest, free_in_argument}
+use Rattle.state_steps.proofs.NoNewNames.{free_in_rest}
 use Rattle.state_steps.proofs.HeldForms.{taken_holds}
 use Rattle.state_steps.proofs.Steps.{by_test, left_emp, right_emp, sequence_calls_second}
 use Rattle.state_steps.proofs.PartSteps.{cat_order, par_der}
@@ -53,7 +51,8 @@ use Rattle.state_bounds.proofs.BoundOrder.{at_most_next, both_at_most, greater_a
 use Rattle.state_bounds.proofs.MoreFacts.{gains_left, gains_right, gains_tail}
 use Rattle.state_bounds.proofs.TermsWithMoreFacts.{term_at_most}
 use Rattle.state_bounds.proofs.StarItems.{star_none, star_came, star_turn, star_calls}
-use Rattle.state_bounds.proofs.LeftNames.{Leaves, leaves_type, nothing_left, gains_held, before_after, leaves_put, pair_bound, cut_bound, sum_rest_bound, star_rest_bound}
+use Rattle.state_bounds.proofs.LeftNames.{Leaves, leaves_type, nothing_left, gains_held, leaves_put, pair_bound, cut_bound, sum_rest_bound, star_rest_bound}
+use Rattle.state_bounds.proofs.LeftParameters.{body_leaves}
 
 module _ (funs : List CoreBody) (all_typed : All (IsTypedBody funs) funs) (all_apart : All (λ b. BindsApart b.body) funs) (numbers : ℕ → Bound)
     (enough : (f : ℕ) → body_bound (fun_at funs) (is_inert_fun funs) numbers (fun_at funs f) ⊑ numbers f) where
@@ -97,83 +96,15 @@ module _ (funs : List CoreBody) (all_typed : All (IsTypedBody funs) funs) (all_a
             ⊎_elim (λ w. absurd (true≢false (sym (run_at_whole F I Any (typed_bodies funs all_typed) k i d (past_in past) st f w le) ∙ n))) (λ e. e)
             (split_before T O d (free_names a) (free_names b) agrees o)
 
-    -- what is left of arguments has their names, and of their types what is left
-    arguments_left : (us : List ℕ) {T : NameTypes} {O : Facts} {H : PastTypes} {es : CoreTerms} {ts : List StreamType} → TypedAll F I Any T O H es ts → length us ≡ length ts → (d : Environment) (past : List Known)
-        → (argument_names (rest_all F k (call_rest_at F k) es us ts T d past) ≡ us)
-        × ((x : ℕ) → holds x us ≡ true → marks_of_arguments (rest_all F k (call_rest_at F k) es us ts T d past) x
-        ≡ Some (der (value_at eps_emp us (run_all F (call_at F k) es ts T d (past_in past)).outs x) (value_at eps us ts x)))
-    arguments_left [] none_typed n d past = (refl, λ x m. absurd (true≢false (sym m)))
-    arguments_left (u ∷ us) none_typed n d past = absurd (omega (arith, n))
-    arguments_left [] (more_typed i j) n d past = absurd (omega (arith, n))
-    arguments_left (u ∷ us) (more_typed {T = T} {e = e} {es = es} {t = t} {ts = ts} i j) n d past =
-        let same : length us ≡ length ts = omega (arith, n) in
-        let others = arguments_left us j same d past in
-        (ap (λ vs. u ∷ vs) others.0, λ x m. go x (eqb x u) (others.1 x) m)
-      where
-        go : (x : ℕ) (b : Bool)
-            → (holds x us ≡ true → marks_of_arguments (rest_all F k (call_rest_at F k) es us ts T d past) x
-            ≡ Some (der (value_at eps_emp us (run_all F (call_at F k) es ts T d (past_in past)).outs x) (value_at eps us ts x)))
-            → (b || holds x us) ≡ true
-            → (if b then Some (der (run_at F k e T t d (past_in past)).out t) else marks_of_arguments (rest_all F k (call_rest_at F k) es us ts T d past) x)
-            ≡ Some (der (if b then (run_at F k e T t d (past_in past)).out else value_at eps_emp us (run_all F (call_at F k) es ts T d (past_in past)).outs x) (if b then t else value_at eps us ts x))
-        go x true g m = refl
-        go x false g m = g m
-
-    -- what a called body has of its parameters
-    body_leaves : {T : NameTypes} {O : Facts} {H : PastTypes} (f : ℕ) {es : CoreTerms} → TypedAll F I Any T O H es (leaf_types (F f).params)
-        → ((u v : ℕ) → stands_before (F f).params u v ≡ true → PassedInOrder F I O (F f) es u v)
-        → (d : Environment) (past : List Known) (c : Context) → Leaves (free_in_terms es) T O d c
-        → Leaves (free_names (F f).body) (types_in (F f).params) (stands_before (F f).params)
-        (value_at eps_emp (leaf_names (F f).params) (run_all F (call_at F k) es (leaf_types (F f).params) T d (past_in past)).outs)
-        (context_of_arguments c (rest_all F k (call_rest_at F k) es (leaf_names (F f).params) (leaf_types (F f).params) T d past))
-    body_leaves {T = T} {O = O} f {es = es} i o d past c h = record {
-      types = λ x m. sym (left.1 x (there x m) ∙ ap (λ t. Some (der (value_at eps_emp us outs x) t)) (value_at-leaf_types params x));
-      order = record { at = λ u v m n b. ap₂ ◌&&◌ (ap₂ ◌&&◌ (named u (first_is_there params u v b)) (named v (second_is_there params u v b))) (in_order u v (o u v b).in_order) };
-    }
-      where
-        params : BunchTree
-        params = (F f).params
-
-        us : List ℕ
-        us = leaf_names (F f).params
-
-        args : ArgumentTrees
-        args = rest_all F k (call_rest_at F k) es (leaf_names (F f).params) (leaf_types (F f).params) T d past
-
-        outs : List StreamPrefix
-        outs = (run_all F (call_at F k) es (leaf_types (F f).params) T d (past_in past)).outs
-
-        left : (argument_names args ≡ us) × ((x : ℕ) → holds x us ≡ true → marks_of_arguments args x ≡ Some (der (value_at eps_emp us outs x) (value_at eps us (leaf_types (F f).params) x)))
-        left = arguments_left us i (sym (length-leaf_types params)) d past
-
-        -- a body's free names are its parameters
-        there : (x : ℕ) → holds x (free_names (F f).body) ≡ true → holds x us ≡ true
-        there x m = go (holds x us) refl ((free_are_streams funs I (F f).body (context_of (F f)) (F f).result (at_index (IsTypedBody funs) no_body funs all_typed refl f)).at x m)
-          where
-            go : (b : Bool) → holds x us ≡ b → is_some (if b then Some (types_in (F f).params x) else None) ≡ true → holds x us ≡ true
-            go true e n = e
-            go false e n = absurd (true≢false (sym n))
-
-        named : (u : ℕ) → holds u us ≡ true → holds u (argument_names args) ≡ true
-        named u m = ap (holds u) left.0 ∙ m
-
-        in_order : (u v : ℕ) → StandBefore O (free_names (passed (F f) es u)) (free_names (passed (F f) es v))
-            → list_all (λ x. list_all (λ y. is_before c x y) (free_in_state (argument_at args v))) (free_in_state (argument_at args u)) ≡ true
-        in_order u v w =
-            holds-all (λ x. list_all (λ y. is_before c x y) (free_in_state (argument_at args v))) (free_in_state (argument_at args u)) (λ x m. holds-all (λ y. is_before c x y) (free_in_state (argument_at args v)) (λ y n.
-            let i = (free_in_argument F k (call_rest_at F k) es us (leaf_types (F f).params) T d past u).at x m in
-            let j = (free_in_argument F k (call_rest_at F k) es us (leaf_types (F f).params) T d past v).at y n in
-            before_after (free_in_terms es) T O d c h x y ((among_passed us es u).at x i) ((among_passed us es v).at y j) (w.at x y i j)))
-
     mutual
       -- what is left of a term holds no more than the term can,
       rest_bound : {T : NameTypes} {O : Facts} {H : PastTypes} {e : CoreTerm} {r : StreamType} → Typed F I Any T O H e r → BindsApart e → (d : Environment) (past : List Known) → Streams T d → Agrees T O d → HasTypes H (past_in past)
           → (run_at F k e T r d (past_in past)).calls ≤ k → (c : Context) → Leaves (free_names e) T O d c → state_bound funs numbers (rest e T r d past) c ⊑ most e T O
-      rest_bound (var_typed e) ap' d past s agrees f le c h = omega arith
-      rest_bound eps_typed ap' d past s agrees f le c h = omega arith
-      rest_bound unit_typed ap' d past s agrees f le c h = omega arith
-      rest_bound nil_typed ap' d past s agrees f le c h = omega arith
-      rest_bound (past_typed i) ap' d past s agrees f le c h = omega arith
+      rest_bound (var_typed e) w d past s agrees f le c h = omega arith
+      rest_bound eps_typed w d past s agrees f le c h = omega arith
+      rest_bound unit_typed w d past s agrees f le c h = omega arith
+      rest_bound nil_typed w d past s agrees f le c h = omega arith
+      rest_bound (past_typed i) w d past s agrees f le c h = omega arith
       rest_bound (par_typed {T = T} {O = O} {a = a} {b = b} i j) w d past s agrees f le c h =
           both_at_most _ _ _ _ (rest_bound i w.0 d past s agrees f (omega (arith, le)) c (gains_left (free_names a) (free_names b) _ c.types O c.order h)) (rest_bound j w.1 d past s agrees f (omega (arith, le)) c (gains_right (free_names a) (free_names b) _ c.types O c.order h))
       rest_bound (cat_typed {T = T} {O = O} {a = a} {b = b} {s = u} {t = v} i j o) w d past s agrees f le c h =
@@ -258,7 +189,7 @@ module _ (funs : List CoreBody) (all_typed : All (IsTypedBody funs) funs) (all_a
           let n : (call_at F k g (values ms (past_in past)) runs.outs).calls ≤ k = omega (arith, le) in
           both_at_most _ _ _ _ (rests_bound as' (leaf_names (F g).params) w d past s agrees f m c h)
           (calls_hold g (values ms (past_in past)) runs.outs (values_have H ms (past_types (F g)) (past_in past) f i) (runs_at_derive F I Any (typed_bodies funs all_typed) k as' d (past_in past) s f)
-          (passed_agree funs all_typed k (call_typed {ms = ms} e i as' o) d (past_in past) s agrees f m) n _ (body_leaves g as' o d past c h))
+          (passed_agree funs all_typed k (call_typed {ms = ms} e i as' o) d (past_in past) s agrees f m) n _ (body_leaves funs all_typed k g as' o d past c h))
 
       -- and what is left of arguments no more than the arguments can
       rests_bound : {T : NameTypes} {O : Facts} {H : PastTypes} {es : CoreTerms} {ts : List StreamType} → TypedAll F I Any T O H es ts → (us : List ℕ) → BindApart es → (d : Environment) (past : List Known) → Streams T d → Agrees T O d
