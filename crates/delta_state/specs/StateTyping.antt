@@ -10,9 +10,10 @@
 -- - The first name of a destructuring is neither its subject nor the second one (`Apart.antt`). A program
 --   whose names are bound once keeps this, and the rules of states ask it.
 -- - Whether a state is settled is asked apart (`Settled.antt`).
--- - A name that has a value keeps whatever stream has its name (`with_known`). Code that isn't reached keeps its
---   values, and what runs it later may have a stream of such a name: `case z of { inl p => x | inr q => x }` in
---   `let x = y in ..`, beside a value of x, is typed by the let, and so is what is left of it.
+-- - A name that has a value keeps whatever stream has its name (`with_known`), since what runs code may have
+--   bound such a stream. Beside a value of x the code `let x = y in case z of { inl p => x | inr q => x }` is typed,
+--   as the let shows x again; it leaves a let of x round the case, whose branches still have the value of x and
+--   read the stream.
 use Rattle.std.specs.Prelude.{ℕ, ◌≡◌, ◌≢◌, Bool, true, false, ◌&&◌, ◌||◌, ⊤, IsTrue, List, [], ◌∷◌, Option, Some, None}
 use Rattle.std.specs.List.{All, list_all}
 use Rattle.stream_type.specs.StreamType.{StreamType, cat, par, sum, star, null_of}

@@ -34,10 +34,11 @@ record KnownAlias (y z : ℕ) (c : Context) : Type 0 where
   pub types : c.types y ≡ c.types z
   pub order : ServesFor y z c.order
 
--- the names of an alias are among both
+-- the alias is in the list of both names
 first_of : (y z : ℕ) → holds y (y ∷ z ∷ []) ≡ true
 first_of y z = holds-head y (z ∷ [])
 
+-- and so is the other
 second_of : (y z : ℕ) → holds z (y ∷ z ∷ []) ≡ true
 second_of y z = holds-tail z y (z ∷ []) (holds-head z [])
 
@@ -52,6 +53,7 @@ module _ (y z : ℕ) where
       let i = other_than x n in
       record { types = at_other_name x y (Some s) c.types i.first ∙ (k.types ∙ sym (at_other_name x z (Some s) c.types i.second)); order = o }
 
+  -- also where that is placed like a third one
   alias_like : (c : Context) (x u : ℕ) (s : StreamType) → KnownAlias y z c → holds x (y ∷ z ∷ []) ≡ false → holds u (y ∷ z ∷ []) ≡ false → KnownAlias y z (with_name_like x s u c)
   alias_like c x u s k n i = alias_name c x s (place_like x u c.order) k n (serves_like y z x u c.order (other_than x n) (other_than u i) k.order)
 

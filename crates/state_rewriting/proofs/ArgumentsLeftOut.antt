@@ -22,22 +22,23 @@ use Rattle.delta_state.specs.Settled.{is_settled, are_settled}
 use Rattle.delta_state.proofs.GrowingStates.{state_run_grows}
 use Rattle.state_rewriting.specs.Rewriting.{without_argument}
 use Rattle.core_term.proofs.Retyping.{Among}
-use Rattle.state_steps.proofs.Sees.{Sees}
-use Rattle.state_steps.proofs.StateSees.{narrow_state}
-use Rattle.state_steps.proofs.StateAlike.{state_same}
+use Rattle.state_steps.proofs.Seeing.{Sees}
+use Rattle.state_steps.proofs.NarrowedStates.{narrow_state}
+use Rattle.state_steps.proofs.FreeStateRuns.{state_same}
 use Rattle.state_rewriting.proofs.OtherNames.{apart_from}
 use Rattle.state_rewriting.proofs.FittingParts.{served_fewer, Fits}
 use Rattle.state_rewriting.proofs.LighterParts.{Lighter, LighterState, deeper_less}
 use Rattle.state_rewriting.proofs.BindingsLeftOut.{NoOther}
 
--- at a name y that isn't u, an entry of u doesn't count, and one of another name is there before and after
+-- at a name y that isn't u, an entry of u doesn't count
 passes : {A : Type 0} (x u y : ℕ) (a : A) (f g : A) → eqb y u ≡ false → f ≡ g → eqb x u ≡ true → (if eqb y x then a else f) ≡ g
 passes x u y a f g n e k = ap (λ b. if b then a else f) (ap (λ w. eqb y w) (eqb-true x u k) ∙ n) ∙ e
 
+-- an entry that stays is there on both sides
 meets : {A : Type 0} (b : Bool) (a : A) (f g : A) → f ≡ g → (if b then a else f) ≡ (if b then a else g)
 meets b a f g e = ap (λ h. if b then a else h) e
 
--- so at other names than u the arguments less those of u have the same parameters, types and arguments
+-- so at other names than u the arguments less those of u have the same parameters,
 names_without : (u : ℕ) (args : ArgumentTrees) (y : ℕ) → eqb y u ≡ false → holds y (argument_names args) ≡ holds y (argument_names (without_argument u args))
 names_without u no_arguments y n = refl
 names_without u (argument_before x t s args) y n = go (eqb x u) refl (names_without u args y n)
@@ -47,6 +48,7 @@ names_without u (argument_before x t s args) y n = go (eqb x u) refl (names_with
     go true k e = ap (λ c. c || holds y (argument_names args)) (ap (λ w. eqb y w) (eqb-true x u k) ∙ n) ∙ e
     go false k e = ap (λ c. eqb y x || c) e
 
+-- the same types in the context
 marks_without : (u : ℕ) (args : ArgumentTrees) (y : ℕ) → eqb y u ≡ false → marks_of_arguments args y ≡ marks_of_arguments (without_argument u args) y
 marks_without u no_arguments y n = refl
 marks_without u (argument_before x t s args) y n = go (eqb x u) refl (marks_without u args y n)
@@ -56,6 +58,7 @@ marks_without u (argument_before x t s args) y n = go (eqb x u) refl (marks_with
     go true k e = passes x u y (Some t) _ _ n e k
     go false k e = meets (eqb y x) (Some t) _ _ e
 
+-- the same types in the run
 types_without : (u : ℕ) (args : ArgumentTrees) (y : ℕ) → eqb y u ≡ false → types_of_arguments args y ≡ types_of_arguments (without_argument u args) y
 types_without u no_arguments y n = refl
 types_without u (argument_before x t s args) y n = go (eqb x u) refl (types_without u args y n)
@@ -65,6 +68,7 @@ types_without u (argument_before x t s args) y n = go (eqb x u) refl (types_with
     go true k e = passes x u y t _ _ n e k
     go false k e = meets (eqb y x) t _ _ e
 
+-- and the same arguments
 at_without : (u : ℕ) (args : ArgumentTrees) (y : ℕ) → eqb y u ≡ false → argument_at args y ≡ argument_at (without_argument u args) y
 at_without u no_arguments y n = refl
 at_without u (argument_before x t s args) y n = go (eqb x u) refl (at_without u args y n)
@@ -98,7 +102,7 @@ free_without u (argument_before x t s args) = record { at = λ y m. go y (eqb x 
     go y false f m = ⊎_elim (λ i. holds-left y (free_in_state s) (free_in_arguments args) i) (λ i. holds-right y (free_in_state s) (free_in_arguments args) (f.at y i)) (holds-split y (free_in_state s) (free_in_arguments (without_argument u args)) m)
 
 module _ (funs : List CoreBody) (counts : ℕ → Bool) where
-  -- fewer arguments are typed, and settled, if all are
+  -- fewer arguments are typed, if all are,
   typed_without : (u : ℕ) (args : ArgumentTrees) (c : Context) → HaveArgumentTypes funs counts c args → HaveArgumentTypes funs counts c (without_argument u args)
   typed_without u no_arguments c h = h
   typed_without u (argument_before x t s args) c h = go (eqb x u) (typed_without u args c h.1)
@@ -107,6 +111,7 @@ module _ (funs : List CoreBody) (counts : ℕ → Bool) where
       go true k = k
       go false k = (h.0, k)
 
+  -- and settled
   settled_without : (u : ℕ) (args : ArgumentTrees) → are_settled args ≡ true → are_settled (without_argument u args) ≡ true
   settled_without u no_arguments i = i
   settled_without u (argument_before x t s args) i = go (eqb x u) (settled_without u args (and_second (is_settled s t) (are_settled args) i))
@@ -147,7 +152,7 @@ record Fewer (a a' x x' : Runs) : Type 0 where
   pub shut : a.are_shut ≡ true → x.are_shut ≡ true
   pub next_shut : a'.are_shut ≡ true → x'.are_shut ≡ true
 
--- an argument may be left out, or stay
+-- an argument may be left out,
 fewer_dropped : {a a' x x' : Runs} (v : Bool) (b b' : Run) → b.calls ≤ b'.calls → Fewer a a' x x' → Fewer (run_before v b a) (run_before v b' a') x x'
 fewer_dropped {a = a} {a' = a'} v b b' g h = record {
   calls = omega (arith, h.calls);
@@ -158,6 +163,7 @@ fewer_dropped {a = a} {a' = a'} v b b' g h = record {
   next_shut = λ e. h.next_shut (and_second (v || is_maximal b'.out) a'.are_shut e);
 }
 
+-- or stay in both
 fewer_kept : {a a' x x' : Runs} (v : Bool) (b b' : Run) → Fewer a a' x x' → Fewer (run_before v b a) (run_before v b' a') (run_before v b x) (run_before v b' x')
 fewer_kept {a = a} {a' = a'} v b b' h = record {
   calls = omega (arith, h.calls);

@@ -1,6 +1,6 @@
 -- Rewritings of what is finished, and of bindings that aren't used or are all that follows: the type is kept,
 -- and the runs are lighter.
-use Rattle.std.proofs.Common.{◌≡◌, ◌∙◌, ◌≤◌, ℕ, Bool, true, false, true≢false, ◌||◌, List, [], ◌∷◌, ◌++◌, ap, refl, subst, sym, arith}
+use Rattle.std.proofs.Common.{◌≡◌, ◌∙◌, ◌≤◌, ℕ, Bool, true, false, ◌||◌, List, [], ◌∷◌, ◌++◌, ap, refl, subst, sym, arith}
 use Rattle.std.specs.Prelude.{Some}
 use Rattle.std.specs.List.{All}
 use Rattle.stream_type.specs.StreamType.{StreamType, null_of}
@@ -15,7 +15,7 @@ use Rattle.core_term.specs.Environment.{Environment, NameTypes}
 use Rattle.core_term.specs.Inert.{is_inert_fun}
 use Rattle.core_term.specs.Run.{Run, quiet, deeper, let_run}
 use Rattle.core_term.specs.Typing.{Context, IsTypedBody, with_name}
-use Rattle.core_term.proofs.Sides.{and_first, and_second, or_second, holds-left, holds-right, put-same}
+use Rattle.core_term.proofs.Sides.{and_first, and_second, or_second, put-same}
 use Rattle.core_term.proofs.Without.{holds-without}
 use Rattle.core_term.proofs.TypedTerms.{Extends}
 use Rattle.core_term.proofs.GrowingRuns.{Streams, Continues}
@@ -24,8 +24,10 @@ use Rattle.delta_state.specs.StateMeaning.{run_state}
 use Rattle.delta_state.specs.StateTyping.{HasStateType, no_pasts}
 use Rattle.delta_state.specs.Settled.{is_settled}
 use Rattle.delta_state.proofs.GrowingStates.{state_run_grows}
-use Rattle.state_steps.proofs.StateSees.{narrow_state}
-use Rattle.state_steps.proofs.StateAlike.{state_same}
+use Rattle.core_term.proofs.Retyping.{among_same}
+use Rattle.state_steps.proofs.NamesAmong.{among_nothing, among_left, among_right}
+use Rattle.state_steps.proofs.NarrowedStates.{narrow_state}
+use Rattle.state_steps.proofs.FreeStateRuns.{state_same}
 use Rattle.state_rewriting.proofs.OtherNames.{apart_from, unused_alike}
 use Rattle.state_rewriting.proofs.HiddenNames.{without_name, let_facts, without_parts, without_row, free_beside}
 use Rattle.state_rewriting.proofs.FittingParts.{served_fewer, Fits}
@@ -38,14 +40,14 @@ NoOther w v = ⊥
 module _ (funs : List CoreBody) (counts : ℕ → Bool) where
   -- a part whose type is null is finished
   pub finished_fits : (c : Context) (r : StreamType) (a : StateTree) → null_of r ≡ true → Fits funs counts NoOther c r a (sink r)
-  finished_fits c r a n = record { typed = (refl, n); settled = refl; free = served_fewer NoOther (free_in_state a) [] (record { at = λ y m. absurd (true≢false (sym m)) }) }
+  finished_fits c r a n = record { typed = (refl, n); settled = refl; free = served_fewer NoOther (free_in_state a) [] (among_nothing (free_in_state a)) }
 
   -- a binding whose name isn't used, and a destructuring neither of whose names is, go
   pub unused_fits : (c : Context) (r s : StreamType) (x : ℕ) (a b : StateTree) → holds x (free_in_state b) ≡ false → HasStateType funs counts c (let_state x s a b) r → is_settled (let_state x s a b) r ≡ true → Fits funs counts NoOther c r (let_state x s a b) b
   unused_fits c r s x a b n t i = record {
     typed = narrow_state funs counts b _ c r (without_name x s (free_in_state b) (place_let x (free_in_state a) true c.order) c n (let_facts x (free_in_state a) c.order)) t.1;
     settled = and_second (is_settled a s) (is_settled b r) i;
-    free = served_fewer NoOther (free_in_state a ++ without x (free_in_state b)) (free_in_state b) (record { at = λ y m. holds-right y (free_in_state a) (without x (free_in_state b)) (holds-without y x (free_in_state b) (apart_from x y (free_in_state b) n m) m) });
+    free = served_fewer NoOther (free_in_state a ++ without x (free_in_state b)) (free_in_state b) (among_right (free_in_state a) (record { at = λ y m. holds-without y x (free_in_state b) (apart_from x y (free_in_state b) n m) m }));
   }
 
   pub unused_pair_fits : (c : Context) (r : StreamType) (x y z : ℕ) (a : StateTree) → holds x (free_in_state a) ≡ false → holds y (free_in_state a) ≡ false → HasStateType funs counts c (let_par_state x y z a) r → is_settled (let_par_state x y z a) r ≡ true
@@ -64,17 +66,18 @@ module _ (funs : List CoreBody) (counts : ℕ → Bool) where
     free = served_fewer NoOther (z ∷ without x (without y (free_in_state a))) (free_in_state a) (free_beside x y z (free_in_state a) nx ny);
   }
 
-  -- a binding whose name is all that follows has the type of what is bound, and gives way to it
+  -- a binding whose name is all that follows has the type of what is bound
   renamed_type : (c : Context) (r s : StreamType) (x : ℕ) (O : Facts) (a : StateTree) → (with_name x s O c).types x ≡ Some r → s ≡ r
   renamed_type c r s x O a e = let k : Some s ≡ Some r = sym (put-same x (Some s) c.types) ∙ e in cc k
 
+  -- so what is bound fits in its place
   pub renamed_fits : (c : Context) (r s : StreamType) (x : ℕ) (a : StateTree) → HasStateType funs counts c (let_state x s a (var_state x)) r → is_settled (let_state x s a (var_state x)) r ≡ true → Fits funs counts NoOther c r (let_state x s a (var_state x)) a
   renamed_fits c r s x a t i =
       let e = renamed_type c r s x (place_let x (free_in_state a) true c.order) a t.1 in
       record {
         typed = subst (HasStateType funs counts c a) e t.0;
         settled = subst (λ u. is_settled a u ≡ true) e (and_first (is_settled a s) true i);
-        free = served_fewer NoOther (free_in_state a ++ without x (x ∷ [])) (free_in_state a) (record { at = λ y m. holds-left y (free_in_state a) (without x (x ∷ [])) m });
+        free = served_fewer NoOther (free_in_state a ++ without x (x ∷ [])) (free_in_state a) (among_left (without x (x ∷ [])) (among_same (free_in_state a)));
       }
 
 -- a level is no greater further in

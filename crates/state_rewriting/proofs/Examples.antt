@@ -68,16 +68,19 @@ over = in_left (here (finished refl))
 abbrev outside : Context
 outside = record { types = put 9 (Some int) (λ x. None); order = λ x y. false; past = no_pasts }
 
--- code that isn't reached, with what is held of its names: nothing yet of 7, and all of 5 and 6
+-- code that isn't reached, 5 and then 6
 abbrev code : LaterTree
 code = record { term = cat_term (var_term 5) (var_term 6); past = []; depth = 0 }
 
+-- what is held of 7: nothing yet
 abbrev held_number : HeldName
 held_number = record { name = 7; type = int; prefix = int_emp }
 
+-- of 5: all of a pair that gives nothing
 abbrev held_first : HeldName
 held_first = record { name = 5; type = par eps eps; prefix = par_both eps_emp eps_emp }
 
+-- of 6: all of what gives nothing
 abbrev held_second : HeldName
 held_second = record { name = 6; type = eps; prefix = eps_emp }
 
@@ -85,10 +88,11 @@ held_second = record { name = 6; type = eps; prefix = eps_emp }
 abbrev waits : StateTree
 waits = wait_state 7 (cat (par eps eps) eps) (held_number ∷ (held_first ∷ (held_second ∷ []))) code
 
--- the arguments of the inner call, with s as that of 5, and of the outer one
+-- the arguments of the inner call, with s as that of 5
 abbrev inner : StateTree → ArgumentTrees
 inner s = argument_before 5 (par eps eps) s (argument_before 6 eps (var_state 3) (argument_before 7 int (var_state 1) no_arguments))
 
+-- those of the outer call: 0 is finished, and 1 is the number
 abbrev outer : ArgumentTrees
 outer = argument_before 0 (par eps eps) (sink (par eps eps)) (argument_before 1 int (var_state 9) no_arguments)
 
@@ -100,24 +104,28 @@ apart s = frame_state outer (let_state 2 (par eps eps) (var_state 0) (let_par_st
 of_three : (P : HeldName → Type 0) → P held_number → P held_first → P held_second → All P (held_number ∷ (held_first ∷ (held_second ∷ [])))
 of_three P a b e = All-cons P held_number (held_first ∷ (held_second ∷ [])) a (All-cons P held_first (held_second ∷ []) b (All-cons P held_second [] e (All-nil P)))
 
--- the contexts on the way in, from outside to the code
+-- the contexts on the way in: in the outer call
 abbrev in_outer : Context
 in_outer = context_of_arguments outside outer
 
+-- with the alias 2 of 0
 abbrev in_let_two : Context
 in_let_two = with_name 2 (par eps eps) (place_let 2 (0 ∷ []) true in_outer.order) in_outer
 
+-- with the parts 3 and 4 of 0
 abbrev in_parts : Context
 in_parts = with_parts 3 eps 4 eps 0 in_let_two
 
+-- in the inner call
 abbrev in_inner : StateTree → Context
 in_inner s = context_of_arguments in_parts (inner s)
 
+-- in the code, once 7 is whole
 abbrev in_code : StateTree → Context
 in_code s = with_known 7 int (context_held (held_number ∷ (held_first ∷ (held_second ∷ []))) (in_inner s).order)
 
 module _ (counts : ℕ → Bool) where
-  -- with the alias what is held is left, and 5 stands before 6
+  -- with the alias what is held leaves the types in the context,
   alias_held : IsHeld (in_inner (var_state 2)) (free_in_wait 7 code) (held_number ∷ (held_first ∷ (held_second ∷ [])))
   alias_held = record {
     are_prefixes = of_three (λ h. IsPrefix h.type h.prefix) tt (tt, tt) tt;
@@ -126,10 +134,11 @@ module _ (counts : ℕ → Bool) where
     are_once = refl;
   }
 
+  -- and 5 stands before 6
   alias_in_order : (x y : ℕ) → holds x (5 ∷ []) ≡ true → holds y (6 ∷ []) ≡ true → is_before (in_code (var_state 2)) x y ≡ true
   alias_in_order x y m n = subst (λ u. is_before (in_code (var_state 2)) u y ≡ true) (sym (the_one x 5 m)) (subst (λ u. is_before (in_code (var_state 2)) 5 u ≡ true) (sym (the_one y 6 n)) refl)
 
-  -- so the state is typed with the alias, and it is settled
+  -- so the state is typed with the alias,
   with_alias : HasStateType [] counts outside (apart (var_state 2)) (cat (par eps eps) eps)
   with_alias = (
     ((refl, refl), (refl, tt)),
@@ -154,6 +163,7 @@ module _ (counts : ℕ → Bool) where
     ),
   )
 
+  -- and settled
   alias_settled : is_settled (apart (var_state 2)) (cat (par eps eps) eps) ≡ true
   alias_settled = refl
 

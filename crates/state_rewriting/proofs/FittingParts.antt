@@ -16,17 +16,23 @@ use Rattle.core_term.proofs.Retyping.{Among}
 use Rattle.delta_state.specs.StateTree.{LaterTree, StateTree, ArgumentTrees, par_state, cat_state, argument_names, argument_at, free_in_state, free_in_arguments}
 use Rattle.delta_state.specs.StateTyping.{HasStateType, HaveArgumentTypes, IsTypedLater, marks_of_arguments, context_of_arguments}
 use Rattle.delta_state.specs.Settled.{is_settled, are_settled}
-use Rattle.state_steps.proofs.Sees.{WithinOn, Sees, sees_itself, sees_name}
-use Rattle.state_steps.proofs.StateSees.{narrow_state}
+use Rattle.state_steps.proofs.FactsWithin.{WithinOn, within_itself}
+use Rattle.state_steps.proofs.Seeing.{Sees, sees_name}
+use Rattle.state_steps.proofs.NarrowedStates.{narrow_state}
 use Rattle.state_rewriting.specs.Rewriting.{Replaced, ReplacedArgument, here, in_left, in_right, in_first, in_bound, in_let, in_let_par, in_let_cat, in_arguments, in_body, at_first, at_other}
 use Rattle.state_rewriting.proofs.OtherNames.{apart_from}
 
--- that each name of one list stands before each of another, as a test and as a fact
+-- that each name of one list stands before each of another, from the test
 pub row_at : (c : Context) (xs ys : List ℕ) → list_all (λ x. list_all (λ y. is_before c x y) ys) xs ≡ true → AllBefore c xs ys
 row_at c xs ys h x y m n = all-holds (λ y. is_before c x y) ys (all-holds (λ x. list_all (λ y. is_before c x y) ys) xs h x m) y n
 
+-- and the other way round
 pub row_of : (c : Context) (xs ys : List ℕ) → AllBefore c xs ys → list_all (λ x. list_all (λ y. is_before c x y) ys) xs ≡ true
 row_of c xs ys h = holds-all (λ x. list_all (λ y. is_before c x y) ys) xs (λ x m. holds-all (λ y. is_before c x y) ys (λ y n. h x y m n))
+
+-- a context has what it has itself
+sees_itself : (xs : List ℕ) (c : Context) → Sees xs c c
+sees_itself xs c = record { types = λ x s m k. k; order = within_itself xs c.order; past = λ x h k. k }
 
 -- in this order v stands before and behind all that w does, so it may serve for w
 pub record ServesFor (w v : ℕ) (O : Facts) : Type 0 where
@@ -43,10 +49,11 @@ pub record Serves (c : Context) (w v : ℕ) : Type 0 where
 pub record Served (N : ℕ → ℕ → Type 0) (xs ys : List ℕ) : Type 0 where
   pub at : (y : ℕ) → holds y ys ≡ true → (holds y xs ≡ true) ⊎ ((x : ℕ) × N x y × (holds x xs ≡ true))
 
--- no new names
+-- a list without new names
 pub served_fewer : (N : ℕ → ℕ → Type 0) (xs ys : List ℕ) → Among ys xs → Served N xs ys
 served_fewer N xs ys f = record { at = λ y m. inl (f.at y m) }
 
+-- nor are there any in the same list
 pub served_same : (N : ℕ → ℕ → Type 0) (xs : List ℕ) → Served N xs xs
 served_same N xs = record { at = λ y m. inl m }
 
@@ -56,13 +63,15 @@ module _ (N : ℕ → ℕ → Type 0) where
   wider xs zs y f (inl m) = inl (f.at y m)
   wider xs zs y f (inr t) = inr (t.0, t.1, f.at t.0 t.2)
 
-  -- with the same names behind both lists, or in front of both
+  -- with the same names behind both lists,
   pub served_left : (xs ys zs : List ℕ) → Served N xs ys → Served N (xs ++ zs) (ys ++ zs)
   served_left xs ys zs h = record { at = λ y m. ⊎_elim (λ i. wider xs (xs ++ zs) y (record { at = λ x n. holds-left x xs zs n }) (h.at y i)) (λ j. inl (holds-right y xs zs j)) (holds-split y ys zs m) }
 
+  -- in front of both lists
   pub served_right : (xs ys zs : List ℕ) → Served N xs ys → Served N (zs ++ xs) (zs ++ ys)
   served_right xs ys zs h = record { at = λ y m. ⊎_elim (λ j. inl (holds-left y zs xs j)) (λ i. wider xs (zs ++ xs) y (record { at = λ x n. holds-right x zs xs n }) (h.at y i)) (holds-split y zs ys m) }
 
+  -- one name in front of both
   pub served_cons : (z : ℕ) (xs ys : List ℕ) → Served N xs ys → Served N (z ∷ xs) (z ∷ ys)
   served_cons z xs ys h = served_right xs ys (z ∷ []) h
 
@@ -76,13 +85,14 @@ module _ (names : List ℕ) (N : ℕ → ℕ → Type 0) (named : (w v : ℕ) �
       go y e (inr t) = inr (t.0, t.1, holds-without t.0 x xs (apart_from x t.0 names n (named t.0 y t.1).0) t.2)
 
 module _ (N : ℕ → ℕ → Type 0) (c : Context) (serves : (w v : ℕ) → N w v → Serves c w v) where
-  -- a name that serves for another one stands before and behind what that one does
+  -- a name that serves for another one stands before what that one does,
   before_first : (x y z : ℕ) → N x y → is_before c x z ≡ true → is_before c y z ≡ true
   before_first x y z n h =
       let f = and_first (is_some (c.types x) && is_some (c.types z)) (c.order x z) h in
       ap₂ ◌&&◌ (ap₂ ◌&&◌ ((serves x y n).there (and_first (is_some (c.types x)) (is_some (c.types z)) f)) (and_second (is_some (c.types x)) (is_some (c.types z)) f))
       ((serves x y n).order.after z (and_second (is_some (c.types x) && is_some (c.types z)) (c.order x z) h))
 
+  -- and behind it
   before_second : (x y z : ℕ) → N x y → is_before c z x ≡ true → is_before c z y ≡ true
   before_second x y z n h =
       let f = and_first (is_some (c.types z) && is_some (c.types x)) (c.order z x) h in
@@ -135,12 +145,13 @@ module _ (funs : List CoreBody) (counts : ℕ → Bool) (N : ℕ → ℕ → Typ
     pub marks : marks_of_arguments args ≡ marks_of_arguments others
     pub at : (u : ℕ) → Served N (free_in_state (argument_at args u)) (free_in_state (argument_at others u))
 
--- a typed pair, and a typed sequence, by the form of its type
+-- a typed pair, by the form of its type
 pub record IsParTyped (funs : List CoreBody) (counts : ℕ → Bool) (c : Context) (a b : StateTree) (r : StreamType) : Type 0 where
   pub form : r ≡ par (par_left r) (par_right r)
   pub left : HasStateType funs counts c a (par_left r)
   pub right : HasStateType funs counts c b (par_right r)
 
+-- a typed sequence
 pub record IsCatTyped (funs : List CoreBody) (counts : ℕ → Bool) (c : Context) (a : StateTree) (l : LaterTree) (r : StreamType) : Type 0 where
   pub form : r ≡ cat (cat_first r) (cat_second r)
   pub first : HasStateType funs counts c a (cat_first r)
@@ -148,15 +159,17 @@ pub record IsCatTyped (funs : List CoreBody) (counts : ℕ → Bool) (c : Contex
   pub in_order : AllBefore c (free_in_state a) (free_names l.term)
 
 module _ (funs : List CoreBody) (counts : ℕ → Bool) where
-  -- they are the rules of typing, read in both directions
+  -- the rules of typing: a typed pair has both sides,
   pub par_form : (a b : StateTree) (c : Context) (r : StreamType) → HasStateType funs counts c (par_state a b) r → IsParTyped funs counts c a b r
   par_form a b c (par s t) h = record { form = refl; left = h.0; right = h.1 }
   par_form a b c _ h = absurd h
 
+  -- and the other way round
   pub of_par : (a b : StateTree) (c : Context) (r : StreamType) → r ≡ par (par_left r) (par_right r) → HasStateType funs counts c a (par_left r) → HasStateType funs counts c b (par_right r) → HasStateType funs counts c (par_state a b) r
   of_par a b c (par s t) e h k = (h, k)
   of_par a b c _ e h k = absurd (cc e)
 
+  -- a typed sequence has both parts
   pub cat_form : (a : StateTree) (l : LaterTree) (c : Context) (r : StreamType) → HasStateType funs counts c (cat_state a l) r → IsCatTyped funs counts c a l r
   cat_form a l c (cat s t) h = record { form = refl; first = h.0; second = h.1; in_order = h.2 }
   cat_form a l c _ h = absurd h

@@ -27,26 +27,29 @@ use Rattle.delta_state.specs.Settled.{is_settled, are_settled}
 use Rattle.delta_state.proofs.GrowingStates.{state_run_grows}
 use Rattle.state_rewriting.specs.Rewriting.{is_plain, are_plain, names_passed, at_most_once, stand_once, passed_on, composed}
 use Rattle.core_term.proofs.Retyping.{Among}
-use Rattle.state_steps.proofs.Sees.{Sees}
-use Rattle.state_steps.proofs.StateSees.{narrow_state, among_argument}
+use Rattle.state_steps.proofs.Seeing.{Sees}
+use Rattle.state_steps.proofs.NamesAmong.{among_nothing, among_argument}
+use Rattle.state_steps.proofs.NarrowedStates.{narrow_state}
 use Rattle.state_rewriting.proofs.FittingParts.{row_at, row_of, served_fewer, Fits}
 use Rattle.state_rewriting.proofs.LighterParts.{Lighter, LighterState, deeper_less}
 use Rattle.state_rewriting.proofs.BindingsLeftOut.{NoOther}
 
--- the composed arguments are those of the inner frame's parameters, with their types, and each is what is
--- passed on
+-- the composed arguments are those of the inner frame's parameters,
 composed_names : (args inner : ArgumentTrees) → argument_names (composed args inner) ≡ argument_names inner
 composed_names args no_arguments = refl
 composed_names args (argument_before x t s inner) = ap (λ ns. x ∷ ns) (composed_names args inner)
 
+-- their types in the context
 composed_marks : (args inner : ArgumentTrees) → marks_of_arguments (composed args inner) ≡ marks_of_arguments inner
 composed_marks args no_arguments = refl
 composed_marks args (argument_before x t s inner) = ap (put x (Some t)) (composed_marks args inner)
 
+-- and in the run
 composed_types : (args inner : ArgumentTrees) → types_of_arguments (composed args inner) ≡ types_of_arguments inner
 composed_types args no_arguments = refl
 composed_types args (argument_before x t s inner) = ap (put x t) (composed_types args inner)
 
+-- and each is what is passed on
 composed_at : (args inner : ArgumentTrees) (u : ℕ) → argument_at (composed args inner) u ≡ passed_on args (argument_at inner u)
 composed_at args no_arguments u = refl
 composed_at args (argument_before x t s inner) u = go (eqb u x) (composed_at args inner u)
@@ -66,19 +69,20 @@ plain_at (argument_before x t s inner) u p = go (eqb u x) (plain_at inner u (and
 
 -- the free names of what is passed on are among those of the outer arguments
 passed_free : (args : ArgumentTrees) (s : StateTree) → is_plain s ≡ true → Among (free_in_state (passed_on args s)) (free_in_arguments args)
-passed_free args (sink t) p = record { at = λ y m. absurd (true≢false (sym m)) }
+passed_free args (sink t) p = among_nothing (free_in_arguments args)
 passed_free args (var_state u) p = among_argument args u
 passed_free args _ p = absurd (true≢false (sym p))
 
+-- and so are those of all composed arguments
 composed_free : (args inner : ArgumentTrees) → are_plain inner ≡ true → Among (free_in_arguments (composed args inner)) (free_in_arguments args)
-composed_free args no_arguments p = record { at = λ y m. absurd (true≢false (sym m)) }
+composed_free args no_arguments p = among_nothing (free_in_arguments args)
 composed_free args (argument_before x t s inner) p = record {
   at = λ y m. ⊎_elim (λ i. (passed_free args s (and_first (is_plain s) (are_plain inner) p)).at y i) (λ i. (composed_free args inner (and_second (is_plain s) (are_plain inner) p)).at y i)
       (holds-split y (free_in_state (passed_on args s)) (free_in_arguments (composed args inner)) m);
 }
 
 module _ (funs : List CoreBody) (counts : ℕ → Bool) where
-  -- the argument of a parameter has its type, and is settled
+  -- the argument of a parameter has its type,
   argument_typed : (args : ArgumentTrees) (c : Context) (u : ℕ) (t : StreamType) → HaveArgumentTypes funs counts c args → marks_of_arguments args u ≡ Some t → HasStateType funs counts c (argument_at args u) t
   argument_typed no_arguments c u t h e = absurd (cc e)
   argument_typed (argument_before x q a args) c u t h e = go (eqb u x) e (argument_typed args c u t h.1)
@@ -87,6 +91,7 @@ module _ (funs : List CoreBody) (counts : ℕ → Bool) where
       go true e f = subst (HasStateType funs counts c a) (let k : q ≡ t = cc e in k) h.0
       go false e f = f e
 
+  -- and is settled
   argument_settled : (args : ArgumentTrees) (u : ℕ) (t : StreamType) → are_settled args ≡ true → marks_of_arguments args u ≡ Some t → is_settled (argument_at args u) t ≡ true
   argument_settled no_arguments u t i e = absurd (cc e)
   argument_settled (argument_before x q a args) u t i e = go (eqb u x) e (argument_settled args u t (and_second (is_settled a q) (are_settled args) i))
@@ -95,13 +100,14 @@ module _ (funs : List CoreBody) (counts : ℕ → Bool) where
       go true e f = subst (λ k. is_settled a k ≡ true) (let k : q ≡ t = cc e in k) (and_first (is_settled a q) (are_settled args) i)
       go false e f = f e
 
-  -- so the composed arguments are typed and settled, if both frames' are
+  -- so the composed arguments are typed, if both frames' are,
   composed_typed : (args inner : ArgumentTrees) (c : Context) → are_plain inner ≡ true → HaveArgumentTypes funs counts c args → HaveArgumentTypes funs counts (context_of_arguments c args) inner → HaveArgumentTypes funs counts c (composed args inner)
   composed_typed args no_arguments c p h k = tt
   composed_typed args (argument_before x t (sink q) inner) c p h k = (k.0, composed_typed args inner c p h k.1)
   composed_typed args (argument_before x t (var_state u) inner) c p h k = (argument_typed args c u t h k.0, composed_typed args inner c p h k.1)
   composed_typed args (argument_before x t _ inner) c p h k = absurd (true≢false (sym p))
 
+  -- and settled
   composed_settled : (args inner : ArgumentTrees) (c : Context) → are_plain inner ≡ true → are_settled args ≡ true → HaveArgumentTypes funs counts (context_of_arguments c args) inner → are_settled (composed args inner) ≡ true
   composed_settled args no_arguments c p i k = refl
   composed_settled args (argument_before x t (sink q) inner) c p i k = composed_settled args inner c p i k.1
@@ -146,17 +152,18 @@ module _ (funs : List CoreBody) (counts : ℕ → Bool) where
       }
 
 module _ (funs : ℕ → CoreBody) (T : NameTypes) where
-  -- the calls of a parameter's argument, and those of a list's, each as often as its parameter is in the list
+  -- the calls of a parameter's argument
   abbrev calls_at : ArgumentTrees → Environment → ℕ → ℕ
   calls_at no_arguments d u = 0
   calls_at (argument_before x t a args) d u = if eqb u x then (run_state funs a T t d).calls else calls_at args d u
 
+  -- those of a list's
   abbrev calls_passed : ArgumentTrees → Environment → List ℕ → ℕ
   calls_passed args d [] = 0
   calls_passed args d (u ∷ us) = calls_at args d u + calls_passed args d us
 
   module _ (d : Environment) where
-    -- what a parameter's argument gives, its calls, its level, and that a call on it stands no deeper
+    -- what a parameter's argument gives is what comes on the parameter
     out_at : (args : ArgumentTrees) (u : ℕ) (t : StreamType) → marks_of_arguments args u ≡ Some t → (run_state funs (argument_at args u) T t d).out ≡ value_at eps_emp (argument_names args) (run_arguments funs args T d).outs u
     out_at no_arguments u t e = absurd (cc e)
     out_at (argument_before x q a args) u t e = go (eqb u x) e (out_at args u t)
@@ -166,6 +173,7 @@ module _ (funs : ℕ → CoreBody) (T : NameTypes) where
         go true e f = ap (λ k. (run_state funs a T k d).out) (let k : t ≡ q = cc e in k)
         go false e f = f e
 
+    -- its calls
     calls_are : (args : ArgumentTrees) (u : ℕ) (t : StreamType) → marks_of_arguments args u ≡ Some t → (run_state funs (argument_at args u) T t d).calls ≡ calls_at args d u
     calls_are no_arguments u t e = absurd (cc e)
     calls_are (argument_before x q a args) u t e = go (eqb u x) e (calls_are args u t)
@@ -175,6 +183,7 @@ module _ (funs : ℕ → CoreBody) (T : NameTypes) where
         go true e f = ap (λ k. (run_state funs a T k d).calls) (let k : t ≡ q = cc e in k)
         go false e f = f e
 
+    -- its level is at most that of all
     level_at : (args : ArgumentTrees) (u : ℕ) (t : StreamType) → marks_of_arguments args u ≡ Some t → (run_state funs (argument_at args u) T t d).level ≤ (run_arguments funs args T d).level
     level_at no_arguments u t e = absurd (cc e)
     level_at (argument_before x q a args) u t e = go (eqb u x) e (level_at args u t)
@@ -184,6 +193,7 @@ module _ (funs : ℕ → CoreBody) (T : NameTypes) where
         go true e f = let k : (run_state funs a T t d).level ≡ (run_state funs a T q d).level = ap (λ k. (run_state funs a T k d).level) (let k : t ≡ q = cc e in k) in omega (arith, k)
         go false e f = let k = f e in omega (arith, k)
 
+    -- and a call on it stands no deeper, if one on all of them doesn't
     shut_at : (args : ArgumentTrees) (u : ℕ) (t : StreamType) → marks_of_arguments args u ≡ Some t → (run_arguments funs args T d).are_shut ≡ true → (is_var_state (argument_at args u) || is_maximal (run_state funs (argument_at args u) T t d).out) ≡ true
     shut_at no_arguments u t e s = absurd (cc e)
     shut_at (argument_before x q a args) u t e s = go (eqb u x) e (shut_at args u t)
@@ -249,9 +259,11 @@ module _ (funs : List CoreBody) (counts : ℕ → Bool) (args : ArgumentTrees) (
 
 -- the calls of a list where the first argument is that of x, against those of the list without x of the others
 module _ (funs : ℕ → CoreBody) (T : NameTypes) (x : ℕ) (t : StreamType) (a : StateTree) (args : ArgumentTrees) where
+  -- of a list, with the argument of x
   abbrev of_all : Environment → List ℕ → ℕ
   of_all = calls_passed funs T (argument_before x t a args)
 
+  -- and without it
   abbrev of_others : Environment → List ℕ → ℕ
   of_others d us = calls_passed funs T args d (without x us)
 

@@ -9,7 +9,7 @@ use Rattle.core_term.specs.FreeNames.{without}
 use Rattle.core_term.specs.Typing.{Context, with_name, with_name_like, with_fact, with_parts}
 use Rattle.core_term.proofs.Without.{holds-without, holds-tail}
 use Rattle.core_term.proofs.Retyping.{Among}
-use Rattle.state_steps.proofs.Sees.{Sees, sees_next}
+use Rattle.state_steps.proofs.Seeing.{Sees, sees_next}
 use Rattle.state_rewriting.proofs.OtherNames.{apart_from}
 
 -- a context without a name that isn't used has what the context has of the others, if the order between those
@@ -25,10 +25,11 @@ without_name x s xs O c n f = record {
     past_of y h true k = absurd (cc k)
     past_of y h false k = k
 
--- a name that is placed by others, or like another one, changes no fact between names apart from it
+-- a name that is placed by others changes no fact between names apart from it,
 pub let_facts : (x : ℕ) (us : List ℕ) (O : Facts) (u v : ℕ) → eqb u x ≡ false → eqb v x ≡ false → place_let x us true O u v ≡ true → O u v ≡ true
 let_facts x us O u v eu ev k = sym (ap (λ a. if a then (if eqb v x then false else after_let us O v) else (if eqb v x then before_let us true O u else O u v)) eu ∙ ap (λ b. if b then before_let us true O u else O u v) ev) ∙ k
 
+-- nor does one that is placed like z
 like_facts : (x z : ℕ) (O : Facts) (u v : ℕ) → eqb u x ≡ false → eqb v x ≡ false → place_like x z O u v ≡ true → O u v ≡ true
 like_facts x z O u v eu ev k = sym (ap (λ a. if a then (if eqb v x then false else after_like z O v) else (if eqb v x then before_like z O u else O u v)) eu ∙ ap (λ b. if b then before_like z O u else O u v) ev) ∙ k
 
@@ -36,12 +37,13 @@ like_facts x z O u v eu ev k = sym (ap (λ a. if a then (if eqb v x then false e
 put_facts : (x y : ℕ) (O : Facts) (u v : ℕ) → eqb u x ≡ false → put_before x y O u v ≡ true → O u v ≡ true
 put_facts x y O u v eu k = sym (ap (λ a. (a && eqb v y) || O u v) eu) ∙ k
 
--- a context without both names of a destructuring, of a pair and of a sequence
+-- a context without both names of a destructuring of a pair,
 pub without_parts : (x y z : ℕ) (s t : StreamType) (xs : List ℕ) (c : Context) → holds x xs ≡ false → holds y xs ≡ false → Sees xs (with_parts x s y t z c) c
 without_parts x y z s t xs c nx ny =
     sees_next xs (with_parts x s y t z c) (with_name_like x s z c) c (without_name y t xs (place_like y z (place_like x z c.order)) (with_name_like x s z c) ny (like_facts y z (place_like x z c.order)))
     (without_name x s xs (place_like x z c.order) c nx (like_facts x z c.order))
 
+-- and of a sequence, where the first is put before the second
 pub without_row : (x y z : ℕ) (s t : StreamType) (xs : List ℕ) (c : Context) → holds x xs ≡ false → holds y xs ≡ false → Sees xs (with_fact x y (with_parts x s y t z c)) c
 without_row x y z s t xs c nx ny =
     sees_next xs (with_fact x y (with_parts x s y t z c)) (with_parts x s y t z c) c

@@ -78,6 +78,7 @@ lighter_left h b b' =
       next_shut = still_shut false _ _ n;
     }
 
+-- so does a lighter right side
 lighter_right : {v w : Bool} {a a' x x' : Run} → Lighter v w a a' x x' → (b b' : Run) → Lighter false false (par_run b a) (par_run b' a') (par_run b x) (par_run b' x')
 lighter_right h b b' =
     let o = ap (λ p. par_both b.out p) h.out in
@@ -93,26 +94,30 @@ lighter_right h b b' =
       next_shut = still_shut false _ _ n;
     }
 
--- a lighter first part makes a lighter sequence: what it gives, its calls, its level and their rise. c says
--- whether the first part is whole, so that the second runs
+-- a lighter first part makes a lighter sequence: it gives the same. c says whether the first part is whole, so
+-- that the second runs
 cat_out : (c : Bool) (a x b : Run) → a.out ≡ x.out → (cat_run_at c a b).out ≡ (cat_run_at c x b).out
 cat_out true a x b e = cc e
 cat_out false a x b e = cc e
 
+-- no more calls
 cat_calls : (c : Bool) (a x b : Run) → x.calls ≤ a.calls → (cat_run_at c x b).calls ≤ (cat_run_at c a b).calls
 cat_calls true a x b h = omega (arith, h)
 cat_calls false a x b h = h
 
+-- none at a greater level
 cat_level : (c : Bool) (a x b : Run) → x.level ≤ a.level → (cat_run_at c x b).level ≤ (cat_run_at c a b).level
 cat_level true a x b h = omega (arith, h)
 cat_level false a x b h = h
 
+-- and their rise
 cat_rise : (c c' : Bool) (a a' x x' b b' : Run) → x'.calls + a.calls ≤ a'.calls + x.calls → (cat_run_at c' x' b').calls + (cat_run_at c a b).calls ≤ (cat_run_at c' a' b').calls + (cat_run_at c x b).calls
 cat_rise true true a a' x x' b b' h = omega (arith, h)
 cat_rise true false a a' x x' b b' h = omega (arith, h)
 cat_rise false true a a' x x' b b' h = omega (arith, h)
 cat_rise false false a a' x x' b b' h = h
 
+-- all of it, for given answers of the first parts
 lighter_cat_at : (c c' : Bool) {v w : Bool} {a a' x x' : Run} → Lighter v w a a' x x' → (b b' : Run) → Lighter false false (cat_run_at c a b) (cat_run_at c' a' b') (cat_run_at c x b) (cat_run_at c' x' b')
 lighter_cat_at c c' {a = a} {a' = a'} {x = x} {x' = x'} h b b' =
     let o = cat_out c a x b h.out in
@@ -225,7 +230,7 @@ and_of true v' true w' f g h = cc (f refl, g refl)
 and_of true v' false w' f g h = absurd (let no : false ≡ true = h in let none : ⊥ = cc in none)
 and_of false v' w w' f g h = absurd (let no : false ≡ true = h in let none : ⊥ = cc in none)
 
--- a lighter argument makes lighter arguments, at the front and further on
+-- a lighter argument makes lighter arguments, at the front
 lighter_first : {v w : Bool} {a a' x x' : Run} → Lighter v w a a' x x' → (b b' : Runs) → LighterAll (run_before v a b) (run_before v a' b') (run_before w x b) (run_before w x' b')
 lighter_first {v = v} {w = w} {a = a} {a' = a'} {x = x} {x' = x'} h b b' = record {
   outs = ap (λ p. p ∷ b.outs) h.out;
@@ -238,6 +243,7 @@ lighter_first {v = v} {w = w} {a = a} {a' = a'} {x = x} {x' = x'} h b b' = recor
   next_shut = and_of (v || is_maximal a'.out) (w || is_maximal x'.out) b'.are_shut b'.are_shut h.next_shut (λ e. e);
 }
 
+-- further on
 lighter_other : {a a' x x' : Runs} → LighterAll a a' x x' → (v : Bool) (b b' : Run) → LighterAll (run_before v b a) (run_before v b' a') (run_before v b x) (run_before v b' x')
 lighter_other {a = a} {a' = a'} {x = x} {x' = x'} h v b b' = record {
   outs = ap (λ ps. b.out ∷ ps) h.outs;
@@ -250,11 +256,12 @@ lighter_other {a = a} {a' = a'} {x = x} {x' = x'} h v b b' = record {
   next_shut = and_of (v || is_maximal b'.out) (v || is_maximal b'.out) a'.are_shut x'.are_shut (λ e. e) h.next_shut;
 }
 
--- replaced arguments have the parameters and the types of the others
+-- replaced arguments have the same parameters
 replaced_names : {names : List ℕ} {R : StreamType → StateTree → StateTree → Type 0} {args others : ArgumentTrees} → ReplacedArgument names R args others → argument_names args ≡ argument_names others
 replaced_names (at_first h) = refl
 replaced_names (at_other {x = x} h) = ap (λ ns. x ∷ ns) (replaced_names h)
 
+-- and the same types
 replaced_types : {names : List ℕ} {R : StreamType → StateTree → StateTree → Type 0} {args others : ArgumentTrees} → ReplacedArgument names R args others → types_of_arguments args ≡ types_of_arguments others
 replaced_types (at_first h) = refl
 replaced_types (at_other {x = x} {t = t} h) = ap (put x t) (replaced_types h)

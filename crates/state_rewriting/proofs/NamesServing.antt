@@ -17,11 +17,11 @@ pub record Beside (x w v : ℕ) : Type 0 where
 pub beside_both : (x w v : ℕ) (names : List ℕ) → holds w names ≡ true → holds v names ≡ true → holds x names ≡ false → Beside x w v
 beside_both x w v names mw mv n = record { first = apart_from x w names n mw; second = apart_from x v names n mv }
 
--- the order between u and v where x is placed by the names us, and where it is placed like z; a and b say
--- whether u and v are x
+-- the order between u and v where x is placed by the names us; a and b say whether u and v are x
 abbrev pub let_at : ℕ → List ℕ → Facts → ℕ → ℕ → Bool → Bool → Bool
 let_at x us O u v a b = if a then (if b then false else after_let us O v) else (if b then before_let us true O u else O u v)
 
+-- the same where x is placed like z
 abbrev pub like_at : ℕ → Facts → ℕ → ℕ → Bool → Bool → Bool
 like_at z O u v a b = if a then (if b then false else after_like z O v) else (if b then before_like z O u else O u v)
 

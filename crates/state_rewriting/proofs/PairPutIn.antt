@@ -39,13 +39,15 @@ record KnownPair (x y z : ℕ) (s t : StreamType) (c : Context) : Type 0 where
   pub order : ServesFor x z c.order
 
 module _ (x y z : ℕ) where
-  -- the three names are in their list
+  -- the three names are in their list: the first one
   first_of : holds x (x ∷ y ∷ z ∷ []) ≡ true
   first_of = holds-head x (y ∷ z ∷ [])
 
+  -- the second one
   second_of : holds y (x ∷ y ∷ z ∷ []) ≡ true
   second_of = holds-tail y x (y ∷ z ∷ []) (holds-head y (z ∷ []))
 
+  -- and the subject
   third_of : holds z (x ∷ y ∷ z ∷ []) ≡ true
   third_of = holds-tail z x (y ∷ z ∷ []) (holds-tail z y (z ∷ []) (holds-head z []))
 
@@ -69,6 +71,7 @@ module _ (x y z : ℕ) where
           order = o;
         }
 
+    -- also where that is placed like another one
     pair_like : (c : Context) (u v : ℕ) (q : StreamType) → KnownPair x y z s t c → holds u (x ∷ y ∷ z ∷ []) ≡ false → holds v (x ∷ y ∷ z ∷ []) ≡ false → KnownPair x y z s t (with_name_like u q v c)
     pair_like c u v q k n i = pair_name c u q (place_like u v c.order) k n (serves_like x z u v c.order (other_than u n) (other_than v i) k.order)
 

@@ -21,7 +21,8 @@ use Rattle.delta_state.specs.Settled.{is_settled}
 use Rattle.delta_state.specs.Stands.{StandsFor, input_type, output_left, context_after, rest_run, depth_after}
 use Rattle.delta_state.specs.MachineView.{input_of}
 use Rattle.delta_state.proofs.GrowingStates.{extends_free, streams_of}
-use Rattle.state_steps.proofs.Programs.{le_trans, pred_le, after_grows, main_extends}
+use Rattle.state_steps.proofs.SplitInputs.{first_is_part}
+use Rattle.state_steps.proofs.ProgramSteps.{le_trans, pred_le, extends_after}
 use Rattle.state_rewriting.specs.Rewriting.{Rewritten, finished, unused, unused_pair, unused_row, unused_argument, alias, pair, renamed, frames, Simpler, SimplerBy, as_it_is, one_more}
 use Rattle.state_rewriting.specs.Laws.{SimplerKeepsType, SimplerKeepsRun, SimplerKeepsDepth, SimplerStandsFor, SimplerStandsAfter}
 use Rattle.state_rewriting.proofs.FittingParts.{Fits, FitsLocally, fits}
@@ -46,6 +47,7 @@ module _ (funs : List CoreBody) (counts : ℕ → Bool) where
   rewritten_fits r a b (renamed {s = s} {x = x}) c k t i = renamed_fits funs counts c r s x b t i
   rewritten_fits r a b (frames {args = args} {inner = inner} {a = q} p o) c k t i = frames_fit funs counts c r args inner q p t i
 
+  -- so the rewritings fit locally, without names
   rewritings_fit : FitsLocally funs counts [] Rewritten NoOther (λ c. Unit {0})
   rewritings_fit = record {
     named = λ w v n. absurd n;
@@ -74,6 +76,7 @@ module _ (funs : List CoreBody) (typed : All (IsTypedBody funs) funs) where
   rewritten_lighter r a b (renamed {s = u} {x = x}) c T w t d e s g k l = renamed_lighter funs typed r u x b c T t d e
   rewritten_lighter r a b (frames {args = args} {inner = inner} {a = q} p o) c T w t d e s g k l = frames_lighter funs typed r args inner q p o c T w t d e s g
 
+  -- so they lighten locally, without names
   rewritings_lighten : LightensLocally funs [] Rewritten (λ d. Unit {0})
   rewritings_lighten = record { known_put = λ d x p k n. tt; known_any = λ d n. tt; local = rewritten_lighter }
 
@@ -111,20 +114,22 @@ once_simpler c n p a b typed hp st h =
     dp : Derives (input_type c) p
     dp = derives (input_type c) p hp
 
-    -- what comes on main's names after p, and more of it
+    -- what comes on main's names after p,
     streams : (q : StreamPrefix) → IsPrefix (der p (input_type c)) q → Streams (left_at (split c.main.params p) (types_in c.main.params)) (split_after c.main.params p q)
     streams q k = record { at = split_after_derives c.main.params dp (derives (der p (input_type c)) q k) }
 
+    -- nothing more of it
     same : (q : StreamPrefix) → IsPrefix (der p (input_type c)) q → Continues (left_at (split c.main.params p) (types_in c.main.params)) (split_after c.main.params p q) (split_after c.main.params p q)
     same q k = continues_same (left_at (split c.main.params p) (types_in c.main.params)) (split_after c.main.params p q) (streams q k)
 
+    -- and more
     more : (q r : StreamPrefix) → IsPrefix (der p (input_type c)) q → IsPrefix (der q (der p (input_type c))) r → Continues (left_at (split c.main.params p) (types_in c.main.params)) (split_after c.main.params p q) (split_after c.main.params p (join q r))
-    more q r k m = record { at = after_grows c.main.params dp (derives (der p (input_type c)) q k) (derives (der q (der p (input_type c))) r m) }
+    more q r k m = record { at = first_is_part c.main.params dp (derives (der p (input_type c)) q k) (derives (der q (der p (input_type c))) r m) }
 
     -- on both the runs are lighter
     at : (q w : StreamPrefix) → IsPrefix (der p (input_type c)) q → Continues (left_at (split c.main.params p) (types_in c.main.params)) (split_after c.main.params p q) (split_after c.main.params p w)
         → Lighter (is_var_state a) (is_var_state b) (rest_run c p a q) (rest_run c p a w) (rest_run c p b q) (rest_run c p b w)
-    at q w k g = simpler_lighter c.funs typed h (context_after c p) (left_at (split c.main.params p) (types_in c.main.params)) (main_extends c p) st.is_typed (split_after c.main.params p q) (split_after c.main.params p w) (streams q k) g
+    at q w k g = simpler_lighter c.funs typed h (context_after c p) (left_at (split c.main.params p) (types_in c.main.params)) (extends_after c p) st.is_typed (split_after c.main.params p q) (split_after c.main.params p w) (streams q k) g
 
 -- so it does after any number of them; the type left is kept as a variable
 often_simpler : (c : CoreProgram) (n : ℕ) (p : StreamPrefix) → All (IsTypedBody c.funs) c.funs → IsPrefix (input_type c) p → {r : StreamType} {a b : StateTree} → SimplerBy r a b → r ≡ output_left c p → StandsFor c n p a → StandsFor c n p b
