@@ -27,7 +27,7 @@ use Rattle.state_steps.proofs.NarrowedStates.{narrow_state}
 use Rattle.state_steps.proofs.FreeStateRuns.{state_same}
 use Rattle.state_rewriting.proofs.OtherNames.{apart_from}
 use Rattle.state_rewriting.proofs.FittingParts.{served_fewer, Fits}
-use Rattle.state_rewriting.proofs.LighterParts.{Lighter, LighterState, deeper_less}
+use Rattle.state_rewriting.proofs.LighterParts.{Lighter, CostLess, LighterState, less_frame, less_behind}
 use Rattle.state_rewriting.proofs.BindingsLeftOut.{NoOther}
 
 -- at a name y that isn't u, an entry of u doesn't count
@@ -143,17 +143,8 @@ module _ (funs : List CoreBody) (counts : ℕ → Bool) where
     free = served_fewer NoOther (free_in_arguments args) (free_in_arguments (without_argument u args)) (free_without u args);
   }
 
--- runs of arguments, on an input and on a longer one, and of fewer of them: those cost no more
-record Fewer (a a' x x' : Runs) : Type 0 where
-  pub calls : x.calls ≤ a.calls
-  pub rise : x'.calls + a.calls ≤ a'.calls + x.calls
-  pub level : x.level ≤ a.level
-  pub next_level : x'.level ≤ a'.level
-  pub shut : a.are_shut ≡ true → x.are_shut ≡ true
-  pub next_shut : a'.are_shut ≡ true → x'.are_shut ≡ true
-
--- an argument may be left out,
-fewer_dropped : {a a' x x' : Runs} (v : Bool) (b b' : Run) → b.calls ≤ b'.calls → Fewer a a' x x' → Fewer (run_before v b a) (run_before v b' a') x x'
+-- fewer arguments cost no more
+fewer_dropped : {a a' x x' : Runs} (v : Bool) (b b' : Run) → b.calls ≤ b'.calls → CostLess a a' x x' → CostLess (run_before v b a) (run_before v b' a') x x'
 fewer_dropped {a = a} {a' = a'} v b b' g h = record {
   calls = omega (arith, h.calls);
   rise = omega (arith, h.rise, g);
@@ -163,39 +154,10 @@ fewer_dropped {a = a} {a' = a'} v b b' g h = record {
   next_shut = λ e. h.next_shut (and_second (v || is_maximal b'.out) a'.are_shut e);
 }
 
--- or stay in both
-fewer_kept : {a a' x x' : Runs} (v : Bool) (b b' : Run) → Fewer a a' x x' → Fewer (run_before v b a) (run_before v b' a') (run_before v b x) (run_before v b' x')
-fewer_kept {a = a} {a' = a'} v b b' h = record {
-  calls = omega (arith, h.calls);
-  rise = omega (arith, h.rise);
-  level = omega (arith, h.level);
-  next_level = omega (arith, h.next_level);
-  shut = λ e. ap₂ ◌&&◌ (and_first (v || is_maximal b.out) a.are_shut e) (h.shut (and_second (v || is_maximal b.out) a.are_shut e));
-  next_shut = λ e. ap₂ ◌&&◌ (and_first (v || is_maximal b'.out) a'.are_shut e) (h.next_shut (and_second (v || is_maximal b'.out) a'.are_shut e));
-}
-
--- a frame with fewer arguments and the same body is lighter
-fewer_frame : {a a' x x' : Runs} → Fewer a a' x x' → (b b' : Run) → Lighter false false (frame_run a b) (frame_run a' b') (frame_run x b) (frame_run x' b')
-fewer_frame {a = a} {a' = a'} {x = x} {x' = x'} h b b' =
-    let l = deeper_less a.are_shut x.are_shut b.level b.level (omega arith) h.shut in
-    let n = deeper_less a'.are_shut x'.are_shut b'.level b'.level (omega arith) h.next_shut in
-    let l' = deeper_less false false a.level x.level h.level (λ e. e) in
-    let n' = deeper_less false false a'.level x'.level h.next_level (λ e. e) in
-    record {
-      out = refl;
-      next = refl;
-      calls = omega (arith, h.calls);
-      rise = omega (arith, h.rise);
-      level = omega (arith, l, l');
-      next_level = omega (arith, n, n');
-      shut = λ e. e;
-      next_shut = λ e. e;
-    }
-
 module _ (funs : List CoreBody) (typed : All (IsTypedBody funs) funs) where
   -- so arguments less those of u cost no more
   runs_without : (u : ℕ) (args : ArgumentTrees) (c : Context) (T : NameTypes) → Extends c T no_pasts → HaveArgumentTypes funs (is_inert_fun funs) c args → (d e : Environment) → Streams T d → Continues T d e
-      → Fewer (run_arguments (fun_at funs) args T d) (run_arguments (fun_at funs) args T e) (run_arguments (fun_at funs) (without_argument u args) T d) (run_arguments (fun_at funs) (without_argument u args) T e)
+      → CostLess (run_arguments (fun_at funs) args T d) (run_arguments (fun_at funs) args T e) (run_arguments (fun_at funs) (without_argument u args) T d) (run_arguments (fun_at funs) (without_argument u args) T e)
   runs_without u no_arguments c T w t d e s g = record { calls = omega arith; rise = omega arith; level = omega arith; next_level = omega arith; shut = λ k. k; next_shut = λ k. k }
   runs_without u (argument_before x q a args) c T w t d e s g = go (eqb x u) (runs_without u args c T w t.1 d e s g)
     where
@@ -211,11 +173,11 @@ module _ (funs : List CoreBody) (typed : All (IsTypedBody funs) funs) where
       B' : Run
       B' = run_state (fun_at funs) a T q e
 
-      go : (b : Bool) → Fewer A A' (run_arguments (fun_at funs) (without_argument u args) T d) (run_arguments (fun_at funs) (without_argument u args) T e)
-          → Fewer (run_before (is_var_state a) B A) (run_before (is_var_state a) B' A') (run_arguments (fun_at funs) (if b then without_argument u args else argument_before x q a (without_argument u args)) T d)
+      go : (b : Bool) → CostLess A A' (run_arguments (fun_at funs) (without_argument u args) T d) (run_arguments (fun_at funs) (without_argument u args) T e)
+          → CostLess (run_before (is_var_state a) B A) (run_before (is_var_state a) B' A') (run_arguments (fun_at funs) (if b then without_argument u args else argument_before x q a (without_argument u args)) T d)
           (run_arguments (fun_at funs) (if b then without_argument u args else argument_before x q a (without_argument u args)) T e)
       go true h = fewer_dropped (is_var_state a) B B' (state_run_grows funs typed a c T q w t.0 d e s g).calls h
-      go false h = fewer_kept (is_var_state a) B B' h
+      go false h = less_behind h (is_var_state a) B B'
 
   -- and a body that doesn't use u has the same of them
   body_alike : (u : ℕ) (args : ArgumentTrees) (a : StateTree) (T : NameTypes) (d : Environment) → holds u (free_in_state a) ≡ false
@@ -236,4 +198,4 @@ module _ (funs : List CoreBody) (typed : All (IsTypedBody funs) funs) where
       (subst (λ q. Lighter false false (run_state (fun_at funs) (frame_state args a) T r d) (run_state (fun_at funs) (frame_state args a) T r e)
       (frame_run X (run_state (fun_at funs) a (types_of_arguments args) r (value_at eps_emp (argument_names args) (run_arguments (fun_at funs) args T d).outs))) (frame_run X' q))
       (state_same (fun_at funs) a _ _ r _ _ (body_alike u args a T e n))
-      (fewer_frame (runs_without u args c T w t.0 d e s g) _ _))
+      (less_frame (runs_without u args c T w t.0 d e s g) _ _))

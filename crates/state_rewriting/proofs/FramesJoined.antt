@@ -31,7 +31,7 @@ use Rattle.state_steps.proofs.Seeing.{Sees}
 use Rattle.state_steps.proofs.NamesAmong.{among_nothing, among_argument}
 use Rattle.state_steps.proofs.NarrowedStates.{narrow_state}
 use Rattle.state_rewriting.proofs.FittingParts.{row_at, row_of, served_fewer, Fits}
-use Rattle.state_rewriting.proofs.LighterParts.{Lighter, LighterState, deeper_less}
+use Rattle.state_rewriting.proofs.LighterParts.{Lighter, LighterState, deeper_less, lighter_then, less_frame, lighter_body}
 use Rattle.state_rewriting.proofs.BindingsLeftOut.{NoOther}
 
 -- the composed arguments are those of the inner frame's parameters,
@@ -207,24 +207,6 @@ module _ (funs : ℕ → CoreBody) (T : NameTypes) where
         go true e f = ap (λ k. is_var_state a || is_maximal (run_state funs a T k d).out) (let k : t ≡ q = cc e in k) ∙ and_first (is_var_state a || is_maximal A.out) (run_arguments funs args T d).are_shut s
         go false e f = f e (and_second (is_var_state a || is_maximal A.out) (run_arguments funs args T d).are_shut s)
 
--- runs of arguments without a call, on which a call stands no deeper
-record Quiet (a : Runs) : Type 0 where
-  pub calls : a.calls ≡ 0
-  pub level : a.level ≡ 0
-  pub shut : a.are_shut ≡ true
-
-module _ (funs : List CoreBody) (counts : ℕ → Bool) where
-  -- such are those of names and of what is finished
-  inner_quiet : (inner : ArgumentTrees) (c : Context) → are_plain inner ≡ true → HaveArgumentTypes funs counts c inner → (T : NameTypes) (d : Environment) → Quiet (run_arguments (fun_at funs) inner T d)
-  inner_quiet no_arguments c p h T d = record { calls = refl; level = refl; shut = refl }
-  inner_quiet (argument_before x t (sink q) inner) c p h T d =
-      let i = inner_quiet inner c p h.1 T d in
-      record { calls = omega (arith, i.calls); level = omega (arith, i.level); shut = ap₂ ◌&&◌ (is_maximal-emp q ∙ h.0.1) i.shut }
-  inner_quiet (argument_before x t (var_state u) inner) c p h T d =
-      let i = inner_quiet inner c p h.1 T d in
-      record { calls = omega (arith, i.calls); level = omega (arith, i.level); shut = i.shut }
-  inner_quiet (argument_before x t _ inner) c p h T d = absurd (true≢false (sym p))
-
 module _ (funs : List CoreBody) (counts : ℕ → Bool) (args : ArgumentTrees) (c : Context) (T : NameTypes) (d : Environment) where
   -- the composed arguments give what the inner ones do, on what the outer ones give; their calls are those of
   -- what is passed on, and they reach no deeper than the outer ones
@@ -347,26 +329,26 @@ module _ (funs : List CoreBody) (typed : All (IsTypedBody funs) funs) (T : NameT
       go (inl p) grows h = twice grows h (inl (λ env. plain_share (fun_at funs) T x q a args env us (plain_calls (fun_at funs) a T q env p)))
       go (inr m) grows h = twice grows h (once_share (fun_at funs) T x q a args us m)
 
--- a body in one frame is lighter than in two, where the inner arguments are quiet and the composed ones cost
--- no more than the outer ones
-one_frame : (a a' i i' x x' : Runs) (b b' : Run) → Quiet i → Quiet i' → x.calls ≤ a.calls → x'.calls + a.calls ≤ a'.calls + x.calls → x.level ≤ a.level → x'.level ≤ a'.level → (a.are_shut ≡ true → x.are_shut ≡ true) → (a'.are_shut ≡ true → x'.are_shut ≡ true)
-    → Lighter false false (frame_run a (frame_run i b)) (frame_run a' (frame_run i' b')) (frame_run x b) (frame_run x' b')
-one_frame a a' i i' x x' b b' q q' calls rise level next_level shut next_shut =
-    let inside = deeper_less i.are_shut true b.level b.level (omega arith) (λ e. refl) in
-    let inside' = deeper_less i'.are_shut true b'.level b'.level (omega arith) (λ e. refl) in
-    let below : b.level ≤ (frame_run i b).level = omega (arith, inside) in
-    let below' : b'.level ≤ (frame_run i' b').level = omega (arith, inside') in
-    let l = deeper_less a.are_shut x.are_shut (frame_run i b).level b.level below shut in
-    let n = deeper_less a'.are_shut x'.are_shut (frame_run i' b').level b'.level below' next_shut in
-    let l' = deeper_less false false a.level x.level level (λ e. e) in
-    let n' = deeper_less false false a'.level x'.level next_level (λ e. e) in
+-- nor do arguments that are all such
+plain_all : (funs : ℕ → CoreBody) (inner : ArgumentTrees) (T : NameTypes) (d : Environment) → are_plain inner ≡ true → (run_arguments funs inner T d).calls ≡ 0
+plain_all funs no_arguments T d p = refl
+plain_all funs (argument_before x t s inner) T d p =
+    let i = plain_calls funs s T t d (and_first (is_plain s) (are_plain inner) p) in
+    let k = plain_all funs inner T d (and_second (is_plain s) (are_plain inner) p) in
+    omega (arith, i, k)
+
+-- a body is lighter than a frame of it whose arguments make no call
+lighter_alone : (i i' : Runs) (b b' : Run) → i.calls ≡ 0 → Lighter false false (frame_run i b) (frame_run i' b') b b'
+lighter_alone i i' b b' q =
+    let l = deeper_less i.are_shut true b.level b.level (omega arith) (λ e. refl) in
+    let n = deeper_less i'.are_shut true b'.level b'.level (omega arith) (λ e. refl) in
     record {
       out = refl;
       next = refl;
-      calls = omega (arith, calls, q.calls);
-      rise = omega (arith, rise, q.calls, q'.calls);
-      level = omega (arith, l, l');
-      next_level = omega (arith, n, n');
+      calls = omega arith;
+      rise = omega (arith, q);
+      level = omega (arith, l);
+      next_level = omega (arith, n);
       shut = λ e. e;
       next_shut = λ e. e;
     }
@@ -395,7 +377,6 @@ module _ (funs : List CoreBody) (typed : All (IsTypedBody funs) funs) where
       (subst (λ os. Lighter false false (frame_run A (frame_run I (body (argument_names inner) (types_of_arguments inner) I.outs))) (frame_run A' (frame_run I' (body (argument_names inner) (types_of_arguments inner) I'.outs)))
       (frame_run X (body (argument_names inner) (types_of_arguments inner) I.outs)) (frame_run X' (body (argument_names inner) (types_of_arguments inner) os))) k.outs
       (let hc = h.calls in let kc = k.calls in let mc = m.calls in let mr = m.rise in
-      one_frame A A' I I' X X' (body (argument_names inner) (types_of_arguments inner) I.outs) (body (argument_names inner) (types_of_arguments inner) I'.outs)
-      (inner_quiet funs (is_inert_fun funs) inner (context_of_arguments c args) p t.1.0 (types_of_arguments args) (value_at eps_emp (argument_names args) A.outs))
-      (inner_quiet funs (is_inert_fun funs) inner (context_of_arguments c args) p t.1.0 (types_of_arguments args) (value_at eps_emp (argument_names args) A'.outs))
-      (omega (arith, hc, mc)) (omega (arith, hc, kc, mr)) h.level k.level h.shut k.shut))))
+      lighter_then (less_frame {a = A} {a' = A'} {x = X} {x' = X'} (record { calls = omega (arith, hc, mc); rise = omega (arith, hc, kc, mr); level = h.level; next_level = k.level; shut = h.shut; next_shut = k.shut }) _ _)
+      (lighter_body (lighter_alone I I' (body (argument_names inner) (types_of_arguments inner) I.outs) (body (argument_names inner) (types_of_arguments inner) I'.outs)
+      (plain_all (fun_at funs) inner (types_of_arguments args) (value_at eps_emp (argument_names args) A.outs) p)) X X')))))

@@ -40,16 +40,20 @@ pub record Lighter (v w : Bool) (a a' x x' : Run) : Type 0 where
   pub shut : (v || is_maximal a.out) ≡ true → (w || is_maximal x.out) ≡ true
   pub next_shut : (v || is_maximal a'.out) ≡ true → (w || is_maximal x'.out) ≡ true
 
--- the same of all arguments of a frame
-pub record LighterAll (a a' x x' : Runs) : Type 0 where
-  pub outs : a.outs ≡ x.outs
-  pub next : a'.outs ≡ x'.outs
+-- runs of all arguments of a frame, and of others that cost no more, whatever they give
+pub record CostLess (a a' x x' : Runs) : Type 0 where
   pub calls : x.calls ≤ a.calls
   pub rise : x'.calls + a.calls ≤ a'.calls + x.calls
   pub level : x.level ≤ a.level
   pub next_level : x'.level ≤ a'.level
   pub shut : a.are_shut ≡ true → x.are_shut ≡ true
   pub next_shut : a'.are_shut ≡ true → x'.are_shut ≡ true
+
+-- and give the same
+pub record LighterAll (a a' x x' : Runs) : Type 0 where
+  pub outs : a.outs ≡ x.outs
+  pub next : a'.outs ≡ x'.outs
+  pub costs : CostLess a a' x x'
 
 -- what gives the same is whole where the other is
 still_shut : (v : Bool) (p q : StreamPrefix) → p ≡ q → (v || is_maximal p) ≡ true → (v || is_maximal q) ≡ true
@@ -139,42 +143,6 @@ lighter_cat {a = a} {a' = a'} {x = x} {x' = x'} h b b' =
     subst (λ p. Lighter false false (cat_run a b) (cat_run a' b') (cat_run_at (is_maximal p) x b) (cat_run x' b')) h.out
     (subst (λ p. Lighter false false (cat_run a b) (cat_run a' b') (cat_run_at (is_maximal a.out) x b) (cat_run_at (is_maximal p) x' b')) h.next (lighter_cat_at (is_maximal a.out) (is_maximal a'.out) h b b'))
 
--- a lighter bound part makes a lighter let
-lighter_bound : {v w : Bool} {a a' x x' : Run} → Lighter v w a a' x x' → (b b' : StreamPrefix → Run) → Lighter false false (let_run v a (b a.out)) (let_run v a' (b' a'.out)) (let_run w x (b x.out)) (let_run w x' (b' x'.out))
-lighter_bound {v = v} {w = w} {a = a} {a' = a'} {x = x} {x' = x'} h b b' =
-    subst (λ q. Lighter false false (let_run v a (b a.out)) (let_run v a' (b' a'.out)) (let_run w x q) (let_run w x' (b' x'.out))) (ap b h.out)
-    (subst (λ q. Lighter false false (let_run v a (b a.out)) (let_run v a' (b' a'.out)) (let_run w x (b a.out)) (let_run w x' q)) (ap b' h.next)
-    (let l = deeper_less (v || is_maximal a.out) (w || is_maximal x.out) (b a.out).level (b a.out).level (omega arith) h.shut in
-    let n = deeper_less (v || is_maximal a'.out) (w || is_maximal x'.out) (b' a'.out).level (b' a'.out).level (omega arith) h.next_shut in
-    let l' = deeper_less false false a.level x.level h.level (λ e. e) in
-    let n' = deeper_less false false a'.level x'.level h.next_level (λ e. e) in
-    record {
-      out = refl;
-      next = refl;
-      calls = omega (arith, h.calls);
-      rise = omega (arith, h.rise);
-      level = omega (arith, l, l');
-      next_level = omega (arith, n, n');
-      shut = λ e. e;
-      next_shut = λ e. e;
-    }))
-
--- and so does a lighter body
-pub lighter_let : {v w : Bool} {a a' x x' : Run} → Lighter v w a a' x x' → (u : Bool) (b b' : Run) → Lighter false false (let_run u b a) (let_run u b' a') (let_run u b x) (let_run u b' x')
-lighter_let {a = a} {a' = a'} {x = x} {x' = x'} h u b b' =
-    let l = deeper_less (u || is_maximal b.out) (u || is_maximal b.out) a.level x.level h.level (λ e. e) in
-    let n = deeper_less (u || is_maximal b'.out) (u || is_maximal b'.out) a'.level x'.level h.next_level (λ e. e) in
-    record {
-      out = h.out;
-      next = h.next;
-      calls = omega (arith, h.calls);
-      rise = omega (arith, h.rise);
-      level = omega (arith, l);
-      next_level = omega (arith, n);
-      shut = still_shut false _ _ h.out;
-      next_shut = still_shut false _ _ h.next;
-    }
-
 -- as parts of other states they are no names, and what they give decides
 pub lighter_inside : {v w : Bool} {a a' x x' : Run} → Lighter v w a a' x x' → Lighter false false a a' x x'
 lighter_inside {a = a} {a' = a'} {x = x} {x' = x'} h = record {
@@ -188,13 +156,24 @@ lighter_inside {a = a} {a' = a'} {x = x} {x' = x'} h = record {
   next_shut = still_shut false a'.out x'.out h.next;
 }
 
--- lighter arguments make a lighter frame
-lighter_arguments : {a a' x x' : Runs} → LighterAll a a' x x' → (b b' : List StreamPrefix → Run) → Lighter false false (frame_run a (b a.outs)) (frame_run a' (b' a'.outs)) (frame_run x (b x.outs)) (frame_run x' (b' x'.outs))
-lighter_arguments {a = a} {a' = a'} {x = x} {x' = x'} h b b' =
-    subst (λ q. Lighter false false (frame_run a (b a.outs)) (frame_run a' (b' a'.outs)) (frame_run x q) (frame_run x' (b' x'.outs))) (ap b h.outs)
-    (subst (λ q. Lighter false false (frame_run a (b a.outs)) (frame_run a' (b' a'.outs)) (frame_run x (b a.outs)) (frame_run x' q)) (ap b' h.next)
-    (let l = deeper_less a.are_shut x.are_shut (b a.outs).level (b a.outs).level (omega arith) h.shut in
-    let n = deeper_less a'.are_shut x'.are_shut (b' a'.outs).level (b' a'.outs).level (omega arith) h.next_shut in
+-- one after the other
+pub lighter_then : {u v w : Bool} {a a' x x' y y' : Run} → Lighter u v a a' x x' → Lighter v w x x' y y' → Lighter u w a a' y y'
+lighter_then h k = record {
+  out = h.out ∙ k.out;
+  next = h.next ∙ k.next;
+  calls = omega (arith, h.calls, k.calls);
+  rise = omega (arith, h.rise, k.rise);
+  level = omega (arith, h.level, k.level);
+  next_level = omega (arith, h.next_level, k.next_level);
+  shut = λ e. k.shut (h.shut e);
+  next_shut = λ e. k.next_shut (h.next_shut e);
+}
+
+-- arguments that cost no more, and on which the body gives the same, make a lighter frame
+pub less_frame : {a a' x x' : Runs} → CostLess a a' x x' → (b b' : Run) → Lighter false false (frame_run a b) (frame_run a' b') (frame_run x b) (frame_run x' b')
+less_frame {a = a} {a' = a'} {x = x} {x' = x'} h b b' =
+    let l = deeper_less a.are_shut x.are_shut b.level b.level (omega arith) h.shut in
+    let n = deeper_less a'.are_shut x'.are_shut b'.level b'.level (omega arith) h.next_shut in
     let l' = deeper_less false false a.level x.level h.level (λ e. e) in
     let n' = deeper_less false false a'.level x'.level h.next_level (λ e. e) in
     record {
@@ -206,10 +185,16 @@ lighter_arguments {a = a} {a' = a'} {x = x} {x' = x'} h b b' =
       next_level = omega (arith, n, n');
       shut = λ e. e;
       next_shut = λ e. e;
-    }))
+    }
+
+-- so do lighter arguments
+lighter_arguments : {a a' x x' : Runs} → LighterAll a a' x x' → (b b' : List StreamPrefix → Run) → Lighter false false (frame_run a (b a.outs)) (frame_run a' (b' a'.outs)) (frame_run x (b x.outs)) (frame_run x' (b' x'.outs))
+lighter_arguments {a = a} {a' = a'} {x = x} {x' = x'} h b b' =
+    subst (λ q. Lighter false false (frame_run a (b a.outs)) (frame_run a' (b' a'.outs)) (frame_run x q) (frame_run x' (b' x'.outs))) (ap b h.outs)
+    (subst (λ q. Lighter false false (frame_run a (b a.outs)) (frame_run a' (b' a'.outs)) (frame_run x (b a.outs)) (frame_run x' q)) (ap b' h.next) (less_frame h.costs (b a.outs) (b' a'.outs)))
 
 -- and so does a lighter body
-lighter_body : {v w : Bool} {a a' x x' : Run} → Lighter v w a a' x x' → (b b' : Runs) → Lighter false false (frame_run b a) (frame_run b' a') (frame_run b x) (frame_run b' x')
+pub lighter_body : {v w : Bool} {a a' x x' : Run} → Lighter v w a a' x x' → (b b' : Runs) → Lighter false false (frame_run b a) (frame_run b' a') (frame_run b x) (frame_run b' x')
 lighter_body {a = a} {a' = a'} {x = x} {x' = x'} h b b' =
     let l = deeper_less b.are_shut b.are_shut a.level x.level h.level (λ e. e) in
     let n = deeper_less b'.are_shut b'.are_shut a'.level x'.level h.next_level (λ e. e) in
@@ -224,6 +209,21 @@ lighter_body {a = a} {a' = a'} {x = x} {x' = x'} h b b' =
       next_shut = still_shut false _ _ h.next;
     }
 
+-- a let costs what a frame does whose one argument is what it binds
+abbrev alone : Bool → Run → Runs
+alone v a = record { outs = a.out ∷ []; calls = a.calls; level = a.level; are_shut = v || is_maximal a.out }
+
+-- so a lighter bound part makes a lighter let,
+lighter_bound : {v w : Bool} {a a' x x' : Run} → Lighter v w a a' x x' → (b b' : StreamPrefix → Run) → Lighter false false (let_run v a (b a.out)) (let_run v a' (b' a'.out)) (let_run w x (b x.out)) (let_run w x' (b' x'.out))
+lighter_bound {v = v} {w = w} {a = a} {a' = a'} {x = x} {x' = x'} h b b' =
+    subst (λ q. Lighter false false (let_run v a (b a.out)) (let_run v a' (b' a'.out)) (let_run w x q) (let_run w x' (b' x'.out))) (ap b h.out)
+    (subst (λ q. Lighter false false (let_run v a (b a.out)) (let_run v a' (b' a'.out)) (let_run w x (b a.out)) (let_run w x' q)) (ap b' h.next)
+    (less_frame {a = alone v a} {a' = alone v a'} {x = alone w x} {x' = alone w x'} (record { calls = h.calls; rise = h.rise; level = h.level; next_level = h.next_level; shut = h.shut; next_shut = h.next_shut }) (b a.out) (b' a'.out)))
+
+-- and so does a lighter body
+pub lighter_let : {v w : Bool} {a a' x x' : Run} → Lighter v w a a' x x' → (u : Bool) (b b' : Run) → Lighter false false (let_run u b a) (let_run u b' a') (let_run u b x) (let_run u b' x')
+lighter_let h u b b' = lighter_body h (alone u b) (alone u b')
+
 -- both of two tests follow from both of two others
 and_of : (v v' w w' : Bool) → (v ≡ true → v' ≡ true) → (w ≡ true → w' ≡ true) → (v && w) ≡ true → (v' && w') ≡ true
 and_of true v' true w' f g h = cc (f refl, g refl)
@@ -235,19 +235,19 @@ lighter_first : {v w : Bool} {a a' x x' : Run} → Lighter v w a a' x x' → (b 
 lighter_first {v = v} {w = w} {a = a} {a' = a'} {x = x} {x' = x'} h b b' = record {
   outs = ap (λ p. p ∷ b.outs) h.out;
   next = ap (λ p. p ∷ b'.outs) h.next;
-  calls = omega (arith, h.calls);
-  rise = omega (arith, h.rise);
-  level = omega (arith, h.level);
-  next_level = omega (arith, h.next_level);
-  shut = and_of (v || is_maximal a.out) (w || is_maximal x.out) b.are_shut b.are_shut h.shut (λ e. e);
-  next_shut = and_of (v || is_maximal a'.out) (w || is_maximal x'.out) b'.are_shut b'.are_shut h.next_shut (λ e. e);
+  costs = record {
+    calls = omega (arith, h.calls);
+    rise = omega (arith, h.rise);
+    level = omega (arith, h.level);
+    next_level = omega (arith, h.next_level);
+    shut = and_of (v || is_maximal a.out) (w || is_maximal x.out) b.are_shut b.are_shut h.shut (λ e. e);
+    next_shut = and_of (v || is_maximal a'.out) (w || is_maximal x'.out) b'.are_shut b'.are_shut h.next_shut (λ e. e);
+  };
 }
 
--- further on
-lighter_other : {a a' x x' : Runs} → LighterAll a a' x x' → (v : Bool) (b b' : Run) → LighterAll (run_before v b a) (run_before v b' a') (run_before v b x) (run_before v b' x')
-lighter_other {a = a} {a' = a'} {x = x} {x' = x'} h v b b' = record {
-  outs = ap (λ ps. b.out ∷ ps) h.outs;
-  next = ap (λ ps. b'.out ∷ ps) h.next;
+-- arguments that cost no more still do behind another one
+pub less_behind : {a a' x x' : Runs} → CostLess a a' x x' → (v : Bool) (b b' : Run) → CostLess (run_before v b a) (run_before v b' a') (run_before v b x) (run_before v b' x')
+less_behind {a = a} {a' = a'} {x = x} {x' = x'} h v b b' = record {
   calls = omega (arith, h.calls);
   rise = omega (arith, h.rise);
   level = omega (arith, h.level);
@@ -255,6 +255,10 @@ lighter_other {a = a} {a' = a'} {x = x} {x' = x'} h v b b' = record {
   shut = and_of (v || is_maximal b.out) (v || is_maximal b.out) a.are_shut x.are_shut (λ e. e) h.shut;
   next_shut = and_of (v || is_maximal b'.out) (v || is_maximal b'.out) a'.are_shut x'.are_shut (λ e. e) h.next_shut;
 }
+
+-- so lighter ones are lighter behind another one
+lighter_other : {a a' x x' : Runs} → LighterAll a a' x x' → (v : Bool) (b b' : Run) → LighterAll (run_before v b a) (run_before v b' a') (run_before v b x) (run_before v b' x')
+lighter_other h v b b' = record { outs = ap (λ ps. b.out ∷ ps) h.outs; next = ap (λ ps. b'.out ∷ ps) h.next; costs = less_behind h.costs v b b' }
 
 -- replaced arguments have the same parameters
 replaced_names : {names : List ℕ} {R : StreamType → StateTree → StateTree → Type 0} {args others : ArgumentTrees} → ReplacedArgument names R args others → argument_names args ≡ argument_names others
