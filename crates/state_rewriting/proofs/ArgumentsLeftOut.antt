@@ -1,5 +1,5 @@
 -- The rewriting of a frame with arguments that aren't used: the type is kept, and the runs are lighter.
-use Rattle.std.proofs.Common.{⊎_elim, ◌≡◌, ◌∙◌, ◌≤◌, ◌+◌, ℕ, Bool, true, false, ◌&&◌, ◌||◌, List, ◌++◌, eqb, if◌then◌else◌, ap, ap₂, refl, subst, sym, arith}
+use Rattle.std.proofs.Common.{⊎_elim, ◌≡◌, ◌∙◌, ◌≤◌, ℕ, Bool, true, false, ◌&&◌, ◌||◌, List, ◌++◌, eqb, if◌then◌else◌, ap, ap₂, refl, sym, arith}
 use Rattle.std.proofs.lemmas.Bool.{eqb-true}
 use Rattle.std.specs.Prelude.{Some}
 use Rattle.std.specs.List.{All, list_all}
@@ -27,7 +27,7 @@ use Rattle.state_steps.proofs.NarrowedStates.{narrow_state}
 use Rattle.state_steps.proofs.FreeStateRuns.{state_same}
 use Rattle.state_rewriting.proofs.OtherNames.{apart_from}
 use Rattle.state_rewriting.proofs.FittingParts.{served_fewer, Fits}
-use Rattle.state_rewriting.proofs.LighterParts.{Lighter, CostLess, LighterState, less_frame, less_behind}
+use Rattle.state_rewriting.proofs.LighterParts.{lighter_to, CostLess, LighterState, less_frame, less_behind}
 use Rattle.state_rewriting.proofs.BindingsLeftOut.{NoOther}
 
 -- at a name y that isn't u, an entry of u doesn't count
@@ -193,9 +193,5 @@ module _ (funs : List CoreBody) (typed : All (IsTypedBody funs) funs) where
   dropped_lighter r args a u n c T w t d e s g =
       let X = run_arguments (fun_at funs) (without_argument u args) T d in
       let X' = run_arguments (fun_at funs) (without_argument u args) T e in
-      subst (λ q. Lighter false false (run_state (fun_at funs) (frame_state args a) T r d) (run_state (fun_at funs) (frame_state args a) T r e) (frame_run X q) (run_state (fun_at funs) (frame_state (without_argument u args) a) T r e))
-      (state_same (fun_at funs) a _ _ r _ _ (body_alike u args a T d n))
-      (subst (λ q. Lighter false false (run_state (fun_at funs) (frame_state args a) T r d) (run_state (fun_at funs) (frame_state args a) T r e)
-      (frame_run X (run_state (fun_at funs) a (types_of_arguments args) r (value_at eps_emp (argument_names args) (run_arguments (fun_at funs) args T d).outs))) (frame_run X' q))
-      (state_same (fun_at funs) a _ _ r _ _ (body_alike u args a T e n))
-      (less_frame (runs_without u args c T w t.0 d e s g) _ _))
+      lighter_to (ap (frame_run X) (state_same (fun_at funs) a _ _ r _ _ (body_alike u args a T d n))) (ap (frame_run X') (state_same (fun_at funs) a _ _ r _ _ (body_alike u args a T e n)))
+      (less_frame (runs_without u args c T w t.0 d e s g) _ _)

@@ -31,7 +31,7 @@ use Rattle.state_steps.proofs.FreeStateRuns.{state_same}
 use Rattle.state_rewriting.proofs.OtherNames.{apart_from, unused_alike}
 use Rattle.state_rewriting.proofs.HiddenNames.{without_name, let_facts, without_parts, without_row, free_beside}
 use Rattle.state_rewriting.proofs.FittingParts.{served_fewer, Fits}
-use Rattle.state_rewriting.proofs.LighterParts.{Lighter, LighterState}
+use Rattle.state_rewriting.proofs.LighterParts.{Lighter, lighter_from, LighterState}
 
 -- no name serves for another
 abbrev pub NoOther : ℕ → ℕ → Type 0
@@ -117,8 +117,7 @@ same_lighter w a a' = record {
 -- what is bound is lighter than the let whose body is its name; v says whether it is a name itself
 bound_alone : (v : Bool) (a a' b b' : Run) → b ≡ quiet a.out → b' ≡ quiet a'.out → Lighter false v (let_run v a b) (let_run v a' b') a a'
 bound_alone v a a' b b' e e' =
-    subst (λ q. Lighter false v (let_run v a q) (let_run v a' b') a a') (sym e)
-    (subst (λ q. Lighter false v (let_run v a (quiet a.out)) (let_run v a' q) a a') (sym e')
+    lighter_from (ap (let_run v a) (sym e)) (ap (let_run v a') (sym e'))
     (let l = deeper_up false a.level in
     let n = deeper_up false a'.level in
     record {
@@ -130,7 +129,7 @@ bound_alone v a a' b b' e e' =
       next_level = omega (arith, n);
       shut = λ k. or_second v (is_maximal a.out) k;
       next_shut = λ k. or_second v (is_maximal a'.out) k;
-    }))
+    })
 
 module _ (funs : List CoreBody) (typed : All (IsTypedBody funs) funs) where
   -- a finished part gives the same as any other of its type, which is nothing
@@ -156,9 +155,9 @@ module _ (funs : List CoreBody) (typed : All (IsTypedBody funs) funs) where
       let i = state_run_grows funs typed a c T s w t.0 d e st g in
       let A = run_state (fun_at funs) a T s d in
       let A' = run_state (fun_at funs) a T s e in
-      subst (λ q. Lighter false (is_var_state b) (let_run (is_var_state a) A q) (run_state (fun_at funs) (let_state x s a b) T r e) (run_state (fun_at funs) b T r d) (run_state (fun_at funs) b T r e)) (sym (state_same (fun_at funs) b (put x s T) T r (put x A.out d) d (unused_alike x (free_in_state b) s A.out T d n)))
-      (subst (λ q. Lighter false (is_var_state b) (let_run (is_var_state a) A (run_state (fun_at funs) b T r d)) (let_run (is_var_state a) A' q) (run_state (fun_at funs) b T r d) (run_state (fun_at funs) b T r e)) (sym (state_same (fun_at funs) b (put x s T) T r (put x A'.out e) e (unused_alike x (free_in_state b) s A'.out T e n)))
-      (dropped (is_var_state a) (is_var_state b) A A' (run_state (fun_at funs) b T r d) (run_state (fun_at funs) b T r e) i.calls))
+      lighter_from (ap (let_run (is_var_state a) A) (sym (state_same (fun_at funs) b (put x s T) T r (put x A.out d) d (unused_alike x (free_in_state b) s A.out T d n))))
+      (ap (let_run (is_var_state a) A') (sym (state_same (fun_at funs) b (put x s T) T r (put x A'.out e) e (unused_alike x (free_in_state b) s A'.out T e n))))
+      (dropped (is_var_state a) (is_var_state b) A A' (run_state (fun_at funs) b T r d) (run_state (fun_at funs) b T r e) i.calls)
 
   -- what comes on two names that aren't used makes no difference
   two_unused : (r : StreamType) (x y : ℕ) (s t : StreamType) (p q : StreamPrefix) (a : StateTree) (T : NameTypes) (d : Environment) → holds x (free_in_state a) ≡ false → holds y (free_in_state a) ≡ false
@@ -170,16 +169,14 @@ module _ (funs : List CoreBody) (typed : All (IsTypedBody funs) funs) where
   pub unused_pair_lighter : (r : StreamType) (x y z : ℕ) (a : StateTree) → holds x (free_in_state a) ≡ false → holds y (free_in_state a) ≡ false → (T : NameTypes) (d e : Environment)
       → LighterState funs T r d e (let_par_state x y z a) a
   unused_pair_lighter r x y z a nx ny T d e =
-      subst (λ q. Lighter false (is_var_state a) q (run_state (fun_at funs) (let_par_state x y z a) T r e) (run_state (fun_at funs) a T r d) (run_state (fun_at funs) a T r e)) (sym (two_unused r x y _ _ _ _ a T d nx ny))
-      (subst (λ q. Lighter false (is_var_state a) (run_state (fun_at funs) a T r d) q (run_state (fun_at funs) a T r d) (run_state (fun_at funs) a T r e)) (sym (two_unused r x y _ _ _ _ a T e nx ny))
-      (same_lighter (is_var_state a) (run_state (fun_at funs) a T r d) (run_state (fun_at funs) a T r e)))
+      lighter_from (sym (two_unused r x y _ _ _ _ a T d nx ny)) (sym (two_unused r x y _ _ _ _ a T e nx ny))
+      (same_lighter (is_var_state a) (run_state (fun_at funs) a T r d) (run_state (fun_at funs) a T r e))
 
   pub unused_row_lighter : (r : StreamType) (x y z : ℕ) (a : StateTree) → holds x (free_in_state a) ≡ false → holds y (free_in_state a) ≡ false → (T : NameTypes) (d e : Environment)
       → LighterState funs T r d e (let_cat_state x y z a) a
   unused_row_lighter r x y z a nx ny T d e =
-      subst (λ q. Lighter false (is_var_state a) q (run_state (fun_at funs) (let_cat_state x y z a) T r e) (run_state (fun_at funs) a T r d) (run_state (fun_at funs) a T r e)) (sym (two_unused r x y _ _ _ _ a T d nx ny))
-      (subst (λ q. Lighter false (is_var_state a) (run_state (fun_at funs) a T r d) q (run_state (fun_at funs) a T r d) (run_state (fun_at funs) a T r e)) (sym (two_unused r x y _ _ _ _ a T e nx ny))
-      (same_lighter (is_var_state a) (run_state (fun_at funs) a T r d) (run_state (fun_at funs) a T r e)))
+      lighter_from (sym (two_unused r x y _ _ _ _ a T d nx ny)) (sym (two_unused r x y _ _ _ _ a T e nx ny))
+      (same_lighter (is_var_state a) (run_state (fun_at funs) a T r d) (run_state (fun_at funs) a T r e))
 
   -- and what is bound stands for the binding whose name is all that follows
   pub renamed_lighter : (r s : StreamType) (x : ℕ) (a : StateTree) (c : Context) (T : NameTypes) → HasStateType funs (is_inert_fun funs) c (let_state x s a (var_state x)) r → (d e : Environment)

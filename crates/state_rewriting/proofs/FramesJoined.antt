@@ -31,7 +31,7 @@ use Rattle.state_steps.proofs.Seeing.{Sees}
 use Rattle.state_steps.proofs.NamesAmong.{among_nothing, among_argument}
 use Rattle.state_steps.proofs.NarrowedStates.{narrow_state}
 use Rattle.state_rewriting.proofs.FittingParts.{row_at, row_of, served_fewer, Fits}
-use Rattle.state_rewriting.proofs.LighterParts.{Lighter, LighterState, deeper_less, lighter_then, less_frame, lighter_body}
+use Rattle.state_rewriting.proofs.LighterParts.{Lighter, lighter_to, LighterState, deeper_less, lighter_then, less_frame, lighter_body}
 use Rattle.state_rewriting.proofs.BindingsLeftOut.{NoOther}
 
 -- the composed arguments are those of the inner frame's parameters,
@@ -368,15 +368,10 @@ module _ (funs : List CoreBody) (typed : All (IsTypedBody funs) funs) where
       let X = run_arguments (fun_at funs) (composed args inner) T d in
       let X' = run_arguments (fun_at funs) (composed args inner) T e in
       let body : List ℕ → NameTypes → List StreamPrefix → Run = λ ns q os. run_state (fun_at funs) a q r (value_at eps_emp ns os) in
-      subst (λ ns. Lighter false false (frame_run A (frame_run I (body (argument_names inner) (types_of_arguments inner) I.outs))) (frame_run A' (frame_run I' (body (argument_names inner) (types_of_arguments inner) I'.outs)))
-      (frame_run X (body ns (types_of_arguments (composed args inner)) X.outs)) (frame_run X' (body ns (types_of_arguments (composed args inner)) X'.outs))) (sym (composed_names args inner))
-      (subst (λ q. Lighter false false (frame_run A (frame_run I (body (argument_names inner) (types_of_arguments inner) I.outs))) (frame_run A' (frame_run I' (body (argument_names inner) (types_of_arguments inner) I'.outs)))
-      (frame_run X (body (argument_names inner) q X.outs)) (frame_run X' (body (argument_names inner) q X'.outs))) (sym (composed_types args inner))
-      (subst (λ os. Lighter false false (frame_run A (frame_run I (body (argument_names inner) (types_of_arguments inner) I.outs))) (frame_run A' (frame_run I' (body (argument_names inner) (types_of_arguments inner) I'.outs)))
-      (frame_run X (body (argument_names inner) (types_of_arguments inner) os)) (frame_run X' (body (argument_names inner) (types_of_arguments inner) X'.outs))) h.outs
-      (subst (λ os. Lighter false false (frame_run A (frame_run I (body (argument_names inner) (types_of_arguments inner) I.outs))) (frame_run A' (frame_run I' (body (argument_names inner) (types_of_arguments inner) I'.outs)))
-      (frame_run X (body (argument_names inner) (types_of_arguments inner) I.outs)) (frame_run X' (body (argument_names inner) (types_of_arguments inner) os))) k.outs
+      let first : List StreamPrefix → Run = body (argument_names inner) (types_of_arguments inner) in
+      let same : (os os' : List StreamPrefix) → os ≡ os' → first os ≡ body (argument_names (composed args inner)) (types_of_arguments (composed args inner)) os'
+      = λ os os' e. ap first e ∙ ap₂ (λ ns q. body ns q os') (sym (composed_names args inner)) (sym (composed_types args inner)) in
+      lighter_to (ap (frame_run X) (same I.outs X.outs h.outs)) (ap (frame_run X') (same I'.outs X'.outs k.outs))
       (let hc = h.calls in let kc = k.calls in let mc = m.calls in let mr = m.rise in
       lighter_then (less_frame {a = A} {a' = A'} {x = X} {x' = X'} (record { calls = omega (arith, hc, mc); rise = omega (arith, hc, kc, mr); level = h.level; next_level = k.level; shut = h.shut; next_shut = k.shut }) _ _)
-      (lighter_body (lighter_alone I I' (body (argument_names inner) (types_of_arguments inner) I.outs) (body (argument_names inner) (types_of_arguments inner) I'.outs)
-      (plain_all (fun_at funs) inner (types_of_arguments args) (value_at eps_emp (argument_names args) A.outs) p)) X X')))))
+      (lighter_body (lighter_alone I I' (first I.outs) (first I'.outs) (plain_all (fun_at funs) inner (types_of_arguments args) (value_at eps_emp (argument_names args) A.outs) p)) X X'))

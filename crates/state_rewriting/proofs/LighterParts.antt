@@ -4,7 +4,7 @@
 -- A state is looked at on one input and on a longer one at once. On both the lighter one gives the same, and
 -- makes no call at a greater level; on the first it makes no more calls, and from the one to the other its
 -- calls rise no more. So it makes no more calls on the longer one too.
-use Rattle.std.proofs.Common.{◌≡◌, ◌∙◌, ◌≤◌, ◌+◌, ℕ, Bool, true, false, ◌&&◌, ◌||◌, List, [], ◌∷◌, ap, refl, subst, sym, arith}
+use Rattle.std.proofs.Common.{◌≡◌, ◌∙◌, ◌≤◌, ◌+◌, ℕ, Bool, true, false, ◌&&◌, ◌||◌, List, [], ◌∷◌, ap, ap₂, refl, subst, sym, arith}
 use Rattle.std.specs.List.{All}
 use Rattle.stream_type.specs.StreamType.{StreamType, cat, par}
 use Rattle.stream_prefix.specs.StreamPrefix.{StreamPrefix, eps_emp, par_both, is_maximal, IsPart}
@@ -54,6 +54,13 @@ pub record LighterAll (a a' x x' : Runs) : Type 0 where
   pub outs : a.outs ≡ x.outs
   pub next : a'.outs ≡ x'.outs
   pub costs : CostLess a a' x x'
+
+-- equal runs are as light, and as heavy
+pub lighter_to : {v w : Bool} {a a' x x' y y' : Run} → x ≡ y → x' ≡ y' → Lighter v w a a' x x' → Lighter v w a a' y y'
+lighter_to {v = v} {w = w} {a = a} {a' = a'} {x = x} {y' = y'} e e' h = subst (λ q. Lighter v w a a' q y') e (subst (λ q. Lighter v w a a' x q) e' h)
+
+pub lighter_from : {v w : Bool} {a a' b b' x x' : Run} → a ≡ b → a' ≡ b' → Lighter v w a a' x x' → Lighter v w b b' x x'
+lighter_from {v = v} {w = w} {a = a} {b' = b'} {x = x} {x' = x'} e e' h = subst (λ q. Lighter v w q b' x x') e (subst (λ q. Lighter v w a q x x') e' h)
 
 -- what gives the same is whole where the other is
 still_shut : (v : Bool) (p q : StreamPrefix) → p ≡ q → (v || is_maximal p) ≡ true → (v || is_maximal q) ≡ true
@@ -140,8 +147,7 @@ lighter_cat_at c c' {a = a} {a' = a'} {x = x} {x' = x'} h b b' =
 -- both first parts are whole or neither is
 lighter_cat : {v w : Bool} {a a' x x' : Run} → Lighter v w a a' x x' → (b b' : Run) → Lighter false false (cat_run a b) (cat_run a' b') (cat_run x b) (cat_run x' b')
 lighter_cat {a = a} {a' = a'} {x = x} {x' = x'} h b b' =
-    subst (λ p. Lighter false false (cat_run a b) (cat_run a' b') (cat_run_at (is_maximal p) x b) (cat_run x' b')) h.out
-    (subst (λ p. Lighter false false (cat_run a b) (cat_run a' b') (cat_run_at (is_maximal a.out) x b) (cat_run_at (is_maximal p) x' b')) h.next (lighter_cat_at (is_maximal a.out) (is_maximal a'.out) h b b'))
+    lighter_to (ap (λ p. cat_run_at (is_maximal p) x b) h.out) (ap (λ p. cat_run_at (is_maximal p) x' b') h.next) (lighter_cat_at (is_maximal a.out) (is_maximal a'.out) h b b')
 
 -- as parts of other states they are no names, and what they give decides
 pub lighter_inside : {v w : Bool} {a a' x x' : Run} → Lighter v w a a' x x' → Lighter false false a a' x x'
@@ -190,8 +196,7 @@ less_frame {a = a} {a' = a'} {x = x} {x' = x'} h b b' =
 -- so do lighter arguments
 lighter_arguments : {a a' x x' : Runs} → LighterAll a a' x x' → (b b' : List StreamPrefix → Run) → Lighter false false (frame_run a (b a.outs)) (frame_run a' (b' a'.outs)) (frame_run x (b x.outs)) (frame_run x' (b' x'.outs))
 lighter_arguments {a = a} {a' = a'} {x = x} {x' = x'} h b b' =
-    subst (λ q. Lighter false false (frame_run a (b a.outs)) (frame_run a' (b' a'.outs)) (frame_run x q) (frame_run x' (b' x'.outs))) (ap b h.outs)
-    (subst (λ q. Lighter false false (frame_run a (b a.outs)) (frame_run a' (b' a'.outs)) (frame_run x (b a.outs)) (frame_run x' q)) (ap b' h.next) (less_frame h.costs (b a.outs) (b' a'.outs)))
+    lighter_to (ap (λ os. frame_run x (b os)) h.outs) (ap (λ os. frame_run x' (b' os)) h.next) (less_frame h.costs (b a.outs) (b' a'.outs))
 
 -- and so does a lighter body
 pub lighter_body : {v w : Bool} {a a' x x' : Run} → Lighter v w a a' x x' → (b b' : Runs) → Lighter false false (frame_run b a) (frame_run b' a') (frame_run b x) (frame_run b' x')
@@ -216,9 +221,8 @@ alone v a = record { outs = a.out ∷ []; calls = a.calls; level = a.level; are_
 -- so a lighter bound part makes a lighter let,
 lighter_bound : {v w : Bool} {a a' x x' : Run} → Lighter v w a a' x x' → (b b' : StreamPrefix → Run) → Lighter false false (let_run v a (b a.out)) (let_run v a' (b' a'.out)) (let_run w x (b x.out)) (let_run w x' (b' x'.out))
 lighter_bound {v = v} {w = w} {a = a} {a' = a'} {x = x} {x' = x'} h b b' =
-    subst (λ q. Lighter false false (let_run v a (b a.out)) (let_run v a' (b' a'.out)) (let_run w x q) (let_run w x' (b' x'.out))) (ap b h.out)
-    (subst (λ q. Lighter false false (let_run v a (b a.out)) (let_run v a' (b' a'.out)) (let_run w x (b a.out)) (let_run w x' q)) (ap b' h.next)
-    (less_frame {a = alone v a} {a' = alone v a'} {x = alone w x} {x' = alone w x'} (record { calls = h.calls; rise = h.rise; level = h.level; next_level = h.next_level; shut = h.shut; next_shut = h.next_shut }) (b a.out) (b' a'.out)))
+    lighter_to (ap (λ p. let_run w x (b p)) h.out) (ap (λ p. let_run w x' (b' p)) h.next)
+    (less_frame {a = alone v a} {a' = alone v a'} {x = alone w x} {x' = alone w x'} (record { calls = h.calls; rise = h.rise; level = h.level; next_level = h.next_level; shut = h.shut; next_shut = h.next_shut }) (b a.out) (b' a'.out))
 
 -- and so does a lighter body
 pub lighter_let : {v w : Bool} {a a' x x' : Run} → Lighter v w a a' x x' → (u : Bool) (b b' : Run) → Lighter false false (let_run u b a) (let_run u b' a') (let_run u b x) (let_run u b' x')
@@ -329,14 +333,10 @@ module _ {funs : List CoreBody} (typed : All (IsTypedBody funs) funs) {names : L
         (q.known_put _ y _ (q.known_put d x _ k nx) ny) (q.known_put _ y _ (q.known_put e x _ k' nx) ny))
     lightens (in_arguments {r = r} {args = args} {others = others} {a = a} h) c T w t d e s g k k' =
         let i = lighten_arguments h c T w t.0 d e s g k k' in
-        let A = run_arguments (fun_at funs) args T d in
-        let A' = run_arguments (fun_at funs) args T e in
-        let X = run_arguments (fun_at funs) others T d in
-        let X' = run_arguments (fun_at funs) others T e in
-        let b : List StreamPrefix → Run = λ os. run_state (fun_at funs) a (types_of_arguments args) r (value_at eps_emp (argument_names args) os) in
-        subst (λ U. Lighter false false (frame_run A (b A.outs)) (frame_run A' (b A'.outs)) (frame_run X (run_state (fun_at funs) a U r (value_at eps_emp (argument_names others) X.outs))) (frame_run X' (run_state (fun_at funs) a U r (value_at eps_emp (argument_names others) X'.outs)))) (replaced_types h)
-        (subst (λ ns. Lighter false false (frame_run A (b A.outs)) (frame_run A' (b A'.outs)) (frame_run X (run_state (fun_at funs) a (types_of_arguments args) r (value_at eps_emp ns X.outs))) (frame_run X' (run_state (fun_at funs) a (types_of_arguments args) r (value_at eps_emp ns X'.outs)))) (replaced_names h)
-        (lighter_arguments i b b))
+        let body : List ℕ → NameTypes → List StreamPrefix → Run = λ ns U os. run_state (fun_at funs) a U r (value_at eps_emp ns os) in
+        let same : (X : Runs) → frame_run X (body (argument_names args) (types_of_arguments args) X.outs) ≡ frame_run X (body (argument_names others) (types_of_arguments others) X.outs)
+        = λ X. ap₂ (λ ns U. frame_run X (body ns U X.outs)) (replaced_names h) (replaced_types h) in
+        lighter_to (same (run_arguments (fun_at funs) others T d)) (same (run_arguments (fun_at funs) others T e)) (lighter_arguments i (body (argument_names args) (types_of_arguments args)) (body (argument_names args) (types_of_arguments args)))
     lightens (in_body {r = r} {args = args} {a = a} {b = b} none h) c T w t d e s g k k' =
         let i = arguments_run_grow funs typed args c T w t.0 d e s g in
         lighter_body (lightens h (context_of_arguments c args) (types_of_arguments args) (arguments_extend c args) t.1 _ _ i.streams i.continues (q.known_any _ none) (q.known_any _ none)) (run_arguments (fun_at funs) args T d) (run_arguments (fun_at funs) args T e)
