@@ -4,16 +4,17 @@ use Rattle.std.proofs.lemmas.List.Elements.{All-nil, All-cons}
 use Rattle.stream_type.specs.StreamType.{eps, one, int, cat, par, sum}
 use Rattle.stream_prefix.specs.StreamPrefix.{StreamPrefix, eps_emp, one_emp, one_full, int_emp, int_full, par_both, cat_fst, cat_both, sum_emp, in_left, IsPrefix, der, join}
 use Rattle.bunch.specs.BunchTree.{BunchTree, leaf, comma, semi, stands_before}
+use Rattle.bunch.specs.Facts.{place_let}
 use Rattle.hist_value.specs.HistType.{past}
-use Rattle.hist_value.specs.HistValue.{HasType as HasValueType}
+use Rattle.hist_value.specs.HistValue.{number, HasType as HasValueType}
 use Rattle.core_term.specs.CoreTerm.{CoreProgram, var_term, par_term, cat_term, case_sum_term}
-use Rattle.std.specs.Prelude.{Some}
+use Rattle.std.specs.Prelude.{Some, None, if◌then◌else◌}
 use Rattle.std.specs.List.{All}
 use Rattle.core_term.specs.Inert.{is_inert_fun}
-use Rattle.core_term.specs.Typing.{Context, HasType, with_name_like}
+use Rattle.core_term.specs.Typing.{Context, HasType, with_name, with_name_like}
 use Rattle.core_term.specs.Meaning.{mean, calls_of, level_of, horizon}
 use Rattle.delta_state.specs.StateTree.{StateTree, LaterTree, HeldName, var_state, par_state, cat_state, sum_state, let_state, free_in_sum}
-use Rattle.delta_state.specs.StateTyping.{HasStateType, IsHeld, IsTypedLater, context_held}
+use Rattle.delta_state.specs.StateTyping.{HasStateType, IsHeld, IsTypedLater, context_held, no_pasts}
 use Rattle.delta_state.specs.Settled.{is_settled}
 use Rattle.delta_state.specs.PlaceTree.{place_at}
 use Rattle.delta_state.specs.PlainState.{without_marks, events_held, state_count}
@@ -67,7 +68,7 @@ swap_stands n = record {
 }
 
 -- `main(z : 1 + 1, x : Int) : Int = case z of { inl u => x | inr v => x }`, z being 0, x 1, u 2 and v 3
-abbrev choose : CoreProgram
+abbrev pub choose : CoreProgram
 choose = record {
   funs = [];
   main = record { past = []; params = comma (leaf 0 (sum one one)) (leaf 1 int); result = int; body = case_sum_term 0 int 2 (var_term 1) 3 (var_term 1) };
@@ -75,10 +76,10 @@ choose = record {
 }
 
 -- the number has come before the side
-abbrev number_came : StreamPrefix
+abbrev pub number_came : StreamPrefix
 number_came = par_both sum_emp (int_full (pos 4))
 
-abbrev branch : LaterTree
+abbrev pub branch : LaterTree
 branch = record { term = var_term 1; past = []; depth = horizon }
 
 -- the case holds it
@@ -94,7 +95,7 @@ choose_held_names = held_side ∷ held_number ∷ []
 of_both : (P : HeldName → Type 0) → P held_side → P held_number → All P choose_held_names
 of_both P a b = All-cons P held_side (held_number ∷ []) a (All-cons P held_number [] b (All-nil P))
 
-abbrev choose_state : StateTree
+abbrev pub choose_state : StateTree
 choose_state = sum_state 0 int choose_held_names 2 branch 3 branch
 
 choose_first : next_state choose (par_both sum_emp int_emp) (first_state choose) number_came ≡ choose_state
@@ -146,7 +147,7 @@ choose_counts : state_count (without_marks choose_state) ≡ 3
 choose_counts = refl
 
 -- once the side comes, the state gives the number that it held, as the program does
-abbrev side_came : StreamPrefix
+abbrev pub side_came : StreamPrefix
 side_came = par_both (in_left one_emp) eps_emp
 
 choose_gives : rest_mean choose number_came choose_state side_came ≡ int_full (pos 4)
@@ -158,6 +159,45 @@ choose_means = refl
 -- what is left then: the name of the side, and the rest of x
 choose_next : next_state choose number_came choose_state side_came ≡ let_state 2 one (var_state 0) (var_state 1)
 choose_next = refl
+
+-- beside a value of x, the code `let x = y in case z of { inl u => x | inr v => x }`, y being 4, leaves a let of x
+-- round the case while the side hasn't come; x is the let's in both branches, though they still have its value
+abbrev valued_branch : LaterTree
+valued_branch = record { term = var_term 1; past = record { name = 1; type = int; value = number (pos 7) } ∷ []; depth = horizon }
+
+abbrev held_nothing : List HeldName
+held_nothing = held_side ∷ (record { name = 1; type = int; prefix = int_emp } ∷ [])
+
+abbrev shown_context : Context
+shown_context = record { types = λ x. if x == 0 then Some (sum one one) else (if x == 4 then Some int else None); order = λ x y. false; past = no_pasts }
+
+shown_held : IsHeld (with_name 1 int (place_let 1 (4 ∷ []) true (λ x y. false)) shown_context) (free_in_sum 0 2 valued_branch 3 valued_branch) held_nothing
+shown_held = record {
+  are_prefixes = both (λ h. IsPrefix h.type h.prefix) tt tt;
+  are_left = both (λ h. (with_name 1 int (place_let 1 (4 ∷ []) true (λ x y. false)) shown_context).types h.name ≡ Some (der h.prefix h.type)) refl refl;
+  are_free = λ x. held_or_free (x == 0) (x == 1);
+  are_once = refl;
+}
+  where
+    both : (P : HeldName → Type 0) → P held_side → P (record { name = 1; type = int; prefix = int_emp }) → All P held_nothing
+    both P a b = All-cons P held_side (record { name = 1; type = int; prefix = int_emp } ∷ []) a (All-cons P (record { name = 1; type = int; prefix = int_emp }) [] b (All-nil P))
+
+shown_again : HasStateType [] (is_inert_fun []) shown_context (let_state 1 int (var_state 4) (sum_state 0 int held_nothing 2 valued_branch 3 valued_branch)) int
+shown_again = (
+  refl,
+  (
+    refl,
+    shown_held,
+    record {
+      subject_typed = refl;
+      left_typed = record { has_values = value; has_type = refl; binds_apart = tt };
+      right_typed = record { has_values = value; has_type = refl; binds_apart = tt };
+    },
+  ),
+)
+  where
+    value : All (λ e. HasValueType (past e.type) e.value) valued_branch.past
+    value = All-cons (λ e. HasValueType (past e.type) e.value) (record { name = 1; type = int; value = number (pos 7) }) [] tt (All-nil (λ e. HasValueType (past e.type) e.value))
 
 -- a state that holds the side isn't settled
 side_held : is_settled (sum_state 0 int (record { name = 0; type = sum one one; prefix = in_left one_emp } ∷ record { name = 1; type = int; prefix = int_full (pos 4) } ∷ []) 2 branch 3 branch) int ≡ false

@@ -1,5 +1,5 @@
 pub mod Counts
-mod Examples
+pub mod Examples
 pub mod FinishedStates
 pub mod GrowingStates
 pub mod HeldNames
