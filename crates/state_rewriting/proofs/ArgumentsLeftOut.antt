@@ -15,16 +15,16 @@ use Rattle.core_term.proofs.Sides.{and_first, and_second, holds-left, holds-righ
 use Rattle.core_term.proofs.TypedTerms.{Extends}
 use Rattle.core_term.proofs.GrowingRuns.{Streams, Continues}
 use Rattle.core_term.proofs.FreeRuns.{Alike}
+use Rattle.core_term.proofs.Retyping.{Among}
 use Rattle.delta_state.specs.StateTree.{StateTree, ArgumentTrees, frame_state, no_arguments, argument_before, is_var_state, argument_names, argument_at, free_in_state, free_in_arguments}
 use Rattle.delta_state.specs.StateMeaning.{types_of_arguments, run_state, run_arguments}
 use Rattle.delta_state.specs.StateTyping.{HasStateType, HaveArgumentTypes, marks_of_arguments, facts_of_arguments, context_of_arguments, no_pasts}
 use Rattle.delta_state.specs.Settled.{is_settled, are_settled}
 use Rattle.delta_state.proofs.GrowingStates.{state_run_grows}
-use Rattle.state_rewriting.specs.Rewriting.{without_argument}
-use Rattle.core_term.proofs.Retyping.{Among}
 use Rattle.state_steps.proofs.Seeing.{Sees}
 use Rattle.state_steps.proofs.NarrowedStates.{narrow_state}
 use Rattle.state_steps.proofs.FreeStateRuns.{state_same}
+use Rattle.state_rewriting.specs.Rewriting.{without_argument}
 use Rattle.state_rewriting.proofs.OtherNames.{apart_from}
 use Rattle.state_rewriting.proofs.FittingParts.{served_fewer, Fits}
 use Rattle.state_rewriting.proofs.LighterParts.{lighter_to, CostLess, LighterState, less_frame, less_behind}

@@ -19,12 +19,12 @@ use Rattle.core_term.proofs.Sides.{and_first, and_second, or_second, put-same}
 use Rattle.core_term.proofs.Without.{holds-without}
 use Rattle.core_term.proofs.TypedTerms.{Extends}
 use Rattle.core_term.proofs.GrowingRuns.{Streams, Continues}
+use Rattle.core_term.proofs.Retyping.{among_same}
 use Rattle.delta_state.specs.StateTree.{StateTree, sink, var_state, let_state, let_par_state, let_cat_state, is_var_state, free_in_state}
 use Rattle.delta_state.specs.StateMeaning.{run_state}
 use Rattle.delta_state.specs.StateTyping.{HasStateType, no_pasts}
 use Rattle.delta_state.specs.Settled.{is_settled}
 use Rattle.delta_state.proofs.GrowingStates.{state_run_grows}
-use Rattle.core_term.proofs.Retyping.{among_same}
 use Rattle.state_steps.proofs.NamesAmong.{among_nothing, among_left, among_right}
 use Rattle.state_steps.proofs.NarrowedStates.{narrow_state}
 use Rattle.state_steps.proofs.FreeStateRuns.{state_same}

@@ -8,24 +8,33 @@ use Rattle.delta_state.proofs.WholeStates.{all_left, all_right}
 use Rattle.state_rewriting.specs.Rewriting.{Replaced, ReplacedArgument, here, in_left, in_right, in_first, in_bound, in_let, in_let_par, in_let_cat, in_arguments, in_body, at_first, at_other, IsAlias, IsPair, alias_for, pair_for, are_plain, composed, without_argument, Rewritten, finished, unused, unused_pair, unused_row, unused_argument, alias, pair, renamed, frames}
 
 module _ (P : LaterTree → Type 0) where
+  -- of two lists in a row the first may give way to another one,
+  keep_left : (xs zs ys : List LaterTree) → (All P xs → All P zs) → All P (xs ++ ys) → All P (zs ++ ys)
+  keep_left xs zs ys f k = All-append P zs ys (f (all_left P xs ys k)) (all_right P xs ys k)
+
+  -- and so may the second
+  keep_right : (xs ys zs : List LaterTree) → (All P ys → All P zs) → All P (xs ++ ys) → All P (xs ++ zs)
+  keep_right xs ys zs f k = All-append P xs zs (all_left P xs ys k) (f (all_right P xs ys k))
+
   module _ (names : List ℕ) (R : StreamType → StateTree → StateTree → Type 0) (local : (r : StreamType) (a b : StateTree) → R r a b → All P (laters_of a) → All P (laters_of b)) where
     mutual
       -- the whole has no other code if a part has none once it is replaced
       pub replaced_laters : {r : StreamType} {a b : StateTree} → Replaced names R r a b → All P (laters_of a) → All P (laters_of b)
       replaced_laters (here {r = r} {a = a} {b = b} h) k = local r a b h k
-      replaced_laters (in_left {a = a} {b = b} {e = e} h) k = All-append P (laters_of b) (laters_of e) (replaced_laters h (all_left P (laters_of a) (laters_of e) k)) (all_right P (laters_of a) (laters_of e) k)
-      replaced_laters (in_right {a = a} {b = b} {e = e} h) k = All-append P (laters_of e) (laters_of b) (all_left P (laters_of e) (laters_of a) k) (replaced_laters h (all_right P (laters_of e) (laters_of a) k))
-      replaced_laters (in_first {a = a} {b = b} {l = l} h) k = All-append P (laters_of b) (l ∷ []) (replaced_laters h (all_left P (laters_of a) (l ∷ []) k)) (all_right P (laters_of a) (l ∷ []) k)
-      replaced_laters (in_bound {a = a} {b = b} {e = e} h) k = All-append P (laters_of b) (laters_of e) (replaced_laters h (all_left P (laters_of a) (laters_of e) k)) (all_right P (laters_of a) (laters_of e) k)
-      replaced_laters (in_let {a = a} {b = b} {e = e} n h) k = All-append P (laters_of e) (laters_of b) (all_left P (laters_of e) (laters_of a) k) (replaced_laters h (all_right P (laters_of e) (laters_of a) k))
+      replaced_laters (in_left {a = a} {b = b} {e = e} h) k = keep_left (laters_of a) (laters_of b) (laters_of e) (replaced_laters h) k
+      replaced_laters (in_right {a = a} {b = b} {e = e} h) k = keep_right (laters_of e) (laters_of a) (laters_of b) (replaced_laters h) k
+      replaced_laters (in_first {a = a} {b = b} {l = l} h) k = keep_left (laters_of a) (laters_of b) (l ∷ []) (replaced_laters h) k
+      replaced_laters (in_bound {a = a} {b = b} {e = e} h) k = keep_left (laters_of a) (laters_of b) (laters_of e) (replaced_laters h) k
+      replaced_laters (in_let {a = a} {b = b} {e = e} n h) k = keep_right (laters_of e) (laters_of a) (laters_of b) (replaced_laters h) k
       replaced_laters (in_let_par n m o h) k = replaced_laters h k
       replaced_laters (in_let_cat n m o h) k = replaced_laters h k
-      replaced_laters (in_arguments {args = args} {others = others} {a = a} h) k = All-append P (laters_in others) (laters_of a) (replaced_laters_in h (all_left P (laters_in args) (laters_of a) k)) (all_right P (laters_in args) (laters_of a) k)
-      replaced_laters (in_body {args = args} {a = a} {b = b} n h) k = All-append P (laters_in args) (laters_of b) (all_left P (laters_in args) (laters_of a) k) (replaced_laters h (all_right P (laters_in args) (laters_of a) k))
+      replaced_laters (in_arguments {args = args} {others = others} {a = a} h) k = keep_left (laters_in args) (laters_in others) (laters_of a) (replaced_laters_in h) k
+      replaced_laters (in_body {args = args} {a = a} {b = b} n h) k = keep_right (laters_in args) (laters_of a) (laters_of b) (replaced_laters h) k
 
+      -- nor have arguments
       replaced_laters_in : {args others : ArgumentTrees} → ReplacedArgument names R args others → All P (laters_in args) → All P (laters_in others)
-      replaced_laters_in (at_first {a = a} {b = b} {args = args} h) k = All-append P (laters_of b) (laters_in args) (replaced_laters h (all_left P (laters_of a) (laters_in args) k)) (all_right P (laters_of a) (laters_in args) k)
-      replaced_laters_in (at_other {a = a} {args = args} {others = others} h) k = All-append P (laters_of a) (laters_in others) (all_left P (laters_of a) (laters_in args) k) (replaced_laters_in h (all_right P (laters_of a) (laters_in args) k))
+      replaced_laters_in (at_first {a = a} {b = b} {args = args} h) k = keep_left (laters_of a) (laters_of b) (laters_in args) (replaced_laters h) k
+      replaced_laters_in (at_other {a = a} {args = args} {others = others} h) k = keep_right (laters_of a) (laters_in args) (laters_in others) (replaced_laters_in h) k
 
   -- a name has no code,
   alias_laters : (y z : ℕ) (r : StreamType) (a b : StateTree) → IsAlias y z r a b → All P (laters_of a) → All P (laters_of b)
@@ -66,7 +75,7 @@ module _ (P : LaterTree → Type 0) where
   rewritten_laters r a b (unused {a = q} n) k = all_right P (laters_of q) (laters_of b) k
   rewritten_laters r a b (unused_pair n m) k = k
   rewritten_laters r a b (unused_row n m) k = k
-  rewritten_laters r a b (unused_argument {args = args} {a = q} u n) k = All-append P (laters_in (without_argument u args)) (laters_of q) (without_laters u args (all_left P (laters_in args) (laters_of q) k)) (all_right P (laters_in args) (laters_of q) k)
+  rewritten_laters r a b (unused_argument {args = args} {a = q} u n) k = keep_left (laters_in args) (laters_in (without_argument u args)) (laters_of q) (without_laters u args) k
   rewritten_laters r a b (alias {y = y} {z = z} h) k = replaced_laters (y ∷ z ∷ []) (IsAlias y z) (alias_laters y z) h k
   rewritten_laters r a b (pair {x = x} {y = y} {z = z} n m h) k = replaced_laters (x ∷ y ∷ z ∷ []) (IsPair x y z) (pair_laters x y z) h k
   rewritten_laters r a b renamed k = all_left P (laters_of b) [] k

@@ -20,16 +20,16 @@ use Rattle.core_term.specs.Typing.{Context, AllBefore, IsTypedBody}
 use Rattle.core_term.proofs.Sides.{and_first, and_second, or_split, holds-head, holds-split, eqb-same}
 use Rattle.core_term.proofs.TypedTerms.{Extends}
 use Rattle.core_term.proofs.GrowingRuns.{Streams, Continues}
+use Rattle.core_term.proofs.Retyping.{Among}
 use Rattle.delta_state.specs.StateTree.{StateTree, ArgumentTrees, sink, var_state, frame_state, no_arguments, argument_before, is_var_state, argument_names, argument_at, free_in_state, free_in_arguments}
 use Rattle.delta_state.specs.StateMeaning.{types_of_arguments, run_state, run_arguments}
 use Rattle.delta_state.specs.StateTyping.{HasStateType, HaveArgumentTypes, marks_of_arguments, context_of_arguments, no_pasts}
 use Rattle.delta_state.specs.Settled.{is_settled, are_settled}
 use Rattle.delta_state.proofs.GrowingStates.{state_run_grows}
-use Rattle.state_rewriting.specs.Rewriting.{is_plain, are_plain, names_passed, at_most_once, stand_once, passed_on, composed}
-use Rattle.core_term.proofs.Retyping.{Among}
 use Rattle.state_steps.proofs.Seeing.{Sees}
 use Rattle.state_steps.proofs.NamesAmong.{among_nothing, among_argument}
 use Rattle.state_steps.proofs.NarrowedStates.{narrow_state}
+use Rattle.state_rewriting.specs.Rewriting.{is_plain, are_plain, names_passed, at_most_once, stand_once, passed_on, composed}
 use Rattle.state_rewriting.proofs.FittingParts.{row_at, row_of, served_fewer, Fits}
 use Rattle.state_rewriting.proofs.LighterParts.{Lighter, lighter_to, LighterState, deeper_less, lighter_then, less_frame, lighter_body}
 use Rattle.state_rewriting.proofs.BindingsLeftOut.{NoOther}
