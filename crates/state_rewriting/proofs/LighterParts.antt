@@ -27,9 +27,9 @@ use Rattle.delta_state.proofs.GrowingStates.{state_run_grows, arguments_run_grow
 use Rattle.state_rewriting.specs.Rewriting.{Replaced, ReplacedArgument, here, in_left, in_right, in_first, in_bound, in_let, in_let_par, in_let_cat, in_arguments, in_body, at_first, at_other}
 use Rattle.state_rewriting.proofs.FittingParts.{par_form, cat_form}
 
--- runs a and a' of a state on an input and on a longer one, and x and x' of a lighter one; v and w say
--- whether the states are names. Then a call on what they give stands no deeper: it counts as made at its
--- caller's level where the state is a name or whole
+-- runs a and a' of a state on an input and on a longer one, and x and x' of a lighter one; v and w say whether
+-- the states are names. A body on a name, or on what is whole, stands no deeper than its caller: if that is so of
+-- the state, it is so of the lighter one
 pub record Lighter (v w : Bool) (a a' x x' : Run) : Type 0 where
   pub out : a.out ≡ x.out
   pub next : a'.out ≡ x'.out
@@ -55,10 +55,11 @@ pub record LighterAll (a a' x x' : Runs) : Type 0 where
   pub next : a'.outs ≡ x'.outs
   pub costs : CostLess a a' x x'
 
--- equal runs are as light, and as heavy
+-- a run may give way to an equal one, on the lighter side
 pub lighter_to : {v w : Bool} {a a' x x' y y' : Run} → x ≡ y → x' ≡ y' → Lighter v w a a' x x' → Lighter v w a a' y y'
 lighter_to {v = v} {w = w} {a = a} {a' = a'} {x = x} {y' = y'} e e' h = subst (λ q. Lighter v w a a' q y') e (subst (λ q. Lighter v w a a' x q) e' h)
 
+-- and on the other
 pub lighter_from : {v w : Bool} {a a' b b' x x' : Run} → a ≡ b → a' ≡ b' → Lighter v w a a' x x' → Lighter v w b b' x x'
 lighter_from {v = v} {w = w} {a = a} {b' = b'} {x = x} {x' = x'} e e' h = subst (λ q. Lighter v w q b' x x') e (subst (λ q. Lighter v w a q x x') e' h)
 
