@@ -38,73 +38,81 @@ use Rattle.delta_meaning.proofs.evaluation.+evaluate.Goals as goal
 
 pub evaluate-returns-in-Nil-clause-run : goal.evaluate-returns-in-Nil-clause-run
 evaluate-returns-in-Nil-clause-run t c =
-    rw c.in-Nil.is (c.quiet-in-Nil.ensures ∙ ap quiet (prefix_of-star c.new.result Done ∙ ap (λ (l : List Prefix). star_of (map prefix_of l) (end_of Done)) c.new.ensures.items))
+    let there : c.args.e.now.form.value ≡ c.deref.result.now = cc in
+    rw (there, c.in-Nil.is) (c.quiet-in-Nil.ensures ∙ ap quiet (prefix_of-star c.new.result Done ∙ ap (λ (l : List Prefix). star_of (map prefix_of l) (end_of Done)) c.new.ensures.items))
 
 pub evaluate-returns-in-CaseStar-clause-run : goal.evaluate-returns-in-CaseStar-clause-run
 evaluate-returns-in-CaseStar-clause-run t c =
+    let there : c.args.e.now.form.value ≡ c.deref.result.now = cc in
     let i = c.args.place.now in
     let s = c.args.scope.now in
     let e = c.args.e.now in
     let r = type_of c.args.ty.now in
     let h = head_of c.in-CaseStar.h in
     let a = head_run_at i s h in
-    let same : let_run (is_name_head h) a (run_after i s (expression_of e) r (head_type_at i s h) a.out) ≡ run_at i s (expression_of e) r = rw c.in-CaseStar.is refl in
+    let same : let_run (is_name_head h) a (run_after i s (expression_of e) r (head_type_at i s h) a.out) ≡ run_at i s (expression_of e) r = rw (there, c.in-CaseStar.is) refl in
     subst (λ (z : Run). IfOk c.evaluate_with_head-in-CaseStar.result (λ b. run_of b ≡ z)) same c.evaluate_with_head-in-CaseStar.ensures.run
 
 pub evaluate-returns-in-Wait-clause-run : goal.evaluate-returns-in-Wait-clause-run
 evaluate-returns-in-Wait-clause-run t c =
+    let there : c.args.e.now.form.value ≡ c.deref.result.now = cc in
     let e = c.args.e.now in
-    let there : c.in-Wait.e.value ≡ c.deref-in-Wait.result.now = cc in
-    let is : expression_of e ≡ wait_at e.at c.in-Wait.x.0 (expression_of c.deref-in-Wait.result.now) = ap (expression_form_of e.at) c.in-Wait.is ∙ ap (λ (q : Exp). wait_at e.at c.in-Wait.x.0 (expression_of q)) there in
+    let is : expression_of e ≡ wait_at e.at c.in-Wait.x.0 (expression_of c.in-Wait.e) = ap (expression_form_of e.at) (there ∙ c.in-Wait.is) in
     rw is (IfOk-weaker c.evaluate_wait.result _ _ (λ a h. h e.at) c.evaluate_wait.ensures.run)
 
 pub evaluate-returns-in-Wait-clause-spent : goal.evaluate-returns-in-Wait-clause-spent
 evaluate-returns-in-Wait-clause-spent t c =
+    let there : c.args.e.now.form.value ≡ c.deref.result.now = cc in
     let e = c.args.e.now in
-    let there : c.in-Wait.e.value ≡ c.deref-in-Wait.result.now = cc in
-    let is : expression_of e ≡ wait_at e.at c.in-Wait.x.0 (expression_of c.deref-in-Wait.result.now) = ap (expression_form_of e.at) c.in-Wait.is ∙ ap (λ (q : Exp). wait_at e.at c.in-Wait.x.0 (expression_of q)) there in
+    let is : expression_of e ≡ wait_at e.at c.in-Wait.x.0 (expression_of c.in-Wait.e) = ap (expression_form_of e.at) (there ∙ c.in-Wait.is) in
     rw is (MatchResult-weaker c.evaluate_wait.result c.evaluate_wait.ensures.spent (λ x u. u) (λ y h p. h p e.at))
 
 pub evaluate-evaluate_call-requires : goal.evaluate-evaluate_call-requires
 evaluate-evaluate_call-requires t c =
+    let there : c.args.e.now.form.value ≡ c.deref.result.now = cc in
     let e = c.args.e.now in
-    let is : expression_of e ≡ call_at e.at c.in-Call.f.0 (map hist_of c.in-Call.ms.items) (expressions_of c.in-Call.es.items) = ap (expression_form_of e.at) c.in-Call.is ∙ expression_form_of-call e.at c.in-Call.f c.in-Call.ms c.in-Call.es in
+    let is : expression_of e ≡ call_at e.at c.in-Call.f.0 (map hist_of c.in-Call.ms.items) (expressions_of c.in-Call.es.items) = ap (expression_form_of e.at) (there ∙ c.in-Call.is) ∙ expression_form_of-call e.at c.in-Call.f c.in-Call.ms c.in-Call.es in
     let heavy : weight (expression_of e) ≡ 4 + weight_of_all (expressions_of c.deref-in-Call-2.result.now) = ap weight is ∙ ap (λ (l : List Exp). 4 + weight_of_all (expressions_of l)) (sym c.deref-in-Call-2.ensures.value) in
     search rules
 
 pub evaluate-returns-in-Call-clause-run : goal.evaluate-returns-in-Call-clause-run
 evaluate-returns-in-Call-clause-run t c =
+    let there : c.args.e.now.form.value ≡ c.deref.result.now = cc in
     let e = c.args.e.now in
     let is : expression_of e ≡ call_at e.at c.in-Call.f.0 (map hist_of c.deref-in-Call.result.now) (expressions_of c.deref-in-Call-2.result.now) =
-    ap (expression_form_of e.at) c.in-Call.is ∙ (expression_form_of-call e.at c.in-Call.f c.in-Call.ms c.in-Call.es ∙ ap₂ (λ (m : List Hist) (l : List Exp). call_at e.at c.in-Call.f.0 (map hist_of m) (expressions_of l)) (sym c.deref-in-Call.ensures.value) (sym c.deref-in-Call-2.ensures.value)) in
+    ap (expression_form_of e.at) (there ∙ c.in-Call.is) ∙ (expression_form_of-call e.at c.in-Call.f c.in-Call.ms c.in-Call.es ∙ ap₂ (λ (m : List Hist) (l : List Exp). call_at e.at c.in-Call.f.0 (map hist_of m) (expressions_of l)) (sym c.deref-in-Call.ensures.value) (sym c.deref-in-Call-2.ensures.value)) in
     rw is (IfOk-weaker c.evaluate_call.result _ _ (λ a h. h e.at) c.evaluate_call.ensures.run)
 
 pub evaluate-returns-in-Call-clause-spent : goal.evaluate-returns-in-Call-clause-spent
 evaluate-returns-in-Call-clause-spent t c =
+    let there : c.args.e.now.form.value ≡ c.deref.result.now = cc in
     let e = c.args.e.now in
     let is : expression_of e ≡ call_at e.at c.in-Call.f.0 (map hist_of c.deref-in-Call.result.now) (expressions_of c.deref-in-Call-2.result.now) =
-    ap (expression_form_of e.at) c.in-Call.is ∙ (expression_form_of-call e.at c.in-Call.f c.in-Call.ms c.in-Call.es ∙ ap₂ (λ (m : List Hist) (l : List Exp). call_at e.at c.in-Call.f.0 (map hist_of m) (expressions_of l)) (sym c.deref-in-Call.ensures.value) (sym c.deref-in-Call-2.ensures.value)) in
+    ap (expression_form_of e.at) (there ∙ c.in-Call.is) ∙ (expression_form_of-call e.at c.in-Call.f c.in-Call.ms c.in-Call.es ∙ ap₂ (λ (m : List Hist) (l : List Exp). call_at e.at c.in-Call.f.0 (map hist_of m) (expressions_of l)) (sym c.deref-in-Call.ensures.value) (sym c.deref-in-Call-2.ensures.value)) in
     rw is (MatchResult-weaker c.evaluate_call.result c.evaluate_call.ensures.spent (λ x u. u) (λ y h p. h p e.at))
 
 pub evaluate_head-evaluate_call-requires : goal.evaluate_head-evaluate_call-requires
 evaluate_head-evaluate_call-requires t c =
+    let there : c.args.h.now.form.value ≡ c.deref.result.now = cc in
     let h = c.args.h.now in
-    let is : head_of h ≡ call_head h.at c.in-Call.f.0 (map hist_of c.in-Call.ms.items) (expressions_of c.in-Call.es.items) = ap (head_form_of h.at) c.in-Call.is ∙ head_form_of-call h.at c.in-Call.f c.in-Call.ms c.in-Call.es in
-    let heavy : weight_of_head (head_of h) ≡ 4 + weight_of_all (expressions_of c.deref-in-Call.result.now) = ap weight_of_head is ∙ ap (λ (l : List Exp). 4 + weight_of_all (expressions_of l)) (sym c.deref-in-Call.ensures.value) in
+    let is : head_of h ≡ call_head h.at c.in-Call.f.0 (map hist_of c.in-Call.ms.items) (expressions_of c.in-Call.es.items) = ap (head_form_of h.at) (there ∙ c.in-Call.is) ∙ head_form_of-call h.at c.in-Call.f c.in-Call.ms c.in-Call.es in
+    let heavy : weight_of_head (head_of h) ≡ 4 + weight_of_all (expressions_of c.deref-in-Call-2.result.now) = ap weight_of_head is ∙ ap (λ (l : List Exp). 4 + weight_of_all (expressions_of l)) (sym c.deref-in-Call-2.ensures.value) in
     search rules
 
 pub evaluate_head-returns-in-Call-clause-run : goal.evaluate_head-returns-in-Call-clause-run
 evaluate_head-returns-in-Call-clause-run t c =
+    let there : c.args.h.now.form.value ≡ c.deref.result.now = cc in
     let h = c.args.h.now in
-    let is : head_of h ≡ call_head h.at c.in-Call.f.0 (map hist_of c.deref.result.now) (expressions_of c.deref-in-Call.result.now) =
-    ap (head_form_of h.at) c.in-Call.is ∙ (head_form_of-call h.at c.in-Call.f c.in-Call.ms c.in-Call.es ∙ ap₂ (λ (m : List Hist) (l : List Exp). call_head h.at c.in-Call.f.0 (map hist_of m) (expressions_of l)) (sym c.deref.ensures.value) (sym c.deref-in-Call.ensures.value)) in
+    let is : head_of h ≡ call_head h.at c.in-Call.f.0 (map hist_of c.deref-in-Call.result.now) (expressions_of c.deref-in-Call-2.result.now) =
+    ap (head_form_of h.at) (there ∙ c.in-Call.is) ∙ (head_form_of-call h.at c.in-Call.f c.in-Call.ms c.in-Call.es ∙ ap₂ (λ (m : List Hist) (l : List Exp). call_head h.at c.in-Call.f.0 (map hist_of m) (expressions_of l)) (sym c.deref-in-Call.ensures.value) (sym c.deref-in-Call-2.ensures.value)) in
     rw is (IfOk-weaker c.evaluate_call.result _ _ (λ a k. k h.at) c.evaluate_call.ensures.run)
 
 pub evaluate_head-returns-in-Call-clause-spent : goal.evaluate_head-returns-in-Call-clause-spent
 evaluate_head-returns-in-Call-clause-spent t c =
+    let there : c.args.h.now.form.value ≡ c.deref.result.now = cc in
     let h = c.args.h.now in
-    let is : head_of h ≡ call_head h.at c.in-Call.f.0 (map hist_of c.deref.result.now) (expressions_of c.deref-in-Call.result.now) =
-    ap (head_form_of h.at) c.in-Call.is ∙ (head_form_of-call h.at c.in-Call.f c.in-Call.ms c.in-Call.es ∙ ap₂ (λ (m : List Hist) (l : List Exp). call_head h.at c.in-Call.f.0 (map hist_of m) (expressions_of l)) (sym c.deref.ensures.value) (sym c.deref-in-Call.ensures.value)) in
+    let is : head_of h ≡ call_head h.at c.in-Call.f.0 (map hist_of c.deref-in-Call.result.now) (expressions_of c.deref-in-Call-2.result.now) =
+    ap (head_form_of h.at) (there ∙ c.in-Call.is) ∙ (head_form_of-call h.at c.in-Call.f c.in-Call.ms c.in-Call.es ∙ ap₂ (λ (m : List Hist) (l : List Exp). call_head h.at c.in-Call.f.0 (map hist_of m) (expressions_of l)) (sym c.deref-in-Call.ensures.value) (sym c.deref-in-Call-2.ensures.value)) in
     rw is (MatchResult-weaker c.evaluate_call.result c.evaluate_call.ensures.spent (λ x u. u) (λ y k p. k p h.at))
 
 pub evaluate_body-returns-clause-run : goal.evaluate_body-returns-clause-run
