@@ -1,6 +1,6 @@
 -- The run of the main program, in a scope of its parameters.
 use mathlib.Core.Path.{fun_ext}
-use Rattle.std.proofs.Common.{◌≡◌, ℕ, List, [], map, refl, sym, ap, ◌∙◌}
+use Rattle.std.proofs.Common.{◌≡◌, ℕ, List, [], refl, ap, ◌∙◌}
 use Rattle.stream_type.specs.StreamType.{StreamType, eps}
 use Rattle.stream_prefix.specs.StreamPrefix.{StreamPrefix, eps_emp}
 use Rattle.bunch.specs.Names.{value_at}
@@ -11,7 +11,7 @@ use Rattle.core_term.specs.CoreTerm.{leaf_types}
 use Rattle.core_term.specs.Environment.{Environment, NameTypes}
 use Rattle.core_term.specs.Agreement.{types_in}
 use Rattle.core_term.specs.Split.{split}
-use Rattle.core_term.specs.Meaning.{Past, no_past}
+use Rattle.core_term.specs.Meaning.{no_past}
 use Rattle.core_term.specs.Run.{Run}
 use Rattle.core_term.proofs.Parameters.{value_at-leaf_types}
 use Rattle.delta_meaning.specs.TypeNames.{TypeNames}

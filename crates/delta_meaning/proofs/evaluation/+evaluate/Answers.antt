@@ -1,17 +1,14 @@
 -- What a call, a wait, a case on a star and a body are, by the form of their tree.
-use Rattle.std.proofs.Common.{◌≡◌, ℕ, ◌+◌, ◌-◌, ◌<◌, List, map, IfOk, IfErr, refl, sym, ap, ap₂, ◌∙◌, subst, arith, rules}
+use Rattle.std.proofs.Common.{◌≡◌, ◌+◌, ◌-◌, ◌<◌, List, map, IfOk, IfErr, refl, sym, ap, ap₂, ◌∙◌, subst, arith, rules}
 use Rattle.std.proofs.lemmas.Result.{IfOk-weaker, MatchResult-weaker, err_from_is_err_and}
 use Rattle.stream_type.specs.StreamType.{type_of}
-use Rattle.stream_prefix.specs.declared.prefix.Prefix.{Prefix}
-use Rattle.stream_prefix.specs.declared.prefix.StarEnd.TheVariants.{Done}
-use Rattle.stream_prefix.specs.Tree.{prefix_of, star_of, end_of}
-use Rattle.stream_prefix.proofs.Rows.{prefix_of-star}
+use Rattle.stream_prefix.specs.Tree.{prefix_of}
 use Rattle.delta_tree.specs.declared.expressions.Exp.{Exp}
 use Rattle.delta_tree.specs.declared.expressions.Hist.{Hist}
-use Rattle.delta_tree.specs.SyntaxTree.{Expression, Head, wait_at, call_at, call_head}
+use Rattle.delta_tree.specs.SyntaxTree.{wait_at, call_at, call_head}
 use Rattle.delta_tree.specs.Tree.{expression_of, expressions_of, expression_form_of, head_of, head_form_of, hist_of}
 use Rattle.delta_tree.proofs.Rows.{expression_form_of-call, head_form_of-call}
-use Rattle.core_term.specs.Run.{Run, quiet, let_run}
+use Rattle.core_term.specs.Run.{Run, let_run}
 use Rattle.delta_meaning.specs.declared.refusal.Stop.TheVariants.{Spent}
 use Rattle.delta_meaning.specs.SourceMeaning.{is_name_head}
 use Rattle.delta_meaning.specs.Evaluated.{run_of}
