@@ -30,7 +30,7 @@ fn has_sample_type(alloc: Global, bunch: &Bunch) -> Result<bool, Memory> {
 // Whether the names of a bunch are 0, 1 and 2.
 fn has_sample_names(alloc: Global, bunch: &Bunch) -> Result<bool, Memory> {
     let found = names(alloc, bunch)?;
-    Ok(matches!(found.as_slice(), [Name(0), Name(1), Name(2)]))
+    Ok(found.as_slice() == [Name(0), Name(1), Name(2)].as_slice())
 }
 
 // Whether a copy of the sample has its type, its names and its order.
