@@ -1,8 +1,8 @@
 //! What states hold, and how large they are.
 
-use crate::{Argument, Held, Later, State, count_states, held_events};
 use bunch::Name;
 use core_term::{Node, Term};
+use delta_state::{Argument, Held, Later, State, count_states, held_events};
 use std::alloc::Global;
 use std::test::Fail;
 use stream_prefix::{Prefix, StarEnd};
@@ -37,44 +37,48 @@ fn held(alloc: Global) -> Result<Held, Memory> {
 
 // A case on the name 0 that holds these.
 fn case(alloc: Global) -> Result<State, Memory> {
-    let (left, right) = (later(alloc, 1), later(alloc, 2));
     let held = held(alloc)?;
+    let (left, right) = (later(alloc, 1), later(alloc, 2));
     Ok(State::CaseSum(Name(0), Ty::Int, held, Name(3), left, Name(4), right))
 }
 
-// How many events a state holds, and of how many states it is.
-fn counts(state: State) -> (u64, u64) {
-    let events = held_events(&state);
-    let states = count_states(&state);
-    drop(state);
-    (events, states)
+// Whether a state holds so many events, and is of so many states.
+fn has(state: &State, events: u64, states: u64) -> bool {
+    held_events(state) == events && count_states(state) == states
+}
+
+fn case_has(alloc: Global, events: u64, states: u64) -> Result<bool, Memory> {
+    let state = case(alloc)?;
+    Ok(has(&state, events, states))
 }
 
 #[test]
 fn a_case_holds_what_came(rt: HostRuntime) -> Result<(), Fail> {
-    let (events, states) = counts(case(rt.alloc())?);
     // Two events on 1; on 2 Item, the number and Cut for each item, and Item for the third.
-    assert_eq!(rt; events, 9);
-    assert_eq!(rt; states, 3);
+    assert!(rt; case_has(rt.alloc(), 9, 3)?);
     Ok(())
 }
 
 // `0 . 0` in a called body, whose one argument is a case.
 fn frame(alloc: Global) -> Result<State, Memory> {
-    let mut arguments = Vec::new(alloc);
-    arguments.push(Argument {
-        name: Name(0),
-        state: case(alloc)?,
-    })?;
     let first = Box::new(alloc, State::Var(Name(0)))?;
     let body = Box::new(alloc, State::Cat(first, later(alloc, 0)))?;
+    let mut arguments = Vec::new(alloc);
+    let state = case(alloc)?;
+    arguments.push(Argument {
+        name: Name(0),
+        state,
+    })?;
     Ok(State::Frame(arguments, body))
+}
+
+fn frame_has(alloc: Global, events: u64, states: u64) -> Result<bool, Memory> {
+    let state = frame(alloc)?;
+    Ok(has(&state, events, states))
 }
 
 #[test]
 fn arguments_and_code_count(rt: HostRuntime) -> Result<(), Fail> {
-    let (events, states) = counts(frame(rt.alloc())?);
-    assert_eq!(rt; events, 9);
-    assert_eq!(rt; states, 7);
+    assert!(rt; frame_has(rt.alloc(), 9, 7)?);
     Ok(())
 }
