@@ -1,5 +1,5 @@
 -- The parts of a term, one after the other.
-use Rattle.std.proofs.Common.{◌≡◌, ◌+◌, ◌<◌, ◌≤◌, ◌^◌, ℕ, List, Bool, map, ap, ◌++◌, sym, refl, subst, ◌∙◌, arith, rules}
+use Rattle.std.proofs.Common.{◌≡◌, ◌+◌, ◌<◌, ◌++◌, map, ap, sym, refl, subst, ◌∙◌, arith, rules}
 use Rattle.std.specs.List.{concat}
 use Rattle.std.proofs.lemmas.Result.{err_from_is_err_and}
 use Rattle.stream_type.specs.StreamType.{type_of}
@@ -7,7 +7,6 @@ use Rattle.hist_value.specs.HistExpr.{expr_of}
 use Rattle.bunch.specs.BunchTree.{tree_of}
 use Rattle.core_term.specs.declared.term.Term.{the_lemmas}
 use Rattle.core_term.specs.CoreTerm.{core_of, call_term, term_of, term_in, terms_from, places_of, places_in, leaf_types, node_count, node_counts}
-use Rattle.core_term.specs.Parts.{par_left, par_right, cat_first, cat_second, sum_left, sum_right, star_item, star_items}
 use Rattle.core_term.specs.TypeFaults.{nodes_of}
 use Rattle.core_term.specs.Typing.{Context, with_name, with_let}
 use Rattle.core_term.proofs.Rows.{term_in-call, places_in-call}
