@@ -25,12 +25,12 @@ fn params(alloc: Global) -> Result<Bunch, Memory> {
 }
 
 // A body of such parameters.
-fn body(alloc: Global, params: Bunch, gives: Ty, body: Box<Node>) -> Body {
+fn body(alloc: Global, params: Bunch, gives: Ty, body: Node) -> Body {
     Body {
         past: Vec::new(alloc),
         params,
         result: gives,
-        body: Box::into_inner(body),
+        body,
     }
 }
 
@@ -38,7 +38,7 @@ fn body(alloc: Global, params: Bunch, gives: Ty, body: Box<Node>) -> Body {
 fn main_in_turn(alloc: Global) -> Result<Body, Memory> {
     let pair = pair(alloc)?;
     let numbers = cat(alloc, Ty::Int, Ty::Int)?;
-    Ok(body(alloc, params(alloc)?, numbers, pair))
+    Ok(body(alloc, params(alloc)?, numbers, Box::into_inner(pair)))
 }
 
 // The texts of x and y.
@@ -58,9 +58,12 @@ fn in_turn(alloc: Global, funs: Vec<Body>) -> Result<Core, Memory> {
 }
 
 // A body without parameters, with this result and `()`.
-fn mark(alloc: Global, t: Ty) -> Result<Body, Memory> {
-    let unit = boxed(alloc, 0, Term::Unit)?;
-    Ok(body(alloc, Bunch::Empty, t, unit))
+fn mark(alloc: Global, t: Ty) -> Body {
+    let unit = Node {
+        at: 0,
+        term: Term::Unit,
+    };
+    body(alloc, Bunch::Empty, t, unit)
 }
 
 // A type of this height.
@@ -216,8 +219,8 @@ fn a_copied_call_has_its_arguments(rt: HostRuntime) {
 // A function that gives a mark, and one that gives a number.
 fn marks(alloc: Global) -> Result<Vec<Body>, Memory> {
     let mut funs = Vec::new(alloc);
-    funs.push(mark(alloc, Ty::One)?)?;
-    funs.push(mark(alloc, Ty::Int)?)?;
+    funs.push(mark(alloc, Ty::One))?;
+    funs.push(mark(alloc, Ty::Int))?;
     Ok(funs)
 }
 
@@ -265,49 +268,51 @@ fn second_gives_numbers(program: &Core) -> bool {
     }
 }
 
-// Whether of a program with these functions just these are there, and the second gives numbers where it
-// is.
-fn has(
-    alloc: Global,
-    funs: Result<Vec<Body>, Memory>,
-    expected: [bool; 4],
-) -> Result<bool, Memory> {
-    let program = in_turn(alloc, funs?)?;
-    Ok(there(&program) == expected && second_gives_numbers(&program) == expected[1])
+// Whether just these functions are there, and the second gives numbers where it is.
+fn has(program: &Core, expected: [bool; 4]) -> bool {
+    there(program) == expected && second_gives_numbers(program) == expected[1]
+}
+
+// Whether a program without functions has none.
+fn has_none(alloc: Global) -> Result<bool, Memory> {
+    let program = in_turn(alloc, Vec::new(alloc))?;
+    Ok(has(&program, [false, false, false, false]))
+}
+
+// Whether a program of two functions has these.
+fn has_two(alloc: Global) -> Result<bool, Memory> {
+    let program = in_turn(alloc, marks(alloc)?)?;
+    Ok(has(&program, [true, true, false, false]))
 }
 
 #[test]
 fn functions_by_number(rt: HostRuntime) {
-    let none = Ok(Vec::new(rt.alloc()));
-    assert!(rt;
-        matches!(
-            has(rt.alloc(), none, [false, false, false, false]),
-            Ok(true)
-        )
-    );
-    let two = marks(rt.alloc());
-    assert!(rt; matches!(has(rt.alloc(), two, [true, true, false, false]), Ok(true)));
+    assert!(rt; matches!(has_none(rt.alloc()), Ok(true)));
+    assert!(rt; matches!(has_two(rt.alloc()), Ok(true)));
 }
 
 // Whether a program with these parameters and this result fits.
-fn fits_with(alloc: Global, params: Bunch, gives: Ty) -> Result<bool, Memory> {
-    let nil = boxed(alloc, 0, Term::Nil)?;
+fn fits_with(alloc: Global, params: Bunch, gives: Ty) -> bool {
+    let nil = Node {
+        at: 0,
+        term: Term::Nil,
+    };
     let program = Core {
         funs: Vec::new(alloc),
         main: body(alloc, params, gives, nil),
         texts: Vec::new(alloc),
     };
-    Ok(fits(&program))
+    fits(&program)
 }
 
 // Whether a program with a result of this height fits.
 fn result_fits(alloc: Global, height: u32) -> Result<bool, Memory> {
-    fits_with(alloc, Bunch::Empty, tall(alloc, height)?)
+    Ok(fits_with(alloc, Bunch::Empty, tall(alloc, height)?))
 }
 
 // The same with a parameter of this height.
 fn parameter_fits(alloc: Global, height: u32) -> Result<bool, Memory> {
-    fits_with(alloc, Bunch::Leaf(Name(0), tall(alloc, height)?), Ty::Int)
+    Ok(fits_with(alloc, Bunch::Leaf(Name(0), tall(alloc, height)?), Ty::Int))
 }
 
 // `0 : t, 1 : Int`, where t has this height.
@@ -319,7 +324,7 @@ fn beside(alloc: Global, height: u32) -> Result<Bunch, Memory> {
 
 // The same with such parameters.
 fn both_fit(alloc: Global, height: u32) -> Result<bool, Memory> {
-    fits_with(alloc, beside(alloc, height)?, Ty::Int)
+    Ok(fits_with(alloc, beside(alloc, height)?, Ty::Int))
 }
 
 #[test]
