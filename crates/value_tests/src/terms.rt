@@ -4,7 +4,6 @@ use bunch::{Bunch, Name};
 use core_term::{Body, Core, Node, Term, body_of, copy, copy_core, fits, free};
 use hist_value::{Expr, Op};
 use std::alloc::Global;
-use std::test::Fail;
 use stream_type::{Memory, Ty, cat, star};
 
 fn boxed(alloc: Global, at: u32, term: Term) -> Result<Box<Node>, Memory> {
@@ -26,12 +25,12 @@ fn params(alloc: Global) -> Result<Bunch, Memory> {
 }
 
 // A body of such parameters.
-fn body(alloc: Global, params: Bunch, gives: Ty, body: Box<Node>) -> Body {
+fn body(alloc: Global, params: Bunch, gives: Ty, body: Node) -> Body {
     Body {
         past: Vec::new(alloc),
         params,
         result: gives,
-        body: Box::into_inner(body),
+        body,
     }
 }
 
@@ -39,7 +38,7 @@ fn body(alloc: Global, params: Bunch, gives: Ty, body: Box<Node>) -> Body {
 fn main_in_turn(alloc: Global) -> Result<Body, Memory> {
     let pair = pair(alloc)?;
     let numbers = cat(alloc, Ty::Int, Ty::Int)?;
-    Ok(body(alloc, params(alloc)?, numbers, pair))
+    Ok(body(alloc, params(alloc)?, numbers, Box::into_inner(pair)))
 }
 
 // The texts of x and y.
@@ -59,9 +58,12 @@ fn in_turn(alloc: Global, funs: Vec<Body>) -> Result<Core, Memory> {
 }
 
 // A body without parameters, with this result and `()`.
-fn mark(alloc: Global, t: Ty) -> Result<Body, Memory> {
-    let unit = boxed(alloc, 0, Term::Unit)?;
-    Ok(body(alloc, Bunch::Empty, t, unit))
+fn mark(alloc: Global, t: Ty) -> Body {
+    let unit = Node {
+        at: 0,
+        term: Term::Unit,
+    };
+    body(alloc, Bunch::Empty, t, unit)
 }
 
 // A type of this height.
@@ -74,16 +76,20 @@ fn tall(alloc: Global, height: u32) -> Result<Ty, Memory> {
 }
 
 // Whether these are the free names of a term.
-fn are_names(alloc: Global, node: Box<Node>, expected: &[Name]) -> Result<bool, Memory> {
+fn are_names(
+    alloc: Global,
+    node: Result<Box<Node>, Memory>,
+    expected: &[Name],
+) -> Result<bool, Memory> {
+    let node = node?;
     let names = free(alloc, &node)?;
     Ok(names.as_slice() == expected)
 }
 
 #[test]
-fn names_in_order_of_use(rt: HostRuntime) -> Result<(), Fail> {
-    let term = pair(rt.alloc())?;
-    assert!(rt; are_names(rt.alloc(), term, &[Name(0), Name(1)])?);
-    Ok(())
+fn names_in_order_of_use(rt: HostRuntime) {
+    let term = pair(rt.alloc());
+    assert!(rt; matches!(are_names(rt.alloc(), term, &[Name(0), Name(1)]), Ok(true)));
 }
 
 // `let (3, 4) = 2 in (3, (2, 5))`
@@ -97,10 +103,9 @@ fn parts(alloc: Global) -> Result<Box<Node>, Memory> {
 }
 
 #[test]
-fn bound_names_are_hidden(rt: HostRuntime) -> Result<(), Fail> {
-    let term = parts(rt.alloc())?;
-    assert!(rt; are_names(rt.alloc(), term, &[Name(2), Name(5)])?);
-    Ok(())
+fn bound_names_are_hidden(rt: HostRuntime) {
+    let term = parts(rt.alloc());
+    assert!(rt; matches!(are_names(rt.alloc(), term, &[Name(2), Name(5)]), Ok(true)));
 }
 
 // `wait 1 in {1}`
@@ -115,17 +120,16 @@ fn wait_for_pair(alloc: Global) -> Result<Box<Node>, Memory> {
 }
 
 #[test]
-fn the_subject_of_a_wait_stays_free(rt: HostRuntime) -> Result<(), Fail> {
-    let value = wait_for_value(rt.alloc())?;
-    assert!(rt; are_names(rt.alloc(), value, &[Name(1)])?);
-    let pair = wait_for_pair(rt.alloc())?;
-    assert!(rt; are_names(rt.alloc(), pair, &[Name(1), Name(0)])?);
-    Ok(())
+fn the_subject_of_a_wait_stays_free(rt: HostRuntime) {
+    let value = wait_for_value(rt.alloc());
+    assert!(rt; matches!(are_names(rt.alloc(), value, &[Name(1)]), Ok(true)));
+    let pair = wait_for_pair(rt.alloc());
+    assert!(rt; matches!(are_names(rt.alloc(), pair, &[Name(1), Name(0)]), Ok(true)));
 }
 
 // A copy of a term.
-fn copied(alloc: Global, node: Box<Node>) -> Result<Box<Node>, Memory> {
-    let copied = copy(alloc, &node)?;
+fn copied(alloc: Global, node: &Node) -> Result<Box<Node>, Memory> {
+    let copied = copy(alloc, node)?;
     Ok(Box::new(alloc, copied)?)
 }
 
@@ -144,11 +148,16 @@ fn is_pair(node: &Node) -> bool {
     }
 }
 
+// Whether the copy of the pair is the pair.
+fn is_pair_copied(alloc: Global) -> Result<bool, Memory> {
+    let pair = pair(alloc)?;
+    let copied = copied(alloc, &pair)?;
+    Ok(is_pair(&copied))
+}
+
 #[test]
-fn a_copy_is_equal(rt: HostRuntime) -> Result<(), Fail> {
-    let term = copied(rt.alloc(), pair(rt.alloc())?)?;
-    assert!(rt; is_pair(&term));
-    Ok(())
+fn a_copy_is_equal(rt: HostRuntime) {
+    assert!(rt; matches!(is_pair_copied(rt.alloc()), Ok(true)));
 }
 
 // `{7 / 0}`
@@ -195,19 +204,23 @@ fn is_call(node: &Node) -> bool {
     }
 }
 
+// Whether the copy of the call is the call, and has its free names.
+fn is_call_copied(alloc: Global) -> Result<bool, Memory> {
+    let call = call(alloc)?;
+    let copied = copied(alloc, &call)?;
+    Ok(is_call(&copied) && are_names(alloc, Ok(copied), &[Name(0), Name(1)])?)
+}
+
 #[test]
-fn a_copied_call_has_its_arguments(rt: HostRuntime) -> Result<(), Fail> {
-    let term = copied(rt.alloc(), call(rt.alloc())?)?;
-    assert!(rt; is_call(&term));
-    assert!(rt; are_names(rt.alloc(), term, &[Name(0), Name(1)])?);
-    Ok(())
+fn a_copied_call_has_its_arguments(rt: HostRuntime) {
+    assert!(rt; matches!(is_call_copied(rt.alloc()), Ok(true)));
 }
 
 // A function that gives a mark, and one that gives a number.
 fn marks(alloc: Global) -> Result<Vec<Body>, Memory> {
     let mut funs = Vec::new(alloc);
-    funs.push(mark(alloc, Ty::One)?)?;
-    funs.push(mark(alloc, Ty::Int)?)?;
+    funs.push(mark(alloc, Ty::One))?;
+    funs.push(mark(alloc, Ty::Int))?;
     Ok(funs)
 }
 
@@ -233,9 +246,8 @@ fn is_copied(alloc: Global) -> Result<bool, Memory> {
 }
 
 #[test]
-fn a_copied_program_is_equal(rt: HostRuntime) -> Result<(), Fail> {
-    assert!(rt; is_copied(rt.alloc())?);
-    Ok(())
+fn a_copied_program_is_equal(rt: HostRuntime) {
+    assert!(rt; matches!(is_copied(rt.alloc()), Ok(true)));
 }
 
 // Which of the functions of these numbers a program has.
@@ -256,41 +268,51 @@ fn second_gives_numbers(program: &Core) -> bool {
     }
 }
 
-// Whether of a program with these functions just these are there, and the second gives numbers where it
-// is.
-fn has(alloc: Global, funs: Vec<Body>, expected: [bool; 4]) -> Result<bool, Memory> {
-    let program = in_turn(alloc, funs)?;
-    Ok(there(&program) == expected && second_gives_numbers(&program) == expected[1])
+// Whether just these functions are there, and the second gives numbers where it is.
+fn has(program: &Core, expected: [bool; 4]) -> bool {
+    there(program) == expected && second_gives_numbers(program) == expected[1]
+}
+
+// Whether a program without functions has none.
+fn has_none(alloc: Global) -> Result<bool, Memory> {
+    let program = in_turn(alloc, Vec::new(alloc))?;
+    Ok(has(&program, [false, false, false, false]))
+}
+
+// Whether a program of two functions has these.
+fn has_two(alloc: Global) -> Result<bool, Memory> {
+    let program = in_turn(alloc, marks(alloc)?)?;
+    Ok(has(&program, [true, true, false, false]))
 }
 
 #[test]
-fn functions_by_number(rt: HostRuntime) -> Result<(), Fail> {
-    let none = Vec::new(rt.alloc());
-    assert!(rt; has(rt.alloc(), none, [false, false, false, false])?);
-    let two = marks(rt.alloc())?;
-    assert!(rt; has(rt.alloc(), two, [true, true, false, false])?);
-    Ok(())
+fn functions_by_number(rt: HostRuntime) {
+    assert!(rt; matches!(has_none(rt.alloc()), Ok(true)));
+    assert!(rt; matches!(has_two(rt.alloc()), Ok(true)));
 }
 
 // Whether a program with these parameters and this result fits.
-fn fits_with(alloc: Global, params: Bunch, gives: Ty) -> Result<bool, Memory> {
-    let nil = boxed(alloc, 0, Term::Nil)?;
+fn fits_with(alloc: Global, params: Bunch, gives: Ty) -> bool {
+    let nil = Node {
+        at: 0,
+        term: Term::Nil,
+    };
     let program = Core {
         funs: Vec::new(alloc),
         main: body(alloc, params, gives, nil),
         texts: Vec::new(alloc),
     };
-    Ok(fits(&program))
+    fits(&program)
 }
 
 // Whether a program with a result of this height fits.
 fn result_fits(alloc: Global, height: u32) -> Result<bool, Memory> {
-    fits_with(alloc, Bunch::Empty, tall(alloc, height)?)
+    Ok(fits_with(alloc, Bunch::Empty, tall(alloc, height)?))
 }
 
 // The same with a parameter of this height.
 fn parameter_fits(alloc: Global, height: u32) -> Result<bool, Memory> {
-    fits_with(alloc, Bunch::Leaf(Name(0), tall(alloc, height)?), Ty::Int)
+    Ok(fits_with(alloc, Bunch::Leaf(Name(0), tall(alloc, height)?), Ty::Int))
 }
 
 // `0 : t, 1 : Int`, where t has this height.
@@ -302,14 +324,15 @@ fn beside(alloc: Global, height: u32) -> Result<Bunch, Memory> {
 
 // The same with such parameters.
 fn both_fit(alloc: Global, height: u32) -> Result<bool, Memory> {
-    fits_with(alloc, beside(alloc, height)?, Ty::Int)
+    Ok(fits_with(alloc, beside(alloc, height)?, Ty::Int))
 }
 
 #[test]
-fn low_programs_fit(rt: HostRuntime) -> Result<(), Fail> {
+fn low_programs_fit(rt: HostRuntime) {
     let alloc = rt.alloc();
-    assert!(rt; result_fits(alloc, 64)? && !result_fits(alloc, 65)?);
-    assert!(rt; parameter_fits(alloc, 64)?);
-    assert!(rt; both_fit(alloc, 63)? && !both_fit(alloc, 64)?);
-    Ok(())
+    assert!(rt; matches!(result_fits(alloc, 64), Ok(true)));
+    assert!(rt; matches!(result_fits(alloc, 65), Ok(false)));
+    assert!(rt; matches!(parameter_fits(alloc, 64), Ok(true)));
+    assert!(rt; matches!(both_fit(alloc, 63), Ok(true)));
+    assert!(rt; matches!(both_fit(alloc, 64), Ok(false)));
 }
