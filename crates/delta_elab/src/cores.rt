@@ -15,7 +15,8 @@ ghost use Rattle.delta_elab.specs.Sources.{param_types};
 ghost use Rattle.delta_elab.specs.Wanted.{wanted_of};
 
 use crate::heads::{
-    Subject, call_node, case_star_node, case_sum_node, enclosed, head_type, if_node, node, param_type,
+    Subject, call_node, case_star_node, case_sum_node, enclosed, head_type, if_node, node,
+    param_type,
 };
 use crate::histories::{all_numbered, numbered};
 use crate::numbering::{added, named};
@@ -58,15 +59,42 @@ pub fn core<'a>(
             node(alloc, at, Term::Past(Box::into_inner(m)))
         }
         Form::Par(a, b) => {
-            let (a, b) = both(alloc, setting, a, par_left(r), b, par_right(r), scope, origins)?;
+            let (a, b) = both(
+                alloc,
+                setting,
+                a,
+                par_left(r),
+                b,
+                par_right(r),
+                scope,
+                origins,
+            )?;
             node(alloc, at, Term::Par(a, b))
         }
         Form::Cat(a, b) => {
-            let (a, b) = both(alloc, setting, a, cat_first(r), b, cat_second(r), scope, origins)?;
+            let (a, b) = both(
+                alloc,
+                setting,
+                a,
+                cat_first(r),
+                b,
+                cat_second(r),
+                scope,
+                origins,
+            )?;
             node(alloc, at, Term::Cat(a, b))
         }
         Form::Cons(a, b) => {
-            let (a, b) = both(alloc, setting, a, star_item(r), b, star_items(r), scope, origins)?;
+            let (a, b) = both(
+                alloc,
+                setting,
+                a,
+                star_item(r),
+                b,
+                star_items(r),
+                scope,
+                origins,
+            )?;
             node(alloc, at, Term::Cons(a, b))
         }
         Form::Inl(a) => {

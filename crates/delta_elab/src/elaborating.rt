@@ -48,11 +48,7 @@ pub fn elaborate(alloc: Global, p: &Program) -> Result<Core, ElabFault>
 }
 
 // The core of a program with these declared types: `core_of_tree` in the specs of delta_meaning.
-fn core_of_program(
-    alloc: Global,
-    p: &Program,
-    types: &[(Name, Ty)],
-) -> Result<Box<Core>, Memory>
+fn core_of_program(alloc: Global, p: &Program, types: &[(Name, Ty)]) -> Result<Box<Core>, Memory>
     requires { typed_names_of types.now ≡ aliases_among no_type_names (program_of p.now).declarations }
     ensures core { IfOk result (λ c. core_of c.value ≡ core_of_tree (program_of p.now)) }
     ensures places { IfOk result (λ c. core_places c.value ≡ program_places (program_of p.now)) }
