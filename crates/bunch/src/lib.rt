@@ -8,8 +8,6 @@ mod order;
 mod placing;
 mod reading;
 mod table;
-#[cfg(test)]
-mod tests;
 
 pub use bunch::Bunch;
 pub use name::Name;

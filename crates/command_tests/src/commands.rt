@@ -1,9 +1,9 @@
 //! Whole runs over a shelf, a link and a sink in memory.
 
+use crate::outside::{are_written, pieces, words};
 use delta_run::delta;
-use port::{MemLink, MemShelf, MemSink, Move};
+use port::{MemLink, MemShelf, MemSink};
 use std::alloc::Global;
-use std::process::Abort;
 use std::test::Fail;
 
 const ONE: &[u8] = b"main(x : Int) : Int = x\n";
@@ -21,6 +21,9 @@ main(xs : Int*) : Int* = twice(xs)
 
 const THREE: &[u8] = b"DEV1\0\x15\x01\x03\x11\0\0\0\0\0\0\0\x03\0\x14\0\x16";
 
+// The first 16 of those bytes.
+const CUT: &[u8] = b"DEV1\0\x15\x01\x03\x11\0\0\0\0\0\0\0";
+
 const SIX: &[u8] = b"DEV1\0\x15\x01\x03\x11\0\0\0\0\0\0\0\x06\0\x14\0\x16";
 
 const SEVEN: &[u8] = b"DEV1\0\x11\0\0\0\0\0\0\0\x07";
@@ -32,6 +35,8 @@ const RIGHT_THEN_LEFT: &[u8] = b"DEV1\x01\x02\x11\0\0\0\0\0\0\0\x02\x01\x01\x11\
 /// What a run is given, and what it must write and answer.
 #[derive(Clone, Copy)]
 struct Row {
+    /// The words, parted by spaces.
+    words: &'static str,
     /// The text of the file `program`.
     text: &'static [u8],
     /// The input, and the size of its pieces.
@@ -49,6 +54,7 @@ struct Row {
 }
 
 const ROW: Row = Row {
+    words: "run program",
     text: ONE,
     input: SEVEN,
     piece: 4096,
@@ -61,374 +67,434 @@ const ROW: Row = Row {
     status: 0,
 };
 
-/// Runs the words over the file `program`, and compares.
-fn check(rt: &impl Abort, alloc: Global, words: &[&str], row: Row) -> Result<(), Fail> {
-    let mut given = Vec::new(alloc);
-    for word in words {
-        given.push(String::from_str(alloc, *word)?)?;
-    }
+// A shelf that holds a text as the file `program`.
+fn shelf_of(alloc: Global, text: &[u8]) -> Result<MemShelf, Fail> {
+    let name = String::from_str(alloc, "program")?;
     let mut files = Vec::new(alloc);
-    files.push((String::from_str(alloc, "program")?, row.text.to_vec(alloc)?))?;
-    let mut pieces = Vec::new(alloc);
-    for piece in row.input.chunks(row.piece.max(1)) {
-        pieces.push(piece.to_vec(alloc)?)?;
-    }
+    files.push((name, text.to_vec(alloc)?))?;
+    Ok(MemShelf::new(alloc, files, Vec::new(alloc)))
+}
+
+// The link of a row.
+fn link_of(alloc: Global, row: &Row) -> Result<MemLink, Fail> {
+    let pieces = pieces(alloc, row.input, row.piece)?;
     let fail_reads = row.fail_reads.to_vec(alloc)?;
     let fail_writes = row.fail_writes.to_vec(alloc)?;
-    let mut shelf = MemShelf::new(alloc, files, Vec::new(alloc));
-    let mut link = MemLink::new(alloc, pieces, fail_reads, fail_writes, row.most.max(1));
+    Ok(MemLink::new(alloc, pieces, fail_reads, fail_writes, row.most.max(1)))
+}
+
+// Whether a row's run writes and answers what it must.
+fn holds(alloc: Global, row: &Row) -> Result<bool, Fail> {
+    let given = words(alloc, row.words)?;
+    let mut shelf = shelf_of(alloc, row.text)?;
+    let mut link = link_of(alloc, row)?;
     let mut notes = MemSink::new(alloc, row.fail_notes.to_vec(alloc)?);
     let status = delta(alloc, &given, &mut shelf, &mut link, &mut notes);
-    let mut written = Vec::new(alloc);
-    for step in link.log() {
-        if let Move::Out(bytes) = step {
-            written.extend_from_slice(bytes.as_slice())?;
+    let told = notes.bytes() == row.note && status == row.status;
+    Ok(are_written(alloc, &link, row.output)? && told)
+}
+
+// The number of rows before the first that doesn't hold, or none.
+fn first_wrong(alloc: Global, rows: &[Row]) -> Result<Option<usize>, Fail> {
+    for k in 0..rows.len() {
+        if !holds(alloc, &rows[k])? {
+            return Ok(Some(k));
         }
     }
-    assert_eq!(rt; written.as_slice(), row.output);
-    assert_eq!(rt; notes.bytes(), row.note);
-    assert_eq!(rt; status, row.status);
-    Ok(())
+    Ok(None)
+}
+
+const RUNS: &[Row] = &[
+    Row {
+        output: SEVEN,
+        ..ROW
+    },
+    Row {
+        text: SWAP,
+        input: LEFT_THEN_RIGHT,
+        output: b"DEV1\x01\x02\x11\0\0\0\0\0\0\0\x01\x01\x01\x11\0\0\0\0\0\0\0\x02",
+        ..ROW
+    },
+    Row {
+        text: SWAP,
+        input: RIGHT_THEN_LEFT,
+        output: b"DEV1\x01\x01\x11\0\0\0\0\0\0\0\x02\x01\x02\x11\0\0\0\0\0\0\0\x01",
+        ..ROW
+    },
+    Row {
+        text: LET,
+        input: RIGHT_THEN_LEFT,
+        output: b"DEV1\x01\x01\x11\0\0\0\0\0\0\0\x02\x01\x02\x11\0\0\0\0\0\0\0\x01",
+        ..ROW
+    },
+    Row {
+        text: TWICE,
+        input: SEVEN,
+        output: b"DEV1\x01\x01\x11\0\0\0\0\0\0\0\x07\x01\x02\x11\0\0\0\0\0\0\0\x07",
+        ..ROW
+    },
+    Row {
+        input: b"DEV2",
+        note: b"delta: input open\n",
+        status: 6,
+        ..ROW
+    },
+    Row {
+        input: b"DEV1",
+        note: b"delta: input open\n",
+        status: 6,
+        ..ROW
+    },
+];
+
+// The same in pieces and writes of one byte.
+fn byte_by_byte(alloc: Global, rows: &[Row]) -> Result<bool, Fail> {
+    let mut all = true;
+    for row in rows {
+        let bytewise = Row {
+            piece: 1,
+            most: 1,
+            ..*row
+        };
+        all = all && holds(alloc, &bytewise)?;
+    }
+    Ok(all)
 }
 
 #[test]
 fn programs_run(rt: HostRuntime) -> Result<(), Fail> {
-    let rows = [
-        Row {
-            output: SEVEN,
-            ..ROW
-        },
-        Row {
-            text: SWAP,
-            input: LEFT_THEN_RIGHT,
-            output: b"DEV1\x01\x02\x11\0\0\0\0\0\0\0\x01\x01\x01\x11\0\0\0\0\0\0\0\x02",
-            ..ROW
-        },
-        Row {
-            text: SWAP,
-            input: RIGHT_THEN_LEFT,
-            output: b"DEV1\x01\x01\x11\0\0\0\0\0\0\0\x02\x01\x02\x11\0\0\0\0\0\0\0\x01",
-            ..ROW
-        },
-        Row {
-            text: LET,
-            input: RIGHT_THEN_LEFT,
-            output: b"DEV1\x01\x01\x11\0\0\0\0\0\0\0\x02\x01\x02\x11\0\0\0\0\0\0\0\x01",
-            ..ROW
-        },
-        Row {
-            text: TWICE,
-            input: SEVEN,
-            output: b"DEV1\x01\x01\x11\0\0\0\0\0\0\0\x07\x01\x02\x11\0\0\0\0\0\0\0\x07",
-            ..ROW
-        },
-        Row {
-            input: b"DEV2",
-            note: b"delta: input open\n",
-            status: 6,
-            ..ROW
-        },
-        Row {
-            input: b"DEV1",
-            note: b"delta: input open\n",
-            status: 6,
-            ..ROW
-        },
-    ];
-    for row in rows {
-        check(&rt, rt.alloc(), &["run", "program"], row)?;
-        check(
-            &rt,
-            rt.alloc(),
-            &["run", "program"],
-            Row {
-                piece: 1,
-                most: 1,
-                ..row
-            },
-        )?;
-    }
+    assert_eq!(rt; first_wrong(rt.alloc(), RUNS)?, None);
+    assert!(rt; byte_by_byte(rt.alloc(), RUNS)?);
     Ok(())
 }
+
+const REFUSED: Row = Row { status: 4, ..ROW };
+
+const REFUSALS: &[Row] = &[
+    Row {
+        input: b"",
+        note: b"delta: input refused: Truncated at 0\n",
+        ..REFUSED
+    },
+    Row {
+        input: b"DEV1\0\x11\0\0\0\0\0\0\0",
+        note: b"delta: input refused: Truncated at 13\n",
+        ..REFUSED
+    },
+    Row {
+        input: b"DEV1\x01\x01\x11\0\0\0\0\0\0\0\x07",
+        note: b"delta: input refused: WrongStep at 4\n",
+        ..REFUSED
+    },
+    Row {
+        input: b"DEV1\0\x11\0\0\0\0\0\0\0\x07\0\x11\0\0\0\0\0\0\0\x07",
+        output: SEVEN,
+        note: b"delta: input refused: Ended at 14\n",
+        ..REFUSED
+    },
+    Row {
+        input: b"DEV3",
+        note: b"delta: input refused: BadMagic at 3\n",
+        ..REFUSED
+    },
+    Row {
+        input: b"DEV1\x20",
+        note: b"delta: input refused: LongPath at 4\n",
+        ..REFUSED
+    },
+    Row {
+        input: b"DEV1\x01\x07",
+        note: b"delta: input refused: BadStep at 5\n",
+        ..REFUSED
+    },
+    Row {
+        input: b"DEV1\0\x20",
+        note: b"delta: input refused: BadLeaf at 5\n",
+        ..REFUSED
+    },
+];
 
 #[test]
 fn inputs_are_refused(rt: HostRuntime) -> Result<(), Fail> {
-    let rows = [
-        Row {
-            input: b"",
-            note: b"delta: input refused: Truncated at 0\n",
-            ..ROW
-        },
-        Row {
-            input: b"DEV1\0\x11\0\0\0\0\0\0\0",
-            note: b"delta: input refused: Truncated at 13\n",
-            ..ROW
-        },
-        Row {
-            input: b"DEV1\x01\x01\x11\0\0\0\0\0\0\0\x07",
-            note: b"delta: input refused: WrongStep at 4\n",
-            ..ROW
-        },
-        Row {
-            input: b"DEV1\0\x11\0\0\0\0\0\0\0\x07\0\x11\0\0\0\0\0\0\0\x07",
-            output: SEVEN,
-            note: b"delta: input refused: Ended at 14\n",
-            ..ROW
-        },
-        Row {
-            input: b"DEV3",
-            note: b"delta: input refused: BadMagic at 3\n",
-            ..ROW
-        },
-        Row {
-            input: b"DEV1\x20",
-            note: b"delta: input refused: LongPath at 4\n",
-            ..ROW
-        },
-        Row {
-            input: b"DEV1\x01\x07",
-            note: b"delta: input refused: BadStep at 5\n",
-            ..ROW
-        },
-        Row {
-            input: b"DEV1\0\x20",
-            note: b"delta: input refused: BadLeaf at 5\n",
-            ..ROW
-        },
-    ];
-    for row in rows {
-        check(
-            &rt,
-            rt.alloc(),
-            &["run", "program"],
-            Row { status: 4, ..row },
-        )?;
-    }
+    assert_eq!(rt; first_wrong(rt.alloc(), REFUSALS)?, None);
     Ok(())
 }
 
-#[test]
-fn faults_are_told(rt: HostRuntime) -> Result<(), Fail> {
-    let none = Row { output: b"", ..ROW };
-    let usage = Row {
-        note: b"delta: usage\n",
-        status: 2,
-        ..none
-    };
-    let gone = Row {
+const NONE: Row = Row { output: b"", ..ROW };
+
+const USAGE: Row = Row {
+    note: b"delta: usage\n",
+    status: 2,
+    ..NONE
+};
+
+const FAULTS: &[Row] = &[
+    Row { words: "", ..USAGE },
+    Row {
+        words: "run",
+        ..USAGE
+    },
+    Row {
+        words: "run program program",
+        ..USAGE
+    },
+    Row {
+        words: "run program --budget x",
+        ..USAGE
+    },
+    Row {
+        words: "gen 1 2",
+        ..USAGE
+    },
+    Row {
+        words: "run gone",
         note: b"delta: outside fault: file\n",
         status: 7,
-        ..none
-    };
-    let refused = Row {
+        ..NONE
+    },
+    Row {
         text: b"main(x : Int, y : 1) : Int || Int = (y, x)\n",
         note: b"delta: program refused\n",
         status: 3,
-        ..none
-    };
-    let read = Row {
+        ..NONE
+    },
+    Row {
         piece: 7,
         fail_reads: &[1],
         note: b"delta: outside fault: input\n",
         status: 7,
         ..ROW
-    };
-    let write = Row {
+    },
+    Row {
         most: 4,
         fail_writes: &[2],
         output: b"DEV1\0\x11\0\0",
         note: b"delta: outside fault: output\n",
         status: 7,
         ..ROW
-    };
-    let note = Row {
+    },
+    Row {
         input: b"DEV1",
         fail_notes: &[0],
         status: 7,
         ..ROW
-    };
-    check(&rt, rt.alloc(), &[], usage)?;
-    check(&rt, rt.alloc(), &["run"], usage)?;
-    check(&rt, rt.alloc(), &["run", "program", "program"], usage)?;
-    check(&rt, rt.alloc(), &["run", "program", "--budget", "x"], usage)?;
-    check(&rt, rt.alloc(), &["gen", "1", "2"], usage)?;
-    check(&rt, rt.alloc(), &["run", "gone"], gone)?;
-    for row in [refused, read, write, note] {
-        check(&rt, rt.alloc(), &["run", "program"], row)?;
-    }
+    },
+];
+
+#[test]
+fn faults_are_told(rt: HostRuntime) -> Result<(), Fail> {
+    assert_eq!(rt; first_wrong(rt.alloc(), FAULTS)?, None);
     Ok(())
 }
 
-#[test]
-fn version_two_is_written(rt: HostRuntime) -> Result<(), Fail> {
-    let row = Row {
-        text: SWAP,
-        input: LEFT_THEN_RIGHT,
-        output: b"DEV2\x01\x80\x11\0\0\0\0\0\0\0\x01\x01\x40\x11\0\0\0\0\0\0\0\x02",
-        ..ROW
-    };
-    check(&rt, rt.alloc(), &["run", "program", "--v2"], row)?;
-    check(
-        &rt,
-        rt.alloc(),
-        &["run", "--v2", "--budget=5", "--", "program"],
-        row,
-    )
-}
+const LONG: Row = Row {
+    text: SWAP,
+    input: LEFT_THEN_RIGHT,
+    output: b"DEV2\x01\x80\x11\0\0\0\0\0\0\0\x01\x01\x40\x11\0\0\0\0\0\0\0\x02",
+    ..ROW
+};
+
+const LONG_FRAMES: &[Row] = &[
+    Row {
+        words: "run program --v2",
+        ..LONG
+    },
+    Row {
+        words: "run --v2 --budget=5 -- program",
+        ..LONG
+    },
+];
 
 #[test]
-fn lines_become_frames(rt: HostRuntime) -> Result<(), Fail> {
-    let good = Row {
+fn version_two_is_written(rt: HostRuntime) -> Result<(), Fail> {
+    assert_eq!(rt; first_wrong(rt.alloc(), LONG_FRAMES)?, None);
+    Ok(())
+}
+
+const LINES: &[Row] = &[
+    Row {
+        words: "text --frames",
         input: b"item\nF int 3\n",
         output: b"DEV1\0\x15\x01\x03\x11\0\0\0\0\0\0\0\x03",
         ..ROW
-    };
-    let bad = Row {
+    },
+    Row {
+        words: "text --frames",
         input: b"end\ncat",
         output: b"DEV1\0\x16",
         note: b"delta: input refused: BadWord at 4\n",
         status: 4,
         ..ROW
-    };
-    let two = Row {
+    },
+    Row {
+        words: "text --v2 --frames",
         input: b"L F one",
         output: b"DEV2\x02\x70\x10",
         ..ROW
-    };
-    check(&rt, rt.alloc(), &["text", "--frames"], good)?;
-    check(&rt, rt.alloc(), &["text", "--frames"], bad)?;
-    check(&rt, rt.alloc(), &["text", "--v2", "--frames"], two)
-}
+    },
+];
 
 #[test]
-fn frames_become_lines(rt: HostRuntime) -> Result<(), Fail> {
-    let good = Row {
-        input: b"DEV1\0\x15\x01\x03\x11\0\0\0\0\0\0\0\x03",
-        output: b"item\nF int 3\n",
-        ..ROW
-    };
-    let cut = Row {
+fn lines_become_frames(rt: HostRuntime) -> Result<(), Fail> {
+    assert_eq!(rt; first_wrong(rt.alloc(), LINES)?, None);
+    Ok(())
+}
+
+const TWO_LINES: Row = Row {
+    words: "text",
+    input: b"DEV1\0\x15\x01\x03\x11\0\0\0\0\0\0\0\x03",
+    output: b"item\nF int 3\n",
+    ..ROW
+};
+
+const FRAMES: &[Row] = &[
+    TWO_LINES,
+    Row {
+        words: "text",
         input: b"DEV1\0\x15\0",
         output: b"item\n",
         note: b"delta: input refused: Truncated at 7\n",
         status: 4,
         ..ROW
-    };
-    check(&rt, rt.alloc(), &["text"], good)?;
-    check(&rt, rt.alloc(), &["text"], cut)?;
-    check(
-        &rt,
-        rt.alloc(),
-        &["text"],
-        Row {
-            piece: 1,
-            most: 1,
-            ..good
-        },
-    )
-}
+    },
+    Row {
+        piece: 1,
+        most: 1,
+        ..TWO_LINES
+    },
+];
 
 #[test]
-fn texts_are_checked(rt: HostRuntime) -> Result<(), Fail> {
-    let fine = Row { output: b"", ..ROW };
-    for text in [ONE, SWAP, TWICE, LET, DOUBLE] {
-        check(&rt, rt.alloc(), &["check", "program"], Row { text, ..fine })?;
-    }
-    let untyped = Row {
+fn frames_become_lines(rt: HostRuntime) -> Result<(), Fail> {
+    assert_eq!(rt; first_wrong(rt.alloc(), FRAMES)?, None);
+    Ok(())
+}
+
+const FINE: Row = Row {
+    words: "check program",
+    ..NONE
+};
+
+const CHECKS: &[Row] = &[
+    FINE,
+    Row { text: SWAP, ..FINE },
+    Row {
+        text: TWICE,
+        ..FINE
+    },
+    Row { text: LET, ..FINE },
+    Row {
+        text: DOUBLE,
+        ..FINE
+    },
+    Row {
         text: b"main(x : Int, y : Int) : Int . Int = (x; y)",
         note: b"delta: program refused: OutOfOrder at 37\n",
         status: 3,
-        ..fine
-    };
-    let unknown = Row {
+        ..FINE
+    },
+    Row {
         text: b"main(x : Int) : Int = twice(x)",
         note: b"delta: program refused: NoFunction at 22\n",
         status: 3,
-        ..fine
-    };
-    check(&rt, rt.alloc(), &["check", "program"], untyped)?;
-    check(&rt, rt.alloc(), &["check", "program"], unknown)
-}
+        ..FINE
+    },
+];
 
 #[test]
-fn meanings_are_written(rt: HostRuntime) -> Result<(), Fail> {
-    let double = Row {
-        text: DOUBLE,
-        input: THREE,
-        piece: 3,
-        most: 2,
-        output: SIX,
-        ..ROW
-    };
-    let spent = Row {
+fn texts_are_checked(rt: HostRuntime) -> Result<(), Fail> {
+    assert_eq!(rt; first_wrong(rt.alloc(), CHECKS)?, None);
+    Ok(())
+}
+
+const DOUBLED: Row = Row {
+    words: "eval program",
+    text: DOUBLE,
+    input: THREE,
+    piece: 3,
+    most: 2,
+    output: SIX,
+    ..ROW
+};
+
+const MEANINGS: &[Row] = &[
+    DOUBLED,
+    Row {
+        words: "eval program --budget 2",
+        ..DOUBLED
+    },
+    Row {
+        words: "eval --budget=1 program",
         output: b"",
         note: b"delta: stopped: Budget at 0\n",
         status: 5,
-        ..double
-    };
-    let swap = Row {
+        ..DOUBLED
+    },
+    Row {
+        words: "eval program",
         text: SWAP,
         input: RIGHT_THEN_LEFT,
         output: b"DEV1\x01\x01\x11\0\0\0\0\0\0\0\x02\x01\x02\x11\0\0\0\0\0\0\0\x01",
         ..ROW
-    };
-    let cut = Row {
-        input: &THREE[..16],
+    },
+    Row {
+        input: CUT,
         output: b"",
         note: b"delta: input refused: Truncated at 16\n",
         status: 4,
-        ..double
-    };
-    let failed = Row {
+        ..DOUBLED
+    },
+    Row {
         fail_writes: &[1],
         output: b"DE",
         note: b"delta: outside fault: output\n",
         status: 7,
-        ..double
-    };
-    check(&rt, rt.alloc(), &["eval", "program"], double)?;
-    check(
-        &rt,
-        rt.alloc(),
-        &["eval", "program", "--budget", "2"],
-        double,
-    )?;
-    check(&rt, rt.alloc(), &["eval", "--budget=1", "program"], spent)?;
-    check(&rt, rt.alloc(), &["eval", "program"], swap)?;
-    check(&rt, rt.alloc(), &["eval", "program"], cut)?;
-    check(&rt, rt.alloc(), &["eval", "program"], failed)
-}
+        ..DOUBLED
+    },
+];
 
 #[test]
-fn wide_outputs_want_long_frames(rt: HostRuntime) -> Result<(), Fail> {
-    let wide = Row {
-        text: b"type A = Int****************************************\nmain() : A*********************** = nil",
-        input: b"DEV1",
-        output: b"DEV2\0\x16",
-        ..ROW
-    };
-    let refused = Row {
+fn meanings_are_written(rt: HostRuntime) -> Result<(), Fail> {
+    assert_eq!(rt; first_wrong(rt.alloc(), MEANINGS)?, None);
+    Ok(())
+}
+
+const WIDE: Row = Row {
+    words: "eval program --v2",
+    text: b"type A = Int****************************************\nmain() : A*********************** = nil",
+    input: b"DEV1",
+    output: b"DEV2\0\x16",
+    ..ROW
+};
+
+const WIDE_OUTPUTS: &[Row] = &[
+    WIDE,
+    Row {
+        words: "eval program",
         output: b"",
         note: b"delta: program refused: WideOutput at 53\n",
         status: 3,
-        ..wide
-    };
-    let tall = Row {
+        ..WIDE
+    },
+    Row {
         text: b"type A = Int****************************************\nmain() : A************************ = nil",
         output: b"",
         note: b"delta: program refused: TooTall at 62\n",
         status: 3,
-        ..wide
-    };
-    let short = Row {
+        ..WIDE
+    },
+    Row {
+        words: "eval program",
         text: b"main() : Int******************************** = nil",
         output: b"",
         note: b"delta: program refused: WideOutput at 0\n",
         status: 3,
-        ..wide
-    };
-    check(&rt, rt.alloc(), &["eval", "program", "--v2"], wide)?;
-    check(&rt, rt.alloc(), &["eval", "program"], refused)?;
-    check(&rt, rt.alloc(), &["eval", "program", "--v2"], tall)?;
-    check(&rt, rt.alloc(), &["eval", "program"], short)
+        ..WIDE
+    },
+];
+
+#[test]
+fn wide_outputs_want_long_frames(rt: HostRuntime) -> Result<(), Fail> {
+    assert_eq!(rt; first_wrong(rt.alloc(), WIDE_OUTPUTS)?, None);
+    Ok(())
 }

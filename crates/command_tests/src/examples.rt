@@ -1,10 +1,10 @@
 //! Programs evaluated on inputs and their fronts. Inputs and outputs are event lines; each output was
 //! worked out by hand.
 
+use crate::outside::{link, words, written};
 use delta_run::delta;
-use port::{MemLink, MemShelf, MemSink, Move};
+use port::{MemShelf, MemSink};
 use std::alloc::Global;
-use std::process::Abort;
 use std::test::Fail;
 
 const SWAP: &str = "main(x : Int, y : Int) : Int || Int = (y, x)";
@@ -43,129 +43,147 @@ const COPY: &str =
     "fun copy(xs : Int*) : Int* = case xs of { nil => nil | y :: ys => y :: copy(ys) }
 main(xs : Int*) : Int* = copy(xs)";
 
-// Runs words over the file `program`, and answers the status and what was written.
-fn run(alloc: Global, words: &[&str], text: &str, input: &[u8]) -> Result<(u8, Vec<u8>), Fail> {
-    let mut given = Vec::new(alloc);
-    for word in words {
-        given.push(String::from_str(alloc, *word)?)?;
-    }
+// A shelf that holds a text as the file `program`.
+fn shelf_of(alloc: Global, text: &str) -> Result<MemShelf, Fail> {
+    let name = String::from_str(alloc, "program")?;
     let mut files = Vec::new(alloc);
-    files.push((
-        String::from_str(alloc, "program")?,
-        text.as_bytes().to_vec(alloc)?,
-    ))?;
-    let mut pieces = Vec::new(alloc);
-    pieces.push(input.to_vec(alloc)?)?;
-    let mut shelf = MemShelf::new(alloc, files, Vec::new(alloc));
-    let mut link = MemLink::new(alloc, pieces, Vec::new(alloc), Vec::new(alloc), 4096);
-    let mut notes = MemSink::new(alloc, Vec::new(alloc));
-    let status = delta(alloc, &given, &mut shelf, &mut link, &mut notes);
-    let mut written = Vec::new(alloc);
-    for step in link.log() {
-        if let Move::Out(bytes) = step {
-            written.extend_from_slice(bytes.as_slice())?;
-        }
-    }
-    Ok((status, written))
+    files.push((name, text.as_bytes().to_vec(alloc)?))?;
+    Ok(MemShelf::new(alloc, files, Vec::new(alloc)))
 }
 
-// Evaluates a program on the frames of lines, and compares the lines of what was written.
-fn evaluate(
-    rt: &impl Abort,
-    alloc: Global,
-    text: &str,
-    input: &str,
-    output: &str,
-) -> Result<(), Fail> {
-    let (_, frames) = run(alloc, &["text", "--frames"], "", input.as_bytes())?;
-    let (status, evaluated) = run(alloc, &["eval", "program"], text, &frames)?;
-    assert!(rt; status == 0 || status == 6);
-    let (_, lines) = run(alloc, &["text"], "", &evaluated)?;
-    assert_eq!(rt; lines.as_slice(), output.as_bytes());
-    Ok(())
+// Runs words over the file `program`, and answers the status and what was written.
+fn run(alloc: Global, line: &str, text: &str, input: &[u8]) -> Result<(u8, Vec<u8>), Fail> {
+    let given = words(alloc, line)?;
+    let mut shelf = shelf_of(alloc, text)?;
+    let mut link = link(alloc, input, 4096, 4096)?;
+    let mut notes = MemSink::new(alloc, Vec::new(alloc));
+    let status = delta(alloc, &given, &mut shelf, &mut link, &mut notes);
+    Ok((status, written(alloc, &link)?))
 }
+
+// The frames of lines.
+fn frames_of(alloc: Global, lines: &str) -> Result<Vec<u8>, Fail> {
+    let (_, frames) = run(alloc, "text --frames", "", lines.as_bytes())?;
+    Ok(frames)
+}
+
+// Whether these frames have these lines.
+fn have_lines(alloc: Global, frames: &[u8], lines: &str) -> Result<bool, Fail> {
+    let (_, found) = run(alloc, "text", "", frames)?;
+    Ok(found.as_slice() == lines.as_bytes())
+}
+
+// Whether a program is evaluated on the frames of lines to the frames of such lines.
+fn gives(alloc: Global, text: &str, input: &str, output: &str) -> Result<bool, Fail> {
+    let frames = frames_of(alloc, input)?;
+    let (status, evaluated) = run(alloc, "eval program", text, &frames)?;
+    Ok((status == 0 || status == 6) && have_lines(alloc, &evaluated, output)?)
+}
+
+// Whether each program gives the lines behind it on the lines between.
+fn give(alloc: Global, rows: &[(&str, &str, &str)]) -> Result<bool, Fail> {
+    let mut all = true;
+    for (text, input, output) in rows {
+        all = all && gives(alloc, text, input, output)?;
+    }
+    Ok(all)
+}
+
+// Whether a text is accepted.
+fn is_accepted(alloc: Global, text: &str) -> Result<bool, Fail> {
+    let (status, _) = run(alloc, "check program", text, b"")?;
+    Ok(status == 0)
+}
+
+const PROGRAMS: &[&str] = &[
+    SWAP, SIDES, TWICE, IN_TURN, DOUBLE, SUMS, ALARM, CHOICE, TOTAL, COPY,
+];
 
 #[test]
 fn examples_are_accepted(rt: HostRuntime) -> Result<(), Fail> {
-    for text in [
-        SWAP, SIDES, TWICE, IN_TURN, DOUBLE, SUMS, ALARM, CHOICE, TOTAL, COPY,
-    ] {
-        let (status, _) = run(rt.alloc(), &["check", "program"], text, b"")?;
-        assert_eq!(rt; status, 0);
+    for text in PROGRAMS {
+        assert!(rt; is_accepted(rt.alloc(), text)?);
     }
     Ok(())
 }
 
+const SIDE_BY_SIDE: &[(&str, &str, &str)] = &[
+    (SWAP, "R int 2\n", "L int 2\n"),
+    (SWAP, "R int 2\nL int 1\n", "L int 2\nR int 1\n"),
+    (SWAP, "L int 1\nR int 2\n", "L int 2\nR int 1\n"),
+    (SIDES, "L int 1\nR int 2\n", "L int 2\nR int 1\n"),
+    (TWICE, "int 7\n", "L int 7\nR int 7\n"),
+    (IN_TURN, "F int 1\n", "F int 1\ncut\n"),
+    (IN_TURN, "F int 1\ncut\nint 2\n", "F int 1\ncut\nint 2\n"),
+    (CHOICE, "R int 5\n", ""),
+    (CHOICE, "R int 5\nL inl\n", "int 5\n"),
+    (CHOICE, "L inr\nL int 6\n", "int 6\n"),
+];
+
 #[test]
 fn order_of_sides_is_free(rt: HostRuntime) -> Result<(), Fail> {
-    let alloc = rt.alloc();
-    evaluate(&rt, alloc, SWAP, "R int 2\n", "L int 2\n")?;
-    let both = "L int 2\nR int 1\n";
-    evaluate(&rt, alloc, SWAP, "R int 2\nL int 1\n", both)?;
-    evaluate(&rt, alloc, SWAP, "L int 1\nR int 2\n", both)?;
-    evaluate(&rt, alloc, SIDES, "L int 1\nR int 2\n", both)?;
-    evaluate(&rt, alloc, TWICE, "int 7\n", "L int 7\nR int 7\n")?;
-    evaluate(&rt, alloc, IN_TURN, "F int 1\n", "F int 1\ncut\n")?;
-    let turn = "F int 1\ncut\nint 2\n";
-    evaluate(&rt, alloc, IN_TURN, turn, turn)?;
-    evaluate(&rt, alloc, CHOICE, "R int 5\n", "")?;
-    evaluate(&rt, alloc, CHOICE, "R int 5\nL inl\n", "int 5\n")?;
-    evaluate(&rt, alloc, CHOICE, "L inr\nL int 6\n", "int 6\n")
+    assert!(rt; give(rt.alloc(), SIDE_BY_SIDE)?);
+    Ok(())
 }
+
+const FEEDS: &[(&str, &str, &str)] = &[
+    (DOUBLE, "", ""),
+    (DOUBLE, "item\n", ""),
+    (DOUBLE, "item\nF int 3\n", "item\nF int 6\ncut\n"),
+    (DOUBLE, "item\nF int 3\ncut\n", "item\nF int 6\ncut\n"),
+    (
+        DOUBLE,
+        "item\nF int 3\ncut\nend\n",
+        "item\nF int 6\ncut\nend\n",
+    ),
+    (COPY, "item\n", "item\n"),
+    (
+        COPY,
+        "item\nF int 7\ncut\nend\n",
+        "item\nF int 7\ncut\nend\n",
+    ),
+    (
+        SUMS,
+        "item\nF int 2\ncut\nitem\nF int 3\ncut\nend\n",
+        "item\nF int 2\ncut\nitem\nF int 5\ncut\nend\n",
+    ),
+    (
+        TOTAL,
+        "item\nF int 9223372036854775807\ncut\nitem\nF int 1\ncut\n",
+        "",
+    ),
+    (
+        TOTAL,
+        "item\nF int 9223372036854775807\ncut\nitem\nF int 1\ncut\nend\n",
+        "int 9223372036854775807\n",
+    ),
+];
 
 #[test]
 fn feeds_are_answered_as_far_as_they_came(rt: HostRuntime) -> Result<(), Fail> {
-    let alloc = rt.alloc();
-    let rows = [
-        ("", ""),
-        ("item\n", ""),
-        ("item\nF int 3\n", "item\nF int 6\ncut\n"),
-        ("item\nF int 3\ncut\n", "item\nF int 6\ncut\n"),
-        ("item\nF int 3\ncut\nend\n", "item\nF int 6\ncut\nend\n"),
-    ];
-    for (input, output) in rows {
-        evaluate(&rt, alloc, DOUBLE, input, output)?;
-    }
-    evaluate(&rt, alloc, COPY, "item\n", "item\n")?;
-    let feed = "item\nF int 7\ncut\nend\n";
-    evaluate(&rt, alloc, COPY, feed, feed)?;
-    let two = "item\nF int 2\ncut\nitem\nF int 3\ncut\nend\n";
-    let sums = "item\nF int 2\ncut\nitem\nF int 5\ncut\nend\n";
-    evaluate(&rt, alloc, SUMS, two, sums)?;
-    let most = "item\nF int 9223372036854775807\ncut\nitem\nF int 1\ncut\n";
-    evaluate(&rt, alloc, TOTAL, most, "")?;
-    let all = "item\nF int 9223372036854775807\ncut\nitem\nF int 1\ncut\nend\n";
-    evaluate(&rt, alloc, TOTAL, all, "int 9223372036854775807\n")
+    assert!(rt; give(rt.alloc(), FEEDS)?);
+    Ok(())
 }
 
 #[test]
 fn alarm_stands_beside_the_readings(rt: HostRuntime) -> Result<(), Fail> {
-    let alloc = rt.alloc();
     let input = "item\nF int 7\ncut\nitem\nF int 200\ncut\nend\n";
     let output =
         "L item\nL F int 7\nL cut\nL item\nL F int 200\nL cut\nL end\nR item\nR F one\nR cut\nR end\n";
-    evaluate(&rt, alloc, ALARM, input, output)
+    assert!(rt; gives(rt.alloc(), ALARM, input, output)?);
+    Ok(())
+}
+
+// Whether one number can't be doubled with one call, and can with two.
+fn is_spent(alloc: Global) -> Result<bool, Fail> {
+    let frames = frames_of(alloc, "item\nF int 3\ncut\nend\n")?;
+    let (spent, bytes) = run(alloc, "eval --budget 1 program", DOUBLE, &frames)?;
+    let (status, _) = run(alloc, "eval --budget 2 program", DOUBLE, &frames)?;
+    Ok(spent == 5 && bytes.is_empty() && status == 0)
 }
 
 #[test]
 fn budget_is_for_the_whole(rt: HostRuntime) -> Result<(), Fail> {
-    let alloc = rt.alloc();
-    let input = b"item\nF int 3\ncut\nend\n";
-    let (_, frames) = run(alloc, &["text", "--frames"], "", input)?;
-    let (status, bytes) = run(
-        alloc,
-        &["eval", "--budget", "1", "program"],
-        DOUBLE,
-        &frames,
-    )?;
-    assert_eq!(rt; status, 5);
-    assert!(rt; bytes.is_empty());
-    let (status, _) = run(
-        alloc,
-        &["eval", "--budget", "2", "program"],
-        DOUBLE,
-        &frames,
-    )?;
-    assert_eq!(rt; status, 0);
+    assert!(rt; is_spent(rt.alloc())?);
     Ok(())
 }

@@ -8,6 +8,8 @@ mod evaluations;
 #[cfg(test)]
 mod examples;
 #[cfg(test)]
+mod outside;
+#[cfg(test)]
 mod sources;
 #[cfg(test)]
 mod words;

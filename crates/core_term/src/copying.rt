@@ -1,8 +1,10 @@
 //! One more of a term, of a body and of a program.
 
-ghost use Rattle.std.specs.Prelude.{◌≡◌, ◌∷◌, map, string_bytes, IfOk};
+ghost use Rattle.std.specs.Prelude.{◌≡◌, ◌∷◌, ◌++◌, map, string_bytes, IfOk};
+ghost use Rattle.std.specs.List.{concat};
+ghost use Rattle.stream_type.specs.StreamType.{type_of};
 ghost use Rattle.hist_value.specs.HistExpr.{expr_of};
-ghost use Rattle.core_term.specs.CoreTerm.{term_of, term_in, places_of, places_in, typed_names_of, core_body_of, core_of, body_places, core_places};
+ghost use Rattle.core_term.specs.CoreTerm.{let_term, case_sum_term, case_star_term, wait_term, call_term, term_of, term_in, terms_from, places_of, places_in, typed_names_of, core_body_of, core_of, body_places, core_places};
 
 use crate::program::{Body, Core};
 use crate::term::{Node, Term};
@@ -13,46 +15,11 @@ use stream_type::{Memory, Ty};
 
 /// An equal term at the same places. Its only error is want of memory.
 #[cycle(copy)]
-#[tactic(auto, using(crate::proofs::Rows::rows))]
 pub fn copy(alloc: Global, n: &Node) -> Result<Node, Memory>
     ensures term { IfOk result (λ r. term_of r ≡ term_of n.now) }
     ensures places { IfOk result (λ r. places_of r ≡ places_of n.now) }
 {
-    let at = n.at;
-    match &n.term {
-        Term::Var(x) => Ok(node(at, Term::Var(*x))),
-        Term::Eps => Ok(node(at, Term::Eps)),
-        Term::Unit => Ok(node(at, Term::Unit)),
-        Term::Past(m) => Ok(node(at, Term::Past(copy_expr(alloc, m)?))),
-        Term::Par(a, b) => Ok(node(at, Term::Par(boxed(alloc, a)?, boxed(alloc, b)?))),
-        Term::Cat(a, b) => Ok(node(at, Term::Cat(boxed(alloc, a)?, boxed(alloc, b)?))),
-        Term::Inl(a) => Ok(node(at, Term::Inl(boxed(alloc, a)?))),
-        Term::Inr(a) => Ok(node(at, Term::Inr(boxed(alloc, a)?))),
-        Term::Nil => Ok(node(at, Term::Nil)),
-        Term::Cons(a, b) => Ok(node(at, Term::Cons(boxed(alloc, a)?, boxed(alloc, b)?))),
-        Term::Let(x, s, a, b) => {
-            let (s, a) = (stream_type::copy(alloc, s)?, boxed(alloc, a)?);
-            Ok(node(at, Term::Let(*x, s, a, boxed(alloc, b)?)))
-        }
-        Term::LetPar(x, y, z, a) => Ok(node(at, Term::LetPar(*x, *y, *z, boxed(alloc, a)?))),
-        Term::LetCat(x, y, z, a) => Ok(node(at, Term::LetCat(*x, *y, *z, boxed(alloc, a)?))),
-        Term::CaseSum(z, t, x, a, y, b) => {
-            let (t, a) = (stream_type::copy(alloc, t)?, boxed(alloc, a)?);
-            Ok(node(at, Term::CaseSum(*z, t, *x, a, *y, boxed(alloc, b)?)))
-        }
-        Term::CaseStar(z, t, a, y, ys, b) => {
-            let (t, a) = (stream_type::copy(alloc, t)?, boxed(alloc, a)?);
-            Ok(node(at, Term::CaseStar(*z, t, a, *y, *ys, boxed(alloc, b)?)))
-        }
-        Term::Wait(x, t, a) => {
-            let t = stream_type::copy(alloc, t)?;
-            Ok(node(at, Term::Wait(*x, t, boxed(alloc, a)?)))
-        }
-        Term::Call(f, ms, es) => {
-            let ms = copy_exprs(alloc, ms)?;
-            Ok(node(at, Term::Call(*f, ms, copy_all(alloc, es)?)))
-        }
-    }
+    Ok(node(n.at, copy_term(alloc, &n.term)?))
 }
 
 // The term at the place.
@@ -63,12 +30,122 @@ fn node(at: u32, term: Term) -> Node
     Node { at, term }
 }
 
+// An equal form.
+#[cycle(copy)]
+#[tactic(auto, using(crate::proofs::Rows::rows))]
+fn copy_term(alloc: Global, t: &Term) -> Result<Term, Memory>
+    ensures term { IfOk result (λ r. term_in r ≡ term_in t.now) }
+    ensures places { IfOk result (λ r. places_in r ≡ places_in t.now) }
+{
+    match t {
+        Term::Var(x) => Ok(Term::Var(*x)),
+        Term::Eps => Ok(Term::Eps),
+        Term::Unit => Ok(Term::Unit),
+        Term::Past(m) => Ok(Term::Past(copy_expr(alloc, m)?)),
+        Term::Par(a, b) => {
+            let (a, b) = both(alloc, a, b)?;
+            Ok(Term::Par(a, b))
+        }
+        Term::Cat(a, b) => {
+            let (a, b) = both(alloc, a, b)?;
+            Ok(Term::Cat(a, b))
+        }
+        Term::Inl(a) => Ok(Term::Inl(boxed(alloc, a)?)),
+        Term::Inr(a) => Ok(Term::Inr(boxed(alloc, a)?)),
+        Term::Nil => Ok(Term::Nil),
+        Term::Cons(a, b) => {
+            let (a, b) = both(alloc, a, b)?;
+            Ok(Term::Cons(a, b))
+        }
+        Term::Let(x, s, a, b) => copy_let(alloc, *x, s, a, b),
+        Term::LetPar(x, y, z, a) => Ok(Term::LetPar(*x, *y, *z, boxed(alloc, a)?)),
+        Term::LetCat(x, y, z, a) => Ok(Term::LetCat(*x, *y, *z, boxed(alloc, a)?)),
+        Term::CaseSum(z, t, x, a, y, b) => copy_case_sum(alloc, *z, t, *x, a, *y, b),
+        Term::CaseStar(z, t, a, y, ys, b) => copy_case_star(alloc, *z, t, a, *y, *ys, b),
+        Term::Wait(x, t, a) => copy_wait(alloc, *x, t, a),
+        Term::Call(f, ms, es) => copy_call(alloc, es, ms, *f),
+    }
+}
+
 #[cycle(copy)]
 fn boxed(alloc: Global, n: &Node) -> Result<Box<Node>, Memory>
     ensures term { IfOk result (λ r. term_of r.value ≡ term_of n.now) }
     ensures places { IfOk result (λ r. places_of r.value ≡ places_of n.now) }
 {
     Ok(Box::new(alloc, copy(alloc, n)?)?)
+}
+
+#[cycle(copy)]
+fn both(alloc: Global, a: &Node, b: &Node) -> Result<(Box<Node>, Box<Node>), Memory>
+    ensures first { IfOk result (λ r. term_of r.0.value ≡ term_of a.now) }
+    ensures second { IfOk result (λ r. term_of r.1.value ≡ term_of b.now) }
+    ensures first_places { IfOk result (λ r. places_of r.0.value ≡ places_of a.now) }
+    ensures second_places { IfOk result (λ r. places_of r.1.value ≡ places_of b.now) }
+{
+    let first = boxed(alloc, a)?;
+    Ok((first, boxed(alloc, b)?))
+}
+
+#[cycle(copy)]
+fn copy_let(alloc: Global, x: Name, s: &Ty, a: &Node, b: &Node) -> Result<Term, Memory>
+    ensures term { IfOk result (λ r. term_in r ≡ let_term x.0 (type_of s.now) (term_of a.now) (term_of b.now)) }
+    ensures places { IfOk result (λ r. places_in r ≡ places_of a.now ++ places_of b.now) }
+{
+    let (a, b) = both(alloc, a, b)?;
+    Ok(Term::Let(x, stream_type::copy(alloc, s)?, a, b))
+}
+
+#[cycle(copy)]
+fn copy_case_sum(
+    alloc: Global,
+    z: Name,
+    t: &Ty,
+    x: Name,
+    a: &Node,
+    y: Name,
+    b: &Node,
+) -> Result<Term, Memory>
+    ensures term { IfOk result (λ r. term_in r ≡ case_sum_term z.0 (type_of t.now) x.0 (term_of a.now) y.0 (term_of b.now)) }
+    ensures places { IfOk result (λ r. places_in r ≡ places_of a.now ++ places_of b.now) }
+{
+    let (a, b) = both(alloc, a, b)?;
+    Ok(Term::CaseSum(z, stream_type::copy(alloc, t)?, x, a, y, b))
+}
+
+#[cycle(copy)]
+fn copy_case_star(
+    alloc: Global,
+    z: Name,
+    t: &Ty,
+    a: &Node,
+    y: Name,
+    ys: Name,
+    b: &Node,
+) -> Result<Term, Memory>
+    ensures term { IfOk result (λ r. term_in r ≡ case_star_term z.0 (type_of t.now) (term_of a.now) y.0 ys.0 (term_of b.now)) }
+    ensures places { IfOk result (λ r. places_in r ≡ places_of a.now ++ places_of b.now) }
+{
+    let (a, b) = both(alloc, a, b)?;
+    Ok(Term::CaseStar(z, stream_type::copy(alloc, t)?, a, y, ys, b))
+}
+
+#[cycle(copy)]
+fn copy_wait(alloc: Global, x: Name, t: &Ty, a: &Node) -> Result<Term, Memory>
+    ensures term { IfOk result (λ r. term_in r ≡ wait_term x.0 (type_of t.now) (term_of a.now)) }
+    ensures places { IfOk result (λ r. places_in r ≡ places_of a.now) }
+{
+    let a = boxed(alloc, a)?;
+    Ok(Term::Wait(x, stream_type::copy(alloc, t)?, a))
+}
+
+#[cycle(copy)]
+#[tactic(auto, using(crate::proofs::Rows::rows))]
+fn copy_call(alloc: Global, es: &[Node], ms: &[Expr], f: u32) -> Result<Term, Memory>
+    ensures term { IfOk result (λ r. term_in r ≡ call_term f (map expr_of ms.now) (terms_from (map term_of es.now))) }
+    ensures places { IfOk result (λ r. places_in r ≡ concat (map places_of es.now)) }
+{
+    let es = copy_all(alloc, es)?;
+    Ok(Term::Call(f, copy_exprs(alloc, ms)?, es))
 }
 
 #[cycle(copy)]
@@ -98,10 +175,13 @@ pub fn copy_core(alloc: Global, c: &Core) -> Result<Core, Memory>
     ensures program { IfOk result (λ r. core_of r ≡ core_of c.now) }
     ensures places { IfOk result (λ r. core_places r ≡ core_places c.now) }
 {
-    let funs = copy_bodies(alloc, &c.funs)?;
-    let main = copy_body(alloc, &c.main)?;
     let texts = copy_texts(alloc, &c.texts)?;
-    Ok(Core { funs, main, texts })
+    let funs = copy_bodies(alloc, &c.funs)?;
+    Ok(Core {
+        funs,
+        main: copy_body(alloc, &c.main)?,
+        texts,
+    })
 }
 
 fn copy_bodies(alloc: Global, bodies: &[Body]) -> Result<Vec<Body>, Memory>

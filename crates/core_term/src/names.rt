@@ -33,34 +33,94 @@ fn add_free<'a>(n: &Node, around: &'a Around<'a>, found: &mut Vec<Name>) -> Resu
         Term::Var(x) => add_name(*x, around, found),
         Term::Eps | Term::Unit | Term::Nil | Term::Past(_) => Ok(()),
         Term::Par(a, b) | Term::Cat(a, b) | Term::Cons(a, b) => {
-            add_free(a, around, found)?;
-            add_free(b, around, found)
+            add_free_of_two(a, around, b, around, found)
         }
         Term::Inl(a) | Term::Inr(a) => add_free(a, around, found),
         Term::Let(x, _, a, b) => {
-            add_free(a, around, found)?;
-            add_free(b, &Around::Name(*x, &*around), found)
+            add_free_of_two(a, &*around, b, &Around::Name(*x, &*around), found)
         }
         Term::LetPar(x, y, z, a) | Term::LetCat(x, y, z, a) => {
-            add_name(*z, around, found)?;
-            add_free(a, &Around::Name(*y, &Around::Name(*x, &*around)), found)
+            let left = Around::Name(*x, &*around);
+            add_name_and_free(*z, &*around, a, &Around::Name(*y, &left), found)
         }
-        Term::CaseSum(z, _, x, a, y, b) => {
-            add_name(*z, around, found)?;
-            add_free(a, &Around::Name(*x, &*around), found)?;
-            add_free(b, &Around::Name(*y, &*around), found)
-        }
+        Term::CaseSum(z, _, x, a, y, b) => add_name_and_two(
+            *z,
+            &*around,
+            a,
+            &Around::Name(*x, &*around),
+            b,
+            &Around::Name(*y, &*around),
+            found,
+        ),
         Term::CaseStar(z, _, a, y, ys, b) => {
-            add_name(*z, around, found)?;
-            add_free(a, around, found)?;
-            add_free(b, &Around::Name(*ys, &Around::Name(*y, &*around)), found)
+            let item = Around::Name(*y, &*around);
+            add_name_and_two(
+                *z,
+                &*around,
+                a,
+                &*around,
+                b,
+                &Around::Name(*ys, &item),
+                found,
+            )
         }
-        Term::Wait(x, _, a) => {
-            add_name(*x, around, found)?;
-            add_free(a, around, found)
-        }
+        Term::Wait(x, _, a) => add_name_and_free(*x, around, a, around, found),
         Term::Call(_, _, arguments) => add_free_of_all(arguments, around, found),
     }
+}
+
+// The same of two terms in turn, each with the names that are bound around it.
+#[cycle(free)]
+fn add_free_of_two<'a>(
+    a: &Node,
+    first: &'a Around<'a>,
+    b: &Node,
+    second: &'a Around<'a>,
+    found: &mut Vec<Name>,
+) -> Result<(), Memory>
+    ensures { OnOk result (numbers_of found.new.items
+        ≡ add_new (add_new (numbers_of found.old.items) (less (names_around first.now) (free_names (term_of a.now))))
+        (less (names_around second.now) (free_names (term_of b.now)))) }
+{
+    add_free(a, first, found)?;
+    add_free(b, second, found)
+}
+
+// Adds a name, and after it the free names of a term.
+#[cycle(free)]
+fn add_name_and_free<'a>(
+    x: Name,
+    around: &'a Around<'a>,
+    a: &Node,
+    inner: &'a Around<'a>,
+    found: &mut Vec<Name>,
+) -> Result<(), Memory>
+    ensures { OnOk result (numbers_of found.new.items
+        ≡ add_new (add_new (numbers_of found.old.items) (less (names_around around.now) (x.0 ∷ [])))
+        (less (names_around inner.now) (free_names (term_of a.now)))) }
+{
+    add_name(x, around, found)?;
+    add_free(a, inner, found)
+}
+
+// Adds a name, and after it the free names of two terms.
+#[cycle(free)]
+fn add_name_and_two<'a>(
+    x: Name,
+    around: &'a Around<'a>,
+    a: &Node,
+    first: &'a Around<'a>,
+    b: &Node,
+    second: &'a Around<'a>,
+    found: &mut Vec<Name>,
+) -> Result<(), Memory>
+    ensures { OnOk result (numbers_of found.new.items
+        ≡ add_new (add_new (add_new (numbers_of found.old.items) (less (names_around around.now) (x.0 ∷ [])))
+        (less (names_around first.now) (free_names (term_of a.now))))
+        (less (names_around second.now) (free_names (term_of b.now)))) }
+{
+    add_name(x, around, found)?;
+    add_free_of_two(a, first, b, second, found)
 }
 
 // The same of terms, in turn.

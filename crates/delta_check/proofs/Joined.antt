@@ -1,11 +1,10 @@
 -- What is answered of nodes that stand one after the other.
-use Rattle.std.proofs.Common.{◌≡◌, ℕ, suc, arith, ◌+◌, ◌<◌, ◌≤◌, ◌^◌, Bool, List, [], ◌∷◌, ◌++◌, length, length-append, refl, ap, sym, subst, ◌∙◌}
+use Rattle.std.proofs.Common.{◌≡◌, ℕ, arith, ◌+◌, ◌<◌, ◌≤◌, ◌^◌, Bool, List, [], ◌∷◌, ◌++◌, length, length-append, refl, ap, sym, subst, ◌∙◌}
 use Rattle.std.specs.Prelude.{Option, Some, None, option_map, Result, Ok, Err, IsSomeAnd}
 use Rattle.hist_value.specs.HistExpr.{HistExpr}
 use Rattle.hist_value.specs.Refusal.{HistRefusal}
 use Rattle.stream_type.specs.StreamType.{StreamType}
-use Rattle.core_term.specs.declared.term.Node.{Node}
-use Rattle.core_term.specs.CoreTerm.{CoreTerm, CoreTerms, CoreBody, leaf_types, fun_at, var_term, eps_term, unit_term, nil_term, past_term, par_term, cat_term, cons_term, inl_term, inr_term, let_term, let_par_term, let_cat_term, case_sum_term, case_star_term, wait_term, call_term, node_count, term_of, places_of}
+use Rattle.core_term.specs.CoreTerm.{CoreTerm, CoreTerms, CoreBody, leaf_types, fun_at, var_term, eps_term, unit_term, nil_term, past_term, par_term, cat_term, cons_term, inl_term, inr_term, let_term, let_par_term, let_cat_term, case_sum_term, case_star_term, wait_term, call_term, node_count}
 use Rattle.core_term.specs.Typing.{Context}
 use Rattle.core_term.specs.TypeFaults.{Cause, NodeAt, node, first_some, nodes_of, nodes_among}
 use Rattle.delta_check.specs.Checking.{Finds, parts_of}
@@ -15,7 +14,6 @@ use Rattle.delta_check.specs.declared.fault.TypeCause.{TypeCause}
 use Rattle.delta_check.specs.declared.fault.TypeFault.{TypeFault}
 use Rattle.delta_check.specs.declared.fault.TypeFault.TheVariants.{Memory, Refused}
 use Rattle.delta_check.proofs.Firsts.{first_in, first_in-append, length-nodes}
-use Rattle.delta_check.proofs.NodePlaces.{length-places}
 use Rattle.delta_check.proofs.Places.{at_first, at_second}
 
 -- a fault tells what is found first, wherever that is found
@@ -72,31 +70,6 @@ module _ (funs : List CoreBody) (counts : ℕ → Bool) where
       go (Err f) g =
           let e : m ≡ n + length ps = omega (arith, next, l) in
           (tells_first-as f (first_in funs counts m js) (first_in funs counts n (is ++ js)) (λ k e. same ∙ e) (g.0), place_in-second f m n ps qs e (g.1))
-
-  -- a part of a term, by its context, its node and its type
-  pub part_as : (n : ℕ) (c d : Context) (a b : Node) (s t : StreamType) (r : Result ℕ TypeFault) → c ≡ d → a ≡ b → s ≡ t
-      → Finds funs counts n (nodes_of funs counts c (term_of a) s) (places_of a) r → Finds funs counts n (nodes_of funs counts d (term_of b) t) (places_of b) r
-  part_as n c d a b s t r ec ea es h =
-      let P : Context → Type 0 = λ x. Finds funs counts n (nodes_of funs counts x (term_of a) s) (places_of a) r in
-      let Q : Node → Type 0 = λ x. Finds funs counts n (nodes_of funs counts d (term_of x) s) (places_of x) r in
-      let R : StreamType → Type 0 = λ x. Finds funs counts n (nodes_of funs counts d (term_of b) x) (places_of b) r in
-      subst R es (subst Q ea (subst P ec h))
-
-  -- two parts, of which the first breaks a rule
-  pub parts_first : (n : ℕ) (c d e : Context) (a b v : Node) (s t z : StreamType) (f : TypeFault) → c ≡ d → a ≡ b → s ≡ t
-      → Finds funs counts n (nodes_of funs counts c (term_of a) s) (places_of a) (Err f)
-      → Finds funs counts n (nodes_of funs counts d (term_of b) t ++ nodes_of funs counts e (term_of v) z) (places_of b ++ places_of v) (Err f)
-  parts_first n c d e a b v s t z f ec ea es h =
-      finds_first n (nodes_of funs counts d (term_of b) t) (nodes_of funs counts e (term_of v) z) (places_of b) (places_of v) f (part_as n c d a b s t (Err f) ec ea es h)
-
-  -- the first breaks none
-  pub parts_then : (n m : ℕ) (c d x e : Context) (a b u v : Node) (s t w z : StreamType) (r : Result ℕ TypeFault) → c ≡ d → a ≡ b → s ≡ t → x ≡ e → u ≡ v → w ≡ z
-      → Finds funs counts n (nodes_of funs counts c (term_of a) s) (places_of a) (Ok m)
-      → Finds funs counts m (nodes_of funs counts x (term_of u) w) (places_of u) r
-      → Finds funs counts n (nodes_of funs counts d (term_of b) t ++ nodes_of funs counts e (term_of v) z) (places_of b ++ places_of v) r
-  parts_then n m c d x e a b u v s t w z r ec ea es ex eu ew h g =
-      finds_then n m (nodes_of funs counts d (term_of b) t) (nodes_of funs counts e (term_of v) z) (places_of b) (places_of v) r
-      (length-places b ∙ sym (length-nodes funs counts d (term_of b) t)) (part_as n c d a b s t (Ok m) ec ea es h) (part_as m x e u v w z r ex eu ew g)
 
   -- the arguments of a call are its parts
   pub call_found : (n : ℕ) (c : Context) (e : CoreTerm) (r : StreamType) (f : ℕ) (ms : List HistExpr) (es : CoreTerms) (ts : List StreamType) (ps qs : List ℕ) (q : Result ℕ TypeFault)

@@ -1,5 +1,5 @@
 -- What the check of nodes answers.
-use Rattle.std.specs.Prelude.{ℕ, ◌≡◌, ◌+◌, ◌≤◌, Bool, List, [], ◌∷◌, length, Result, Ok, Err, None}
+use Rattle.std.specs.Prelude.{ℕ, ◌≡◌, ◌+◌, Bool, List, [], ◌∷◌, length, Result, Ok, Err, None}
 use Rattle.core_term.specs.CoreTerm.{CoreBody}
 use Rattle.core_term.specs.TypeFaults.{NodeAt, first_broken_of, expr_refusal}
 use Rattle.delta_check.specs.declared.fault.TypeFault.{TypeFault}

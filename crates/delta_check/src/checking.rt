@@ -1,6 +1,6 @@
 //! The check of a whole program: the first node that breaks a rule.
 
-ghost use Rattle.std.specs.Prelude.{◌≡◌, ◌+◌, ◌≤◌, ◌<◌, ◌^◌, ℕ, List, [], ◌∷◌, map, length, slice_index_or, Option, IfOk, IfErr};
+ghost use Rattle.std.specs.Prelude.{◌≡◌, ◌+◌, ◌++◌, ◌≤◌, ◌<◌, ◌^◌, ℕ, List, [], ◌∷◌, map, length, slice_index_or, Option, IfOk, IfErr};
 ghost use Rattle.std.specs.List.{concat};
 ghost use Rattle.stream_type.specs.StreamType.{type_of, eps};
 ghost use Rattle.bunch.specs.BunchTree.{tree_of, empty};
@@ -40,7 +40,10 @@ pub fn check(alloc: Global, c: Core) -> Result<Checked, TypeFault>
 {
     match input_of(alloc, &c) {
         Ok(input) => Ok(Checked::of(c, input)),
-        Err(fault) => Err(fault),
+        Err(fault) => {
+            drop(c);
+            Err(fault)
+        }
     }
 }
 
@@ -157,18 +160,15 @@ fn check_parts<'a>(
         Term::Var(_) | Term::Eps | Term::Unit | Term::Nil | Term::Past(_) => Ok(number),
         Term::Par(a, b) => {
             let (s, t) = sides(&*r, &Ty::Eps);
-            let next = check_node(alloc, a, s, scope, c, marks, number)?;
-            check_node(alloc, b, t, scope, c, marks, next)
+            check_two(alloc, a, s, scope, b, t, scope, c, marks, number)
         }
         Term::Cat(a, b) => {
             let (s, t) = steps(&*r, &Ty::Eps);
-            let next = check_node(alloc, a, s, scope, c, marks, number)?;
-            check_node(alloc, b, t, scope, c, marks, next)
+            check_two(alloc, a, s, scope, b, t, scope, c, marks, number)
         }
         Term::Cons(a, b) => {
             let (item, rest) = items(&*r, &Ty::Eps);
-            let next = check_node(alloc, a, item, scope, c, marks, number)?;
-            check_node(alloc, b, rest, scope, c, marks, next)
+            check_two(alloc, a, item, scope, b, rest, scope, c, marks, number)
         }
         Term::Inl(a) => {
             let (s, _) = cases(&*r, &Ty::Eps);
@@ -178,12 +178,7 @@ fn check_parts<'a>(
             let (_, t) = cases(&*r, &Ty::Eps);
             check_node(alloc, a, t, scope, c, marks, number)
         }
-        Term::Let(x, s, a, b) => {
-            let next = check_node(alloc, a, s, scope, c, marks, number)?;
-            let placed = let_placed(alloc, scope, a, s, b, c, marks)?;
-            let inner = Scope::Let(*x, s, &placed, &*scope);
-            check_node(alloc, b, r, &inner, c, marks, next)
-        }
+        Term::Let(x, s, a, b) => check_let(alloc, *x, s, a, b, r, scope, c, marks, number),
         Term::LetPar(x, y, z, a) => {
             let (s, t) = sides(type_or(&*scope, *z, &Ty::Eps), &Ty::Eps);
             let left = Scope::Like(*x, s, *z, &*scope);
@@ -206,23 +201,15 @@ fn check_parts<'a>(
         Term::CaseSum(z, _, x, a, y, b) => {
             let (s, t) = cases(type_or(&*scope, *z, &Ty::Eps), &Ty::Eps);
             let left = Scope::Like(*x, s, *z, &*scope);
-            let next = check_node(alloc, a, r, &left, c, marks, number)?;
-            check_node(
-                alloc,
-                b,
-                r,
-                &Scope::Like(*y, t, *z, &*scope),
-                c,
-                marks,
-                next,
-            )
+            let right = Scope::Like(*y, t, *z, &*scope);
+            check_two(alloc, a, r, &left, b, r, &right, c, marks, number)
         }
         Term::CaseStar(z, _, a, y, ys, b) => {
-            let next = check_node(alloc, a, r, scope, c, marks, number)?;
             let (item, rest) = items(type_or(&*scope, *z, &Ty::Eps), &Ty::Eps);
             let first = Scope::Like(*y, item, *z, &*scope);
             let both = Scope::Like(*ys, rest, *z, &first);
-            check_node(alloc, b, r, &Scope::Fact(*y, *ys, &both), c, marks, next)
+            let ordered = Scope::Fact(*y, *ys, &both);
+            check_two(alloc, a, r, &*scope, b, r, &ordered, c, marks, number)
         }
         Term::Wait(x, _, a) => {
             check_node(alloc, a, r, &Scope::Waited(*x, &*scope), c, marks, number)
@@ -232,6 +219,55 @@ fn check_parts<'a>(
             check_arguments(alloc, arguments, params, scope, c, marks, number)
         }
     }
+}
+
+// The same of two terms in turn, each at its type and in its scope.
+#[cycle(check)]
+fn check_two<'a>(
+    alloc: Global,
+    a: &Node,
+    s: &Ty,
+    first: &'a Scope<'a>,
+    b: &Node,
+    t: &Ty,
+    second: &'a Scope<'a>,
+    c: &Core,
+    marks: &[bool],
+    number: u32,
+) -> Result<u32, TypeFault>
+    requires { number + (node_count (term_of a.now) + node_count (term_of b.now)) < 2 ^ 32 }
+    ensures { Finds (core_of c.now).funs (counts_in (core_of c.now).funs marks.now) number
+        (nodes_of (core_of c.now).funs (counts_in (core_of c.now).funs marks.now) (context_in first.now) (term_of a.now) (type_of s.now)
+        ++ nodes_of (core_of c.now).funs (counts_in (core_of c.now).funs marks.now) (context_in second.now) (term_of b.now) (type_of t.now))
+        (places_of a.now ++ places_of b.now) result }
+{
+    let next = check_node(alloc, a, s, first, c, marks, number)?;
+    check_node(alloc, b, t, second, c, marks, next)
+}
+
+// The same of what a let binds to x, and of its body, in which x is known.
+#[cycle(check)]
+fn check_let<'a>(
+    alloc: Global,
+    x: Name,
+    s: &Ty,
+    a: &Node,
+    b: &Node,
+    r: &Ty,
+    scope: &'a Scope<'a>,
+    c: &Core,
+    marks: &[bool],
+    number: u32,
+) -> Result<u32, TypeFault>
+    requires { number + (node_count (term_of a.now) + node_count (term_of b.now)) < 2 ^ 32 }
+    ensures { Finds (core_of c.now).funs (counts_in (core_of c.now).funs marks.now) number
+        (nodes_of (core_of c.now).funs (counts_in (core_of c.now).funs marks.now) (context_in scope.now) (term_of a.now) (type_of s.now)
+        ++ nodes_of (core_of c.now).funs (counts_in (core_of c.now).funs marks.now) (with_let (core_of c.now).funs (counts_in (core_of c.now).funs marks.now) x.0 (type_of s.now) (term_of a.now) (context_in scope.now)) (term_of b.now) (type_of r.now))
+        (places_of a.now ++ places_of b.now) result }
+{
+    let placed = let_placed(alloc, &*scope, a, s, b, c, marks)?;
+    let inner = Scope::Let(x, s, &placed, &*scope);
+    check_two(alloc, a, s, &*scope, b, r, &inner, c, marks, number)
 }
 
 // The same of arguments, each at the type of its parameter; one without a parameter is expected to be

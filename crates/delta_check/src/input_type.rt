@@ -19,7 +19,7 @@ use stream_type::Ty;
 
 /// The type of the input of a program, where it is typed, and else the first broken rule, as `check` tells
 /// it. It looks at the program by reference: each way out on which a whole program is dropped is dear to
-/// prove, and `check` has one.
+/// prove, and `check` gives it to `drop` on its only one.
 pub(crate) fn input_of(alloc: Global, c: &Core) -> Result<Ty, TypeFault>
     requires { IsCore (core_of c.now) }
     ensures input { IfOk result (λ t. type_of t ≡ as_type (core_of c.now).main.params) }

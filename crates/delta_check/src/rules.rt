@@ -6,7 +6,7 @@ ghost use Rattle.hist_value.specs.HistExpr.{expr_of};
 ghost use Rattle.hist_value.specs.HistType.{past};
 ghost use Rattle.hist_value.specs.Environment.{types_of};
 ghost use Rattle.hist_value.specs.Refusal.{HistRefusal};
-ghost use Rattle.core_term.specs.CoreTerm.{term_of, terms_from, core_body_of, core_of, typed_names_of, call_term};
+ghost use Rattle.core_term.specs.CoreTerm.{term_of, terms_from, core_body_of, core_of, typed_names_of, past_types, call_term};
 ghost use Rattle.core_term.specs.FreeNames.{free_names};
 ghost use Rattle.core_term.specs.Inert.{has_arity};
 ghost use Rattle.core_term.specs.TypeFaults.{Cause, expr_refusal, cause_number, lower, of_subject, of_form, of_term, of_type, of_order, of_pasts, of_passing, found_where, wait_null, other_arity, out_of_order, jumpy, history_fault, first_passed, first_jumpy};
@@ -184,10 +184,28 @@ fn lowest(a: Option<TypeCause>, b: Option<TypeCause>) -> Option<TypeCause>
         (Some(a), None) => Some(a),
         (Some(a), Some(b)) => {
             if number(&b) < number(&a) {
+                drop(a);
                 Some(b)
             } else {
+                drop(b);
                 Some(a)
             }
+        }
+    }
+}
+
+// The same, where memory for the second may be wanting.
+fn lowest_of(
+    a: Option<TypeCause>,
+    b: Result<Option<TypeCause>, Memory>,
+) -> Result<Option<TypeCause>, Memory>
+    ensures { (p q : Option (Cause HistRefusal)) → Tells a p → IfOk b (λ o. Tells o q) → IfOk result (λ o. Tells o (lower p q)) }
+{
+    match b {
+        Ok(b) => Ok(lowest(a, b)),
+        Err(fault) => {
+            drop(a);
+            Err(fault)
         }
     }
 }
@@ -224,8 +242,7 @@ fn ordered_rule(
         (of_order {Fault = HistRefusal} (context_in scope.now) (free_names (term_of a.now)) (free_names (term_of b.now))))) }
 {
     let term = term_rule(alloc, form, r)?;
-    let order = order_rule(alloc, scope, a, b)?;
-    Ok(lowest(term, order))
+    lowest_of(term, order_rule(alloc, scope, a, b))
 }
 
 // The rules of a case.
@@ -240,8 +257,7 @@ fn case_rule(
     ensures { IfOk result (λ o. Tells o (lower (of_subject {Fault = HistRefusal} (context_in scope.now) z.0 (of_form (form_test form))) (of_type {Fault = HistRefusal} (type_of t.now) (type_of r.now)))) }
 {
     let subject = subject_rule(alloc, scope, z, form)?;
-    let written = type_rule(alloc, t, r)?;
-    Ok(lowest(subject, written))
+    lowest_of(subject, type_rule(alloc, t, r))
 }
 
 // The rules of a wait.
@@ -254,9 +270,7 @@ fn wait_rule(
 ) -> Result<Option<TypeCause>, Memory>
     ensures { IfOk result (λ o. Tells o (lower (of_subject {Fault = HistRefusal} (context_in scope.now) x.0 (λ s. found_where (null_of s) (wait_null x.0))) (of_type {Fault = HistRefusal} (type_of t.now) (type_of r.now)))) }
 {
-    let subject = null_rule(scope, x);
-    let written = type_rule(alloc, t, r)?;
-    Ok(lowest(subject, written))
+    lowest_of(null_rule(scope, x), type_rule(alloc, t, r))
 }
 
 // A historical expression is of the type of the expected stream's values.
@@ -356,6 +370,23 @@ fn jumpy_rule(
     }
 }
 
+// The rules on the arguments behind others and on the historical arguments.
+fn still_rule(
+    alloc: Global,
+    c: &Core,
+    marks: &[bool],
+    scope: &Scope<'_>,
+    b: &Body,
+    past: &[Expr],
+    arguments: &[Node],
+) -> Result<Option<TypeCause>, Memory>
+    ensures { IfOk result (λ o. Tells o (lower (option_map jumpy (first_jumpy (core_of c.now).funs (counts_in (core_of c.now).funs marks.now) (core_body_of b.now) (terms_from (map term_of arguments.now))))
+        (of_pasts [] (λ _. false) expr_refusal (context_in scope.now).past (map expr_of past.now) (past_types (core_body_of b.now))))) }
+{
+    let jumpy = jumpy_rule(alloc, c, marks, b, arguments)?;
+    lowest_of(jumpy, pasts_rule(alloc, scope, past, &b.past))
+}
+
 // The rules on the arguments of a call.
 fn passing_rule(
     alloc: Global,
@@ -369,9 +400,10 @@ fn passing_rule(
     ensures { IfOk result (λ o. Tells o (of_passing (core_of c.now).funs (counts_in (core_of c.now).funs marks.now) expr_refusal (context_in scope.now) (core_body_of b.now) (map expr_of past.now) (terms_from (map term_of arguments.now)))) }
 {
     let order = passed_rule(alloc, scope, b, arguments)?;
-    let jumpy = jumpy_rule(alloc, c, marks, b, arguments)?;
-    let pasts = pasts_rule(alloc, scope, past, &b.past)?;
-    Ok(lowest(order, lowest(jumpy, pasts)))
+    lowest_of(
+        order,
+        still_rule(alloc, c, marks, scope, b, past, arguments),
+    )
 }
 
 // The rules on the arguments, and that there are as many as parameters.
@@ -413,8 +445,10 @@ fn call_rule(
         None => Ok(Some(TypeCause::Arity(f))),
         Some(b) => {
             let result = type_rule(alloc, &b.result, r)?;
-            let passed = arguments_rule(alloc, c, marks, scope, f, b, past, arguments)?;
-            Ok(lowest(result, passed))
+            lowest_of(
+                result,
+                arguments_rule(alloc, c, marks, scope, f, b, past, arguments),
+            )
         }
     }
 }

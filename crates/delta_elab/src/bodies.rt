@@ -63,19 +63,14 @@ pub fn body(
         known: function.known,
     };
     let scope = Scope::Params(&numbers, &function.params);
-    let term = core(
-        alloc,
-        &setting,
-        function.body,
-        &scope,
-        Some(&function.result),
-        origins,
-    )?;
+    let wanted = Some(&function.result);
+    let term = core(alloc, &setting, function.body, &scope, wanted, origins)?;
+    let result = copy(alloc, &function.result)?;
     Ok(Body {
         past,
-        params,
-        result: copy(alloc, &function.result)?,
-        body: term,
+        params: Box::into_inner(params),
+        result,
+        body: Box::into_inner(term),
     })
 }
 
@@ -109,27 +104,34 @@ fn number_params(
     params: &Bunch,
     numbers: &mut Vec<(Name, Name)>,
     origins: &mut Vec<Option<Name>>,
-) -> Result<Bunch, Memory>
-    ensures params { IfOk result (λ b. tree_of b ≡ numbered_params (tree_of params.now) (length (origins_of origins.old.items))) }
+) -> Result<Box<Bunch>, Memory>
+    ensures params { IfOk result (λ b. tree_of b.value ≡ numbered_params (tree_of params.now) (length (origins_of origins.old.items))) }
     ensures numbers { OnOk result (number_entries numbers.new.items ≡ number_entries numbers.old.items ++ entries_from (leaf_names (tree_of params.now)) (length (origins_of origins.old.items))) }
     ensures next { OnOk result (origins_of origins.new.items ≡ origins_of origins.old.items ++ map Some (leaf_names (tree_of params.now))) }
 {
     match params {
-        Bunch::Empty => Ok(Bunch::Empty),
+        Bunch::Empty => boxed(alloc, Bunch::Empty),
         Bunch::Leaf(x, t) => {
             let n = named(*x, origins)?;
             numbers.push((*x, n))?;
-            Ok(Bunch::Leaf(n, copy(alloc, t)?))
+            boxed(alloc, Bunch::Leaf(n, copy(alloc, t)?))
         }
         Bunch::Comma(a, b) => {
             let a = number_params(alloc, a, numbers, origins)?;
             let b = number_params(alloc, b, numbers, origins)?;
-            Ok(Bunch::Comma(Box::new(alloc, a)?, Box::new(alloc, b)?))
+            boxed(alloc, Bunch::Comma(a, b))
         }
         Bunch::Semi(a, b) => {
             let a = number_params(alloc, a, numbers, origins)?;
             let b = number_params(alloc, b, numbers, origins)?;
-            Ok(Bunch::Semi(Box::new(alloc, a)?, Box::new(alloc, b)?))
+            boxed(alloc, Bunch::Semi(a, b))
         }
     }
+}
+
+// The bunch in a box.
+fn boxed(alloc: Global, b: Bunch) -> Result<Box<Bunch>, Memory>
+    ensures { IfOk result (λ r. tree_of r.value ≡ tree_of b) }
+{
+    Ok(Box::new(alloc, b)?)
 }

@@ -1,12 +1,11 @@
 //! The core of an expression.
 
-ghost use Rattle.std.specs.Prelude.{◌≡◌, ◌∷◌, ◌++◌, suc, length, map, IfOk, OnOk};
+ghost use Rattle.std.specs.Prelude.{◌≡◌, ◌+◌, ◌++◌, suc, length, map, IfOk, OnOk};
 ghost use Rattle.std.specs.List.{concat};
-ghost use Rattle.stream_type.specs.StreamType.{type_of, eps, one, sum};
-ghost use Rattle.hist_value.specs.HistExpr.{expr_of};
+ghost use Rattle.stream_type.specs.StreamType.{eps};
 ghost use Rattle.delta_tree.specs.SyntaxTree.{typed_at, let_at, let_par_at, let_cat_at, case_sum_at, case_star_at, wait_at, if_at, call_at};
 ghost use Rattle.delta_tree.specs.Tree.{type_tree_of, hist_of, expression_of, head_of, expressions_of};
-ghost use Rattle.core_term.specs.CoreTerm.{term_of, places_of, terms_from, let_term, past_term, case_sum_term};
+ghost use Rattle.core_term.specs.CoreTerm.{term_of, places_of, terms_from};
 ghost use Rattle.delta_meaning.specs.NewNames.{new_in, new_in_head, new_in_subject, new_in_arguments};
 ghost use Rattle.delta_meaning.specs.NodePlaces.{node_places, head_places, subject_places, argument_places};
 ghost use Rattle.delta_meaning.specs.Elaboration.{subject};
@@ -15,7 +14,10 @@ ghost use Rattle.delta_elab.specs.Subjects.{core_in, head_in, arguments_in, boun
 ghost use Rattle.delta_elab.specs.Sources.{param_types};
 ghost use Rattle.delta_elab.specs.Wanted.{wanted_of};
 
-use crate::heads::{Subject, call_node, enclosed, head_type, node, param_type};
+use crate::heads::{
+    Subject, call_node, case_star_node, case_sum_node, enclosed, head_type, if_node, node,
+    param_type,
+};
 use crate::histories::{all_numbered, numbered};
 use crate::numbering::{added, named};
 use crate::parts::{
@@ -23,12 +25,10 @@ use crate::parts::{
     sum_right,
 };
 use crate::scope::{Scope, number_of};
-use crate::source::{Setting, Source, function_of_name};
+use crate::source::{Setting, Source, function_of_name, meant};
 use bunch::Name;
 use core_term::{Node, Term};
-use delta_meaning::type_meant;
 use delta_tree::{Exp, Form, Head, HeadForm, Hist, TyExp};
-use hist_value::Expr;
 use std::alloc::Global;
 use stream_type::{Memory, Ty};
 
@@ -43,43 +43,67 @@ pub fn core<'a>(
     scope: &'a Scope<'a>,
     r: Option<&Ty>,
     origins: &mut Vec<Option<Name>>,
-) -> Result<Node, Memory>
-    ensures term { IfOk result (λ n. term_of n ≡ core_in setting.now scope.now (expression_of e.now) (wanted_of r.entry) (length (origins_of origins.old.items))) }
-    ensures places { IfOk result (λ n. places_of n ≡ node_places (expression_of e.now)) }
+) -> Result<Box<Node>, Memory>
+    ensures term { IfOk result (λ n. term_of n.value ≡ core_in setting.now scope.now (expression_of e.now) (wanted_of r.entry) (length (origins_of origins.old.items))) }
+    ensures places { IfOk result (λ n. places_of n.value ≡ node_places (expression_of e.now)) }
     ensures next { OnOk result (origins_of origins.new.items ≡ origins_of origins.old.items ++ new_in (expression_of e.now)) }
 {
     let at = e.at;
     match &*e.form {
-        Form::Var(x) => Ok(node(at, Term::Var(number_of(scope, *x)))),
-        Form::Eps => Ok(node(at, Term::Eps)),
-        Form::Unit => Ok(node(at, Term::Unit)),
-        Form::Nil => Ok(node(at, Term::Nil)),
+        Form::Var(x) => node(alloc, at, Term::Var(number_of(scope, *x))),
+        Form::Eps => node(alloc, at, Term::Eps),
+        Form::Unit => node(alloc, at, Term::Unit),
+        Form::Nil => node(alloc, at, Term::Nil),
         Form::Past(m) => {
             let m = numbered(alloc, &m.expr, scope, origins)?;
-            Ok(node(at, Term::Past(m)))
+            node(alloc, at, Term::Past(Box::into_inner(m)))
         }
         Form::Par(a, b) => {
-            let a = boxed(alloc, setting, a, scope, par_left(r), origins)?;
-            let b = boxed(alloc, setting, b, scope, par_right(r), origins)?;
-            Ok(node(at, Term::Par(a, b)))
+            let (a, b) = both(
+                alloc,
+                setting,
+                a,
+                par_left(r),
+                b,
+                par_right(r),
+                scope,
+                origins,
+            )?;
+            node(alloc, at, Term::Par(a, b))
         }
         Form::Cat(a, b) => {
-            let a = boxed(alloc, setting, a, scope, cat_first(r), origins)?;
-            let b = boxed(alloc, setting, b, scope, cat_second(r), origins)?;
-            Ok(node(at, Term::Cat(a, b)))
+            let (a, b) = both(
+                alloc,
+                setting,
+                a,
+                cat_first(r),
+                b,
+                cat_second(r),
+                scope,
+                origins,
+            )?;
+            node(alloc, at, Term::Cat(a, b))
         }
         Form::Cons(a, b) => {
-            let a = boxed(alloc, setting, a, scope, star_item(r), origins)?;
-            let b = boxed(alloc, setting, b, scope, star_items(r), origins)?;
-            Ok(node(at, Term::Cons(a, b)))
+            let (a, b) = both(
+                alloc,
+                setting,
+                a,
+                star_item(r),
+                b,
+                star_items(r),
+                scope,
+                origins,
+            )?;
+            node(alloc, at, Term::Cons(a, b))
         }
         Form::Inl(a) => {
-            let a = boxed(alloc, setting, a, scope, sum_left(r), origins)?;
-            Ok(node(at, Term::Inl(a)))
+            let a = core(alloc, setting, a, scope, sum_left(r), origins)?;
+            node(alloc, at, Term::Inl(a))
         }
         Form::Inr(a) => {
-            let a = boxed(alloc, setting, a, scope, sum_right(r), origins)?;
-            Ok(node(at, Term::Inr(a)))
+            let a = core(alloc, setting, a, scope, sum_right(r), origins)?;
+            node(alloc, at, Term::Inr(a))
         }
         Form::Asc(a, t) => core_of_typed(alloc, setting, at, a, t, scope, origins),
         Form::Let(x, h, b) => core_of_let(alloc, setting, at, *x, h, b, scope, r, origins),
@@ -101,20 +125,26 @@ pub fn core<'a>(
     }
 }
 
+// The cores of two expressions, one after the other.
 #[cycle(core)]
-fn boxed<'a>(
+#[tactic(auto, using(crate::proofs::Origins::origin_lists))]
+fn both<'a>(
     alloc: Global,
     setting: &Setting<'_>,
-    e: &Exp,
-    scope: &'a Scope<'a>,
+    a: &Exp,
     r: Option<&Ty>,
+    b: &Exp,
+    s: Option<&Ty>,
+    scope: &'a Scope<'a>,
     origins: &mut Vec<Option<Name>>,
-) -> Result<Box<Node>, Memory>
-    ensures term { IfOk result (λ n. term_of n.value ≡ core_in setting.now scope.now (expression_of e.now) (wanted_of r.entry) (length (origins_of origins.old.items))) }
-    ensures places { IfOk result (λ n. places_of n.value ≡ node_places (expression_of e.now)) }
-    ensures next { OnOk result (origins_of origins.new.items ≡ origins_of origins.old.items ++ new_in (expression_of e.now)) }
+) -> Result<(Box<Node>, Box<Node>), Memory>
+    ensures left { IfOk result (λ n. term_of n.0.value ≡ core_in setting.now scope.now (expression_of a.now) (wanted_of r.entry) (length (origins_of origins.old.items))) }
+    ensures right { IfOk result (λ n. term_of n.1.value ≡ core_in setting.now scope.now (expression_of b.now) (wanted_of s.entry) (length (origins_of origins.old.items) + length (new_in (expression_of a.now)))) }
+    ensures places { IfOk result (λ n. places_of n.0.value ++ places_of n.1.value ≡ node_places (expression_of a.now) ++ node_places (expression_of b.now)) }
+    ensures next { OnOk result (origins_of origins.new.items ≡ origins_of origins.old.items ++ (new_in (expression_of a.now) ++ new_in (expression_of b.now))) }
 {
-    Ok(Box::new(alloc, core(alloc, setting, e, scope, r, origins)?)?)
+    let a = core(alloc, setting, a, scope, r, origins)?;
+    Ok((a, core(alloc, setting, b, scope, s, origins)?))
 }
 
 // The core of an expression with its type, for which a name is added.
@@ -128,16 +158,16 @@ fn core_of_typed<'a>(
     s: &TyExp,
     scope: &'a Scope<'a>,
     origins: &mut Vec<Option<Name>>,
-) -> Result<Node, Memory>
-    ensures term { IfOk result (λ t. term_of t ≡ core_in setting.now scope.now (typed_at at (expression_of a.now) (type_tree_of s.now)) eps (length (origins_of origins.old.items))) }
-    ensures places { IfOk result (λ t. places_of t ≡ node_places (typed_at at (expression_of a.now) (type_tree_of s.now))) }
+) -> Result<Box<Node>, Memory>
+    ensures term { IfOk result (λ t. term_of t.value ≡ core_in setting.now scope.now (typed_at at (expression_of a.now) (type_tree_of s.now)) eps (length (origins_of origins.old.items))) }
+    ensures places { IfOk result (λ t. places_of t.value ≡ node_places (typed_at at (expression_of a.now) (type_tree_of s.now))) }
     ensures next { OnOk result (origins_of origins.new.items ≡ origins_of origins.old.items ++ new_in (typed_at at (expression_of a.now) (type_tree_of s.now))) }
 {
     let z = added(origins)?;
-    let s = type_meant(alloc, setting.known, s)?;
-    let a = boxed(alloc, setting, a, scope, Some(&s), origins)?;
-    let whole = Box::new(alloc, node(at, Term::Var(z)))?;
-    Ok(node(at, Term::Let(z, s, a, whole)))
+    let s = meant(alloc, setting.known, s)?;
+    let a = core(alloc, setting, a, scope, Some(&*s), origins)?;
+    let whole = node(alloc, at, Term::Var(z))?;
+    node(alloc, at, Term::Let(z, Box::into_inner(s), a, whole))
 }
 
 // The core of a `let` of a name.
@@ -153,23 +183,17 @@ fn core_of_let<'a>(
     scope: &'a Scope<'a>,
     r: Option<&Ty>,
     origins: &mut Vec<Option<Name>>,
-) -> Result<Node, Memory>
-    ensures term { IfOk result (λ t. term_of t ≡ core_in setting.now scope.now (let_at at x.0 (head_of h.now) (expression_of b.now)) (wanted_of r.entry) (length (origins_of origins.old.items))) }
-    ensures places { IfOk result (λ t. places_of t ≡ node_places (let_at at x.0 (head_of h.now) (expression_of b.now))) }
+) -> Result<Box<Node>, Memory>
+    ensures term { IfOk result (λ t. term_of t.value ≡ core_in setting.now scope.now (let_at at x.0 (head_of h.now) (expression_of b.now)) (wanted_of r.entry) (length (origins_of origins.old.items))) }
+    ensures places { IfOk result (λ t. places_of t.value ≡ node_places (let_at at x.0 (head_of h.now) (expression_of b.now))) }
     ensures next { OnOk result (origins_of origins.new.items ≡ origins_of origins.old.items ++ new_in (let_at at x.0 (head_of h.now) (expression_of b.now))) }
 {
-    let s = head_type(alloc, setting, h, scope)?;
     let n = named(x, origins)?;
-    let a = Box::new(alloc, head(alloc, setting, h, scope, origins)?)?;
-    let b = boxed(
-        alloc,
-        setting,
-        b,
-        &Scope::Stream(x, n, Some(&s), &*scope),
-        r,
-        origins,
-    )?;
-    Ok(node(at, Term::Let(n, s, a, b)))
+    let s = head_type(alloc, setting, h, scope)?;
+    let a = head(alloc, setting, h, scope, origins)?;
+    let inner = Scope::Stream(x, n, Some(&*s), &*scope);
+    let b = core(alloc, setting, b, &inner, r, origins)?;
+    node(alloc, at, Term::Let(n, Box::into_inner(s), a, b))
 }
 
 // The core of a `let` of two names at once.
@@ -186,19 +210,19 @@ fn core_of_let_par<'a>(
     scope: &'a Scope<'a>,
     r: Option<&Ty>,
     origins: &mut Vec<Option<Name>>,
-) -> Result<Node, Memory>
-    ensures term { IfOk result (λ t. term_of t ≡ core_in setting.now scope.now (let_par_at at x.0 y.0 (head_of h.now) (expression_of b.now)) (wanted_of r.entry) (length (origins_of origins.old.items))) }
-    ensures places { IfOk result (λ t. places_of t ≡ node_places (let_par_at at x.0 y.0 (head_of h.now) (expression_of b.now))) }
+) -> Result<Box<Node>, Memory>
+    ensures term { IfOk result (λ t. term_of t.value ≡ core_in setting.now scope.now (let_par_at at x.0 y.0 (head_of h.now) (expression_of b.now)) (wanted_of r.entry) (length (origins_of origins.old.items))) }
+    ensures places { IfOk result (λ t. places_of t.value ≡ node_places (let_par_at at x.0 y.0 (head_of h.now) (expression_of b.now))) }
     ensures next { OnOk result (origins_of origins.new.items ≡ origins_of origins.old.items ++ new_in (let_par_at at x.0 y.0 (head_of h.now) (expression_of b.now))) }
 {
-    let s = head_type(alloc, setting, h, scope)?;
     let n = named(x, origins)?;
     let m = named(y, origins)?;
+    let s = head_type(alloc, setting, h, scope)?;
     let z = subject(alloc, setting, h, scope, origins)?;
-    let outer = Scope::Stream(x, n, par_left(Some(&s)), &*scope);
-    let inner = Scope::Stream(y, m, par_right(Some(&s)), &outer);
-    let b = boxed(alloc, setting, b, &inner, r, origins)?;
-    let form = node(at, Term::LetPar(n, m, z.name, b));
+    let outer = Scope::Stream(x, n, par_left(Some(&*s)), &*scope);
+    let inner = Scope::Stream(y, m, par_right(Some(&*s)), &outer);
+    let b = core(alloc, setting, b, &inner, r, origins)?;
+    let form = node(alloc, at, Term::LetPar(n, m, z.name, b))?;
     enclosed(alloc, h.at, z, s, form)
 }
 
@@ -216,19 +240,19 @@ fn core_of_let_cat<'a>(
     scope: &'a Scope<'a>,
     r: Option<&Ty>,
     origins: &mut Vec<Option<Name>>,
-) -> Result<Node, Memory>
-    ensures term { IfOk result (λ t. term_of t ≡ core_in setting.now scope.now (let_cat_at at x.0 y.0 (head_of h.now) (expression_of b.now)) (wanted_of r.entry) (length (origins_of origins.old.items))) }
-    ensures places { IfOk result (λ t. places_of t ≡ node_places (let_cat_at at x.0 y.0 (head_of h.now) (expression_of b.now))) }
+) -> Result<Box<Node>, Memory>
+    ensures term { IfOk result (λ t. term_of t.value ≡ core_in setting.now scope.now (let_cat_at at x.0 y.0 (head_of h.now) (expression_of b.now)) (wanted_of r.entry) (length (origins_of origins.old.items))) }
+    ensures places { IfOk result (λ t. places_of t.value ≡ node_places (let_cat_at at x.0 y.0 (head_of h.now) (expression_of b.now))) }
     ensures next { OnOk result (origins_of origins.new.items ≡ origins_of origins.old.items ++ new_in (let_cat_at at x.0 y.0 (head_of h.now) (expression_of b.now))) }
 {
-    let s = head_type(alloc, setting, h, scope)?;
     let n = named(x, origins)?;
     let m = named(y, origins)?;
+    let s = head_type(alloc, setting, h, scope)?;
     let z = subject(alloc, setting, h, scope, origins)?;
-    let outer = Scope::Stream(x, n, cat_first(Some(&s)), &*scope);
-    let inner = Scope::Stream(y, m, cat_second(Some(&s)), &outer);
-    let b = boxed(alloc, setting, b, &inner, r, origins)?;
-    let form = node(at, Term::LetCat(n, m, z.name, b));
+    let outer = Scope::Stream(x, n, cat_first(Some(&*s)), &*scope);
+    let inner = Scope::Stream(y, m, cat_second(Some(&*s)), &outer);
+    let b = core(alloc, setting, b, &inner, r, origins)?;
+    let form = node(alloc, at, Term::LetCat(n, m, z.name, b))?;
     enclosed(alloc, h.at, z, s, form)
 }
 
@@ -247,23 +271,20 @@ fn core_of_case_sum<'a>(
     scope: &'a Scope<'a>,
     r: Option<&Ty>,
     origins: &mut Vec<Option<Name>>,
-) -> Result<Node, Memory>
-    ensures term { IfOk result (λ t. term_of t ≡ core_in setting.now scope.now (case_sum_at at (head_of h.now) x.0 (expression_of a.now) y.0 (expression_of b.now)) (wanted_of r.entry) (length (origins_of origins.old.items))) }
-    ensures places { IfOk result (λ t. places_of t ≡ node_places (case_sum_at at (head_of h.now) x.0 (expression_of a.now) y.0 (expression_of b.now))) }
+) -> Result<Box<Node>, Memory>
+    ensures term { IfOk result (λ t. term_of t.value ≡ core_in setting.now scope.now (case_sum_at at (head_of h.now) x.0 (expression_of a.now) y.0 (expression_of b.now)) (wanted_of r.entry) (length (origins_of origins.old.items))) }
+    ensures places { IfOk result (λ t. places_of t.value ≡ node_places (case_sum_at at (head_of h.now) x.0 (expression_of a.now) y.0 (expression_of b.now))) }
     ensures next { OnOk result (origins_of origins.new.items ≡ origins_of origins.old.items ++ new_in (case_sum_at at (head_of h.now) x.0 (expression_of a.now) y.0 (expression_of b.now))) }
 {
     let s = head_type(alloc, setting, h, scope)?;
     let z = subject(alloc, setting, h, scope, origins)?;
     let n = named(x, origins)?;
-    let left = Scope::Stream(x, n, sum_left(Some(&s)), &*scope);
-    let a = boxed(alloc, setting, a, &left, r, origins)?;
+    let left = Scope::Stream(x, n, sum_left(Some(&*s)), &*scope);
+    let a = core(alloc, setting, a, &left, r, origins)?;
     let m = named(y, origins)?;
-    let right = Scope::Stream(y, m, sum_right(Some(&s)), &*scope);
-    let b = boxed(alloc, setting, b, &right, r, origins)?;
-    let form = node(
-        at,
-        Term::CaseSum(z.name, copy_wanted(alloc, r)?, n, a, m, b),
-    );
+    let right = Scope::Stream(y, m, sum_right(Some(&*s)), &*scope);
+    let b = core(alloc, setting, b, &right, r, origins)?;
+    let form = case_sum_node(alloc, at, z.name, r, n, a, m, b)?;
     enclosed(alloc, h.at, z, s, form)
 }
 
@@ -282,23 +303,20 @@ fn core_of_case_star<'a>(
     scope: &'a Scope<'a>,
     r: Option<&Ty>,
     origins: &mut Vec<Option<Name>>,
-) -> Result<Node, Memory>
-    ensures term { IfOk result (λ t. term_of t ≡ core_in setting.now scope.now (case_star_at at (head_of h.now) (expression_of a.now) y.0 ys.0 (expression_of b.now)) (wanted_of r.entry) (length (origins_of origins.old.items))) }
-    ensures places { IfOk result (λ t. places_of t ≡ node_places (case_star_at at (head_of h.now) (expression_of a.now) y.0 ys.0 (expression_of b.now))) }
+) -> Result<Box<Node>, Memory>
+    ensures term { IfOk result (λ t. term_of t.value ≡ core_in setting.now scope.now (case_star_at at (head_of h.now) (expression_of a.now) y.0 ys.0 (expression_of b.now)) (wanted_of r.entry) (length (origins_of origins.old.items))) }
+    ensures places { IfOk result (λ t. places_of t.value ≡ node_places (case_star_at at (head_of h.now) (expression_of a.now) y.0 ys.0 (expression_of b.now))) }
     ensures next { OnOk result (origins_of origins.new.items ≡ origins_of origins.old.items ++ new_in (case_star_at at (head_of h.now) (expression_of a.now) y.0 ys.0 (expression_of b.now))) }
 {
     let s = head_type(alloc, setting, h, scope)?;
     let z = subject(alloc, setting, h, scope, origins)?;
-    let a = boxed(alloc, setting, a, scope, r, origins)?;
+    let a = core(alloc, setting, a, scope, r, origins)?;
     let n = named(y, origins)?;
     let m = named(ys, origins)?;
-    let outer = Scope::Stream(y, n, star_item(Some(&s)), &*scope);
-    let inner = Scope::Stream(ys, m, star_items(Some(&s)), &outer);
-    let b = boxed(alloc, setting, b, &inner, r, origins)?;
-    let form = node(
-        at,
-        Term::CaseStar(z.name, copy_wanted(alloc, r)?, a, n, m, b),
-    );
+    let outer = Scope::Stream(y, n, star_item(Some(&*s)), &*scope);
+    let inner = Scope::Stream(ys, m, star_items(Some(&*s)), &outer);
+    let b = core(alloc, setting, b, &inner, r, origins)?;
+    let form = case_star_node(alloc, at, z.name, r, a, n, m, b)?;
     enclosed(alloc, h.at, z, s, form)
 }
 
@@ -314,14 +332,14 @@ fn core_of_wait<'a>(
     scope: &'a Scope<'a>,
     r: Option<&Ty>,
     origins: &mut Vec<Option<Name>>,
-) -> Result<Node, Memory>
-    ensures term { IfOk result (λ t. term_of t ≡ core_in setting.now scope.now (wait_at at x.0 (expression_of a.now)) (wanted_of r.entry) (length (origins_of origins.old.items))) }
-    ensures places { IfOk result (λ t. places_of t ≡ node_places (wait_at at x.0 (expression_of a.now))) }
+) -> Result<Box<Node>, Memory>
+    ensures term { IfOk result (λ t. term_of t.value ≡ core_in setting.now scope.now (wait_at at x.0 (expression_of a.now)) (wanted_of r.entry) (length (origins_of origins.old.items))) }
+    ensures places { IfOk result (λ t. places_of t.value ≡ node_places (wait_at at x.0 (expression_of a.now))) }
     ensures next { OnOk result (origins_of origins.new.items ≡ origins_of origins.old.items ++ new_in (wait_at at x.0 (expression_of a.now))) }
 {
-    let a = boxed(alloc, setting, a, &Scope::Waited(x, &*scope), r, origins)?;
+    let a = core(alloc, setting, a, &Scope::Waited(x, &*scope), r, origins)?;
     let r = copy_wanted(alloc, r)?;
-    Ok(node(at, Term::Wait(number_of(scope, x), r, a)))
+    node(alloc, at, Term::Wait(number_of(scope, x), r, a))
 }
 
 // The core of an `if`, for which three names are added.
@@ -337,39 +355,17 @@ fn core_of_if<'a>(
     scope: &'a Scope<'a>,
     r: Option<&Ty>,
     origins: &mut Vec<Option<Name>>,
-) -> Result<Node, Memory>
-    ensures term { IfOk result (λ t. term_of t ≡ core_in setting.now scope.now (if_at at (hist_of m.now) (expression_of a.now) (expression_of b.now)) (wanted_of r.entry) (length (origins_of origins.old.items))) }
-    ensures places { IfOk result (λ t. places_of t ≡ node_places (if_at at (hist_of m.now) (expression_of a.now) (expression_of b.now))) }
+) -> Result<Box<Node>, Memory>
+    ensures term { IfOk result (λ t. term_of t.value ≡ core_in setting.now scope.now (if_at at (hist_of m.now) (expression_of a.now) (expression_of b.now)) (wanted_of r.entry) (length (origins_of origins.old.items))) }
+    ensures places { IfOk result (λ t. places_of t.value ≡ node_places (if_at at (hist_of m.now) (expression_of a.now) (expression_of b.now))) }
     ensures next { OnOk result (origins_of origins.new.items ≡ origins_of origins.old.items ++ new_in (if_at at (hist_of m.now) (expression_of a.now) (expression_of b.now))) }
 {
     let z = added(origins)?;
     let n = added(origins)?;
     let k = added(origins)?;
     let m = numbered(alloc, &m.expr, scope, origins)?;
-    let a = boxed(alloc, setting, a, scope, r, origins)?;
-    let b = boxed(alloc, setting, b, scope, r, origins)?;
-    if_node(alloc, at, z, m, copy_wanted(alloc, r)?, n, a, k, b)
-}
-
-// An `if` at the place: the test is bound to z, and in the branches n and k stand for the mark that it gives.
-fn if_node(
-    alloc: Global,
-    at: u32,
-    z: Name,
-    test: Expr,
-    r: Ty,
-    n: Name,
-    a: Box<Node>,
-    k: Name,
-    b: Box<Node>,
-) -> Result<Node, Memory>
-    ensures term { IfOk result (λ t. term_of t ≡ let_term z.0 (sum one one) (past_term (expr_of test)) (case_sum_term z.0 (type_of r) n.0 (term_of a.value) k.0 (term_of b.value))) }
-    ensures places { IfOk result (λ t. places_of t ≡ at ∷ (at ∷ (at ∷ (places_of a.value ++ places_of b.value)))) }
-{
-    let form = Box::new(alloc, node(at, Term::CaseSum(z, r, n, a, k, b)))?;
-    let test = Box::new(alloc, node(at, Term::Past(test)))?;
-    let s = stream_type::sum(alloc, Ty::One, Ty::One)?;
-    Ok(node(at, Term::Let(z, s, test, form)))
+    let (a, b) = both(alloc, setting, a, r, b, r, scope, origins)?;
+    if_node(alloc, at, z, m, r, n, a, k, b)
 }
 
 // The core of a head, at its type.
@@ -381,17 +377,17 @@ fn head<'a>(
     h: &Head,
     scope: &'a Scope<'a>,
     origins: &mut Vec<Option<Name>>,
-) -> Result<Node, Memory>
-    ensures term { IfOk result (λ n. term_of n ≡ head_in setting.now scope.now (head_of h.now) (length (origins_of origins.old.items))) }
-    ensures places { IfOk result (λ n. places_of n ≡ head_places (head_of h.now)) }
+) -> Result<Box<Node>, Memory>
+    ensures term { IfOk result (λ n. term_of n.value ≡ head_in setting.now scope.now (head_of h.now) (length (origins_of origins.old.items))) }
+    ensures places { IfOk result (λ n. places_of n.value ≡ head_places (head_of h.now)) }
     ensures next { OnOk result (origins_of origins.new.items ≡ origins_of origins.old.items ++ new_in_head (head_of h.now)) }
 {
     match &*h.form {
-        HeadForm::Var(x) => Ok(node(h.at, Term::Var(number_of(scope, *x)))),
+        HeadForm::Var(x) => node(alloc, h.at, Term::Var(number_of(scope, *x))),
         HeadForm::Call(f, past, es) => call(alloc, setting, h.at, *f, past, es, scope, origins),
         HeadForm::Asc(e, t) => {
-            let t = type_meant(alloc, setting.known, t)?;
-            core(alloc, setting, e, scope, Some(&t), origins)
+            let t = meant(alloc, setting.known, t)?;
+            core(alloc, setting, e, scope, Some(&*t), origins)
         }
     }
 }
@@ -408,15 +404,15 @@ fn call<'a>(
     es: &[Exp],
     scope: &'a Scope<'a>,
     origins: &mut Vec<Option<Name>>,
-) -> Result<Node, Memory>
-    ensures term { IfOk result (λ n. term_of n ≡ core_in setting.now scope.now (call_at at f.0 (map hist_of past.now) (expressions_of es.now)) eps (length (origins_of origins.old.items))) }
-    ensures places { IfOk result (λ n. places_of n ≡ node_places (call_at at f.0 (map hist_of past.now) (expressions_of es.now))) }
+) -> Result<Box<Node>, Memory>
+    ensures term { IfOk result (λ n. term_of n.value ≡ core_in setting.now scope.now (call_at at f.0 (map hist_of past.now) (expressions_of es.now)) eps (length (origins_of origins.old.items))) }
+    ensures places { IfOk result (λ n. places_of n.value ≡ node_places (call_at at f.0 (map hist_of past.now) (expressions_of es.now))) }
     ensures next { OnOk result (origins_of origins.new.items ≡ origins_of origins.old.items ++ new_in (call_at at f.0 (map hist_of past.now) (expressions_of es.now))) }
 {
     let past = all_numbered(alloc, past, scope, origins)?;
     let function = function_of_name(setting.functions, f);
     let es = arguments(alloc, setting, function, es, scope, origins)?;
-    call_node(setting, at, f, past, es)
+    call_node(alloc, setting, at, f, past, es)
 }
 
 // The subject of a form that takes a head apart: the head's name, or else an added one that is bound to
@@ -445,7 +441,7 @@ fn subject<'a>(
             let core = head(alloc, setting, h, scope, origins)?;
             Ok(Subject {
                 name,
-                bound: Some(Box::new(alloc, core)?),
+                bound: Some(core),
             })
         }
     }
@@ -468,7 +464,8 @@ fn arguments<'a>(
 {
     let mut cores = Vec::new(alloc);
     for (i, e) in es.iter().enumerate() {
-        cores.push(core(alloc, setting, e, scope, param_type(function, i), origins)?)?;
+        let r = param_type(function, i);
+        cores.push(Box::into_inner(core(alloc, setting, e, scope, r, origins)?))?;
     }
     Ok(cores)
 }

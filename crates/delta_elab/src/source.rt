@@ -3,9 +3,9 @@
 ghost use Rattle.std.specs.Prelude.{◌≡◌, ◌+◌, length, map, slice_get, [], Some, IfOk, IfErr, IfSome, IfNone};
 ghost use Rattle.stream_type.specs.StreamType.{type_of};
 ghost use Rattle.bunch.specs.BunchTree.{tree_of};
-ghost use Rattle.delta_tree.specs.Tree.{function_of, declaration_of};
+ghost use Rattle.delta_tree.specs.Tree.{type_tree_of, function_of, declaration_of};
 ghost use Rattle.core_term.specs.CoreTerm.{typed_names_of, leaf_types};
-ghost use Rattle.delta_meaning.specs.TypeNames.{no_type_names};
+ghost use Rattle.delta_meaning.specs.TypeNames.{no_type_names, type_meant};
 ghost use Rattle.delta_meaning.specs.KnownTypes.{names_known};
 ghost use Rattle.delta_meaning.specs.SourceBody.{body_meant, functions_among, function_named, number_named, no_function};
 ghost use Rattle.delta_elab.specs.Aliases.{aliases_among};
@@ -13,7 +13,7 @@ ghost use Rattle.delta_elab.specs.Sources.{source_of, sources_of};
 
 use bunch::{Bunch, Name};
 use delta_meaning::{params_meant, past_meant, type_meant};
-use delta_tree::{Decl, Exp, Fun};
+use delta_tree::{Decl, Exp, Fun, TyExp};
 use std::alloc::Global;
 use stream_type::{Memory, Ty};
 
@@ -45,6 +45,13 @@ pub struct Setting<'a> {
     pub known: &'a [(Name, Ty)],
 }
 
+/// The type that a written type stands for, in a box. Its only error is want of memory.
+pub fn meant(alloc: Global, known: &[(Name, Ty)], t: &TyExp) -> Result<Box<Ty>, Memory>
+    ensures { IfOk result (λ r. type_of r.value ≡ type_meant (names_known known.now) (type_tree_of t.now)) }
+{
+    Ok(Box::new(alloc, type_meant(alloc, known, t)?)?)
+}
+
 /// A written function with its types: `body_meant` in the specs of delta_meaning. Its only error is want
 /// of memory.
 pub fn function_meant<'a>(
@@ -54,12 +61,14 @@ pub fn function_meant<'a>(
 ) -> Result<Source<'a>, Memory>
     ensures { IfOk result (λ s. source_of s ≡ body_meant (names_known known.now) (function_of f.now)) }
 {
+    let past = past_meant(alloc, known, &f.past)?;
+    let result = meant(alloc, known, &f.result)?;
     Ok(Source {
         name: f.name,
         known,
-        past: past_meant(alloc, known, &f.past)?,
+        past,
         params: params_meant(alloc, known, &f.ctx)?,
-        result: type_meant(alloc, known, &f.result)?,
+        result: Box::into_inner(result),
         body: &f.body,
     })
 }
@@ -69,17 +78,19 @@ pub fn main_meant<'a>(
     alloc: Global,
     known: &'a [(Name, Ty)],
     f: &'a Fun,
-) -> Result<Source<'a>, Memory>
-    ensures { IfOk result (λ s. source_of s ≡ record (body_meant (names_known known.now) (function_of f.now)) { past = [] }) }
+) -> Result<Box<Source<'a>>, Memory>
+    ensures { IfOk result (λ s. source_of s.value ≡ record (body_meant (names_known known.now) (function_of f.now)) { past = [] }) }
 {
-    Ok(Source {
+    let result = meant(alloc, known, &f.result)?;
+    let main = Source {
         name: f.name,
         known,
         past: Vec::new(alloc),
         params: params_meant(alloc, known, &f.ctx)?,
-        result: type_meant(alloc, known, &f.result)?,
+        result: Box::into_inner(result),
         body: &f.body,
-    })
+    };
+    Ok(Box::new(alloc, main)?)
 }
 
 /// The functions among declarations with their types, where the table has the types that these declare:

@@ -6,8 +6,6 @@ mod end;
 mod name;
 mod refusal;
 mod telling;
-#[cfg(test)]
-mod tests;
 
 pub use answering::answer;
 pub use end::{End, InputFault};

@@ -4,8 +4,6 @@
 mod fault;
 mod front;
 pub mod laws;
-#[cfg(test)]
-mod tests;
 
 pub use fault::TextFault;
 pub use front::program_of;

@@ -7,8 +7,6 @@ pub mod laws;
 mod numeral;
 mod piece;
 mod scan;
-#[cfg(test)]
-mod tests;
 mod token;
 
 pub use fault::LexFault;

@@ -1,6 +1,6 @@
 -- The run of the main program, in a scope of its parameters.
 use mathlib.Core.Path.{fun_ext}
-use Rattle.std.proofs.Common.{◌≡◌, ℕ, List, [], map, refl, sym, ap, ◌∙◌}
+use Rattle.std.proofs.Common.{◌≡◌, ℕ, List, [], refl, ap, ◌∙◌}
 use Rattle.stream_type.specs.StreamType.{StreamType, eps}
 use Rattle.stream_prefix.specs.StreamPrefix.{StreamPrefix, eps_emp}
 use Rattle.bunch.specs.Names.{value_at}
@@ -11,7 +11,7 @@ use Rattle.core_term.specs.CoreTerm.{leaf_types}
 use Rattle.core_term.specs.Environment.{Environment, NameTypes}
 use Rattle.core_term.specs.Agreement.{types_in}
 use Rattle.core_term.specs.Split.{split}
-use Rattle.core_term.specs.Meaning.{Past, no_past}
+use Rattle.core_term.specs.Meaning.{no_past}
 use Rattle.core_term.specs.Run.{Run}
 use Rattle.core_term.proofs.Parameters.{value_at-leaf_types}
 use Rattle.delta_meaning.specs.TypeNames.{TypeNames}
@@ -44,3 +44,15 @@ same_main_runs bs cs k n ns ms e b t u xs ts ps p h1 h2 h3 h4 h5 h6 h7 =
     let f5 : NameTypes → Run = λ l. source_run (function_named cs) (source_call_at (function_named cs) n) ms e l u (value_at eps_emp xs ps) no_past in
     let f6 : Environment → Run = λ l. source_run (function_named cs) (source_call_at (function_named cs) n) ms e (types_in b) u l no_past in
     ap f1 h1 ∙ (ap f2 h2 ∙ (ap f3 h3 ∙ (ap f4 h4 ∙ (ap f5 (params_have_types b xs ts h5 h6) ∙ ap f6 (params_have_parts b xs ps p h5 h7)))))
+
+-- of equal functions, names of types, parameters and types of results too
+pub same_program_runs : (bs cs : List SourceBody) (k n : ℕ) (ns ms : TypeNames) (e : Expression) (b d : BunchTree) (t u : StreamType) (p : StreamPrefix)
+    → bs ≡ cs → k ≡ n → ns ≡ ms → b ≡ d → t ≡ u
+    → source_run (function_named bs) (source_call_at (function_named bs) k) ns e (types_in b) t (split b p) no_past ≡ source_run (function_named cs) (source_call_at (function_named cs) n) ms e (types_in d) u (split d p) no_past
+same_program_runs bs cs k n ns ms e b d t u p h1 h2 h3 h4 h5 =
+    let f1 : List SourceBody → Run = λ l. source_run (function_named l) (source_call_at (function_named l) k) ns e (types_in b) t (split b p) no_past in
+    let f2 : ℕ → Run = λ l. source_run (function_named cs) (source_call_at (function_named cs) l) ns e (types_in b) t (split b p) no_past in
+    let f3 : TypeNames → Run = λ l. source_run (function_named cs) (source_call_at (function_named cs) n) l e (types_in b) t (split b p) no_past in
+    let f4 : BunchTree → Run = λ l. source_run (function_named cs) (source_call_at (function_named cs) n) ms e (types_in l) t (split l p) no_past in
+    let f5 : StreamType → Run = λ l. source_run (function_named cs) (source_call_at (function_named cs) n) ms e (types_in d) l (split d p) no_past in
+    ap f1 h1 ∙ (ap f2 h2 ∙ (ap f3 h3 ∙ (ap f4 h4 ∙ ap f5 h5)))

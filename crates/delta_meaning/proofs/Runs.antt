@@ -1,26 +1,23 @@
 -- Runs of equal parts are equal; and where more calls are made than were left, after a part or in it, so it is in the whole.
-use mathlib.Core.Path.{fun_ext}
-use Rattle.std.proofs.Common.{◌≡◌, ℕ, ◌+◌, ◌-◌, ◌<◌, ◌≤◌, Bool, true, false, true≢false, List, [], ◌∷◌, map, if◌then◌else◌, refl, sym, ap, ap₂, ◌∙◌, subst, arith}
+use Rattle.std.proofs.Common.{◌≡◌, ℕ, ◌+◌, ◌-◌, ◌<◌, ◌≤◌, Bool, true, false, true≢false, List, [], ◌∷◌, map, if◌then◌else◌, refl, sym, ap, ◌∙◌, subst, arith}
 use Rattle.bunch.specs.declared.name.Name.{Name}
 use Rattle.stream_type.specs.declared.ty.Ty.{Ty}
 use Rattle.stream_type.specs.StreamType.{StreamType, type_of, eps}
 use Rattle.stream_prefix.specs.StreamPrefix.{StreamPrefix, cat_fst, emp, eps_emp, is_maximal}
-use Rattle.bunch.specs.Names.{put, value_at}
+use Rattle.bunch.specs.Names.{value_at}
 use Rattle.bunch.specs.BunchTree.{tree_of, leaf_names}
 use Rattle.hist_value.specs.HistValue.{HistValue, unit_value, left_of, list_of}
-use Rattle.hist_value.specs.Wholes.{value_of}
 use Rattle.delta_tree.specs.SyntaxTree.{Expression, Expressions, expression_before}
 use Rattle.delta_tree.specs.Tree.{expression_of}
 use Rattle.core_term.specs.CoreTerm.{leaf_types, typed_names_of}
 use Rattle.core_term.specs.Environment.{Environment, NameTypes, by_side}
 use Rattle.core_term.specs.Agreement.{types_in}
 use Rattle.core_term.specs.Meaning.{Past, no_past, Calls}
-use Rattle.core_term.specs.Parts.{par_left, par_right, cat_first, cat_second, sum_left, sum_right, star_item, star_items, left_part, right_part, first_part, second_part}
-use Rattle.core_term.specs.Run.{Run, Runs, quiet, relabel, par_run, cat_run, cat_run_at, let_run, sum_run, star_run, wait_run, no_runs, run_before, call_run, one_call}
+use Rattle.core_term.specs.Run.{Run, Runs, quiet, relabel, cat_run, cat_run_at, let_run, wait_run, no_runs, run_before, call_run}
 use Rattle.delta_meaning.specs.TypeNames.{TypeNames}
 use Rattle.delta_meaning.specs.KnownTypes.{names_known}
 use Rattle.delta_meaning.specs.SourceBody.{SourceBody}
-use Rattle.delta_meaning.specs.SourceMeaning.{is_name, if_run, source_run, arguments_run, source_body_run, source_call_at, source_past, source_past_names, without_value}
+use Rattle.delta_meaning.specs.SourceMeaning.{is_name, if_run, source_run, arguments_run, source_body_run, source_past}
 use Rattle.delta_meaning.specs.Evaluated.{is_left, runs_after, runs_joined, first_type, other_types}
 use Rattle.delta_meaning.specs.Scope.{names_in}
 use Rattle.delta_meaning.specs.Functions.{body_of}

@@ -1,15 +1,15 @@
 -- A prefix for each name of a bunch is its split.
 use mathlib.Core.Path.{fun_ext}
-use Rattle.std.proofs.Common.{◌≡◌, ℕ, suc, ◌+◌, Bool, true, false, ◌||◌, List, [], ◌∷◌, ◌++◌, length, eqb, if◌then◌else◌, refl, sym, ap, ap₂, ◌∙◌, arith}
+use Rattle.std.proofs.Common.{◌≡◌, ℕ, ◌+◌, Bool, true, false, ◌||◌, List, [], ◌∷◌, ◌++◌, length, eqb, if◌then◌else◌, refl, sym, ap₂, ◌∙◌, arith}
 use Rattle.std.proofs.lemmas.List.{length-append}
-use Rattle.stream_type.specs.StreamType.{StreamType, eps}
+use Rattle.stream_type.specs.StreamType.{eps}
 use Rattle.stream_prefix.specs.declared.prefix.StarEnd.{StarEnd}
 use Rattle.stream_prefix.specs.declared.prefix.StarEnd.TheVariants.{Emp, Done, First'}
-use Rattle.stream_prefix.specs.StreamPrefix.{StreamPrefix, eps_emp, one_emp, one_full, int_emp, int_full, par_both, cat_fst, cat_both, sum_emp, in_left, in_right, star_emp, star_done, star_first, star_rest, emp}
+use Rattle.stream_prefix.specs.StreamPrefix.{StreamPrefix, eps_emp, par_both, cat_fst, cat_both, emp}
 use Rattle.stream_prefix.specs.Tree.{star_of, end_of}
 use Rattle.stream_prefix.proofs.Rows.{row_of-hidden}
 use Rattle.bunch.specs.BunchTree.{BunchTree, empty, leaf, comma, semi, leaf_names}
-use Rattle.bunch.specs.Names.{put, holds, value_at}
+use Rattle.bunch.specs.Names.{holds, value_at}
 use Rattle.core_term.specs.Agreement.{types_in}
 use Rattle.core_term.specs.Environment.{Environment, by_side, nothing, empty_at}
 use Rattle.core_term.specs.Split.{split}

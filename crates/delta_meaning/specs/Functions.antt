@@ -1,7 +1,7 @@
 -- What the evaluator's functions stand for, and what it is to give at its place.
 use Rattle.std.specs.Prelude.{ℕ, List, map}
 use Rattle.stream_type.specs.StreamType.{StreamType, type_of}
-use Rattle.bunch.specs.BunchTree.{tree_of}
+use Rattle.bunch.specs.BunchTree.{BunchTree, tree_of}
 use Rattle.stream_prefix.specs.StreamPrefix.{StreamPrefix, emp}
 use Rattle.bunch.specs.Names.{put}
 use Rattle.delta_tree.specs.SyntaxTree.{Expression, let_at, let_par_at, let_cat_at, case_sum_at, case_star_at, Head, Expressions}
@@ -9,7 +9,9 @@ use Rattle.core_term.specs.Parts.{par_left, par_right, cat_first, cat_second, su
 use Rattle.delta_tree.specs.Tree.{expression_of}
 use Rattle.core_term.specs.CoreTerm.{typed_names_of}
 use Rattle.core_term.specs.Run.{Run, Runs, quiet, sum_run, star_run}
-use Rattle.core_term.specs.Meaning.{Calls}
+use Rattle.core_term.specs.Agreement.{types_in as types_of_params}
+use Rattle.core_term.specs.Split.{split}
+use Rattle.core_term.specs.Meaning.{Calls, no_past}
 use Rattle.delta_meaning.specs.KnownTypes.{names_known}
 use Rattle.delta_meaning.specs.SourceBody.{SourceBody, function_named}
 use Rattle.delta_meaning.specs.SourceMeaning.{head_type, without_value, source_run, head_run, arguments_run, source_call_at}
@@ -40,6 +42,10 @@ calls_at i = source_call_at (functions_at i) i.depth
 -- the run of an expression at a place, in a scope, with its expected type
 abbrev pub run_at : Place → Scope → Expression → StreamType → Run
 run_at i s e r = source_run (functions_at i) (calls_at i) (names_known i.known.now) e (types_in s) r (streams_in s) (past_in s)
+
+-- the run of a body at a place, with its parameters and its type, on a prefix of its parameters' type
+abbrev pub body_at : Place → BunchTree → Expression → StreamType → StreamPrefix → Run
+body_at i b e r p = source_run (functions_at i) (calls_at i) (names_known i.known.now) e (types_of_params b) r (split b p) no_past
 
 -- the run of a head
 abbrev pub head_run_at : Place → Scope → Head → Run

@@ -16,17 +16,17 @@ abbrev mutual
   weight (hist_at at m) = 1
   weight (par_at at a b) = 2 + (weight a + weight b)
   weight (cat_at at a b) = 2 + (weight a + weight b)
-  weight (cons_at at a b) = 2 + (weight a + weight b)
-  weight (inl_at at a) = 1 + weight a
-  weight (inr_at at a) = 1 + weight a
-  weight (typed_at at a t) = 2 + weight a
-  weight (let_at at x h e) = 5 + (weight_of_head h + weight e)
-  weight (let_par_at at x y h e) = 5 + (weight_of_head h + weight e)
-  weight (let_cat_at at x y h e) = 5 + (weight_of_head h + weight e)
-  weight (case_sum_at at h x a y b) = 5 + (weight_of_head h + (weight a + weight b))
-  weight (case_star_at at h a y ys b) = 5 + (weight_of_head h + (weight a + weight b))
+  weight (cons_at at a b) = 3 + (weight a + weight b)
+  weight (inl_at at a) = 2 + weight a
+  weight (inr_at at a) = 2 + weight a
+  weight (typed_at at a t) = 3 + weight a
+  weight (let_at at x h e) = 7 + (weight_of_head h + weight e)
+  weight (let_par_at at x y h e) = 7 + (weight_of_head h + weight e)
+  weight (let_cat_at at x y h e) = 7 + (weight_of_head h + weight e)
+  weight (case_sum_at at h x a y b) = 7 + (weight_of_head h + (weight a + weight b))
+  weight (case_star_at at h a y ys b) = 7 + (weight_of_head h + (weight a + weight b))
   weight (wait_at at x e) = 2 + weight e
-  weight (if_at at m a b) = 1 + (weight a + weight b)
+  weight (if_at at m a b) = 2 + (weight a + weight b)
   weight (call_at at f ms es) = 4 + weight_of_all es
 
   -- the weight of a head

@@ -3,43 +3,45 @@
 //! Each function takes the number of calls that are left, and stops as soon as more are made. The depth
 //! stays above that number, so no call is met at which it is used up.
 
-ghost use Rattle.std.specs.Prelude.{◌≡◌, ℕ, ◌<◌, ◌≤◌, map, is_some, IfOk, IfErr, IfSome};
+ghost use Rattle.std.specs.Prelude.{◌≡◌, ℕ, ◌+◌, ◌<◌, ◌≤◌, map, IfOk, IfErr};
 ghost use Rattle.stream_type.specs.StreamType.{type_of};
-ghost use Rattle.stream_prefix.specs.StreamPrefix.{is_maximal};
+ghost use Rattle.stream_prefix.specs.StreamPrefix.{in_left, in_right};
 ghost use Rattle.stream_prefix.specs.Tree.{prefix_of};
 ghost use Rattle.hist_value.specs.HistValue.{hist_value_of};
-ghost use Rattle.hist_value.specs.HistExpr.{expr_of};
 ghost use Rattle.hist_value.specs.Evaluate.{value};
-ghost use Rattle.hist_value.specs.Wholes.{value_of, full};
 ghost use Rattle.delta_tree.specs.SyntaxTree.{wait_at, call_head};
 ghost use Rattle.delta_tree.specs.Tree.{expression_of, expressions_of, head_of, hist_of, type_tree_of};
-ghost use Rattle.core_term.specs.Run.{quiet, par_run, cat_run, let_run};
-ghost use Rattle.core_term.specs.CoreTerm.{leaf_types};
+ghost use Rattle.core_term.specs.Parts.{cat_first, cat_second, sum_left, sum_right, star_item, star_items, first_part, second_part, as_star};
+ghost use Rattle.core_term.specs.Run.{relabel, par_run, cat_run, let_run, sum_run, star_run};
 ghost use Rattle.delta_meaning.specs.TypeNames.{type_meant};
 ghost use Rattle.delta_meaning.specs.KnownTypes.{names_known};
-ghost use Rattle.delta_meaning.specs.SourceMeaning.{is_name, is_name_head, head_type};
-ghost use Rattle.delta_meaning.specs.Evaluated.{is_left, run_of, runs_of, runs_joined, first_type, other_types};
-ghost use Rattle.delta_meaning.specs.Scope.{types_in, types_listed, streams_in, past_in};
-ghost use Rattle.delta_meaning.specs.Functions.{functions_at, calls_at, run_at, head_run_at, head_type_at, run_with_two, run_after, arguments_at};
+ghost use Rattle.delta_meaning.specs.SourceMeaning.{is_name_head, typed_run, if_run};
+ghost use Rattle.delta_meaning.specs.Evaluated.{run_of, runs_of, runs_joined};
+ghost use Rattle.delta_meaning.specs.Scope.{types_listed, past_in};
+ghost use Rattle.delta_meaning.specs.Functions.{calls_at, run_at, head_run_at, head_type_at, run_with_one, run_with_two, run_after, arguments_at};
 
 use crate::evaluated::{
     Arguments, Evaluated, call_run, cat_run, first_run, left_run, let_run, no_arguments, one_call,
     one_more, par_run, quiet, right_run, star_run, typed_run,
 };
-use crate::functions::{Function, Place, function_named, leaves};
+use crate::functions::{Place, function_named, leaves};
+use crate::looking::{
+    boxed_head_type, first_param, is_left, is_name, is_name_head, name_run, nil_run, nothing_run,
+    params_of, past_run, waited,
+};
 use crate::parts::{
-    Sided, Taken, cat_parts, cat_types, par_parts, par_types, side_taken, star_taken, star_types,
+    Sided, Taken, boxed_taken, cat_parts, cat_types, par_parts, par_types, side_taken, star_types,
     sum_types,
 };
 use crate::refusal::Stop;
-use crate::scope::{Scope, past_of_body, stream_at, type_at, value_in, values_in};
-use crate::types::type_meant;
+use crate::scope::{Scope, past_of_body, values_in};
+use crate::types::boxed_type;
 use bunch::Name;
 use delta_tree::{Exp, Form, Head, HeadForm, Hist, TyExp};
-use hist_value::{Value, full, value_of};
+use hist_value::Value;
 use std::alloc::Global;
-use stream_prefix::{Prefix, StarEnd, empty, maximal};
-use stream_type::{Memory, Ty};
+use stream_prefix::{Prefix, maximal};
+use stream_type::Ty;
 
 /// The run of an expression at its place, in its scope, with its expected type, where it makes at most as
 /// many calls as are left: `source_run` in `specs/SourceMeaning.antt`. It is `Spent` only where it makes
@@ -60,11 +62,11 @@ pub fn evaluate<'a>(
     ensures spent { IfErr result (λ s. s ≡ Stop.Spent → left < (run_at place.now scope.now (expression_of e.now) (type_of ty.now)).calls) }
 {
     match &*e.form {
-        Form::Var(x) => Ok(quiet(stream_at(alloc, scope, *x)?)),
+        Form::Var(x) => name_run(alloc, scope, *x),
         Form::Eps => Ok(quiet(Prefix::EpsEmp)),
         Form::Unit => Ok(quiet(Prefix::OneFull)),
-        Form::Nil => Ok(quiet(Prefix::Star(Vec::new(alloc), StarEnd::Done))),
-        Form::Past(m) => Ok(past_run(alloc, scope, m, ty)?),
+        Form::Nil => Ok(nil_run(alloc)),
+        Form::Past(m) => past_run(alloc, scope, m, ty),
         Form::Par(a, b) => {
             let (s, t) = par_types(&*ty, &Ty::Eps);
             evaluate_both(alloc, place, scope, a, s, b, t, left)
@@ -73,38 +75,17 @@ pub fn evaluate<'a>(
             let (s, t) = cat_types(&*ty, &Ty::Eps);
             evaluate_in_turn(alloc, place, scope, a, s, b, t, left)
         }
-        Form::Cons(a, b) => {
-            let (s, t) = star_types(&*ty, &Ty::Eps);
-            let both = evaluate_in_turn(alloc, place, scope, a, s, b, t, left)?;
-            Ok(star_run(alloc, both)?)
-        }
-        Form::Inl(a) => {
-            let (s, _) = sum_types(&*ty, &Ty::Eps);
-            let inside = evaluate(alloc, place, scope, a, s, left)?;
-            Ok(left_run(alloc, inside)?)
-        }
-        Form::Inr(a) => {
-            let (_, t) = sum_types(&*ty, &Ty::Eps);
-            let inside = evaluate(alloc, place, scope, a, t, left)?;
-            Ok(right_run(alloc, inside)?)
-        }
-        Form::Asc(a, t) => {
-            let inside = evaluate_at_type(alloc, place, scope, a, t, left)?;
-            Ok(typed_run(inside)?)
-        }
+        Form::Cons(a, b) => evaluate_star(alloc, place, scope, a, b, ty, left),
+        Form::Inl(a) => evaluate_left(alloc, place, scope, a, ty, left),
+        Form::Inr(a) => evaluate_right(alloc, place, scope, a, ty, left),
+        Form::Asc(a, t) => evaluate_typed(alloc, place, scope, a, t, left),
         Form::Let(_, h, _) => evaluate_with_head(alloc, place, scope, h, e, ty, left),
         Form::LetPar(_, _, h, _) => evaluate_with_head(alloc, place, scope, h, e, ty, left),
         Form::LetCat(_, _, h, _) => evaluate_with_head(alloc, place, scope, h, e, ty, left),
         Form::CaseSum(h, _, _, _, _) => evaluate_with_head(alloc, place, scope, h, e, ty, left),
         Form::CaseStar(h, _, _, _, _) => evaluate_with_head(alloc, place, scope, h, e, ty, left),
         Form::Wait(x, e) => evaluate_wait(alloc, place, scope, *x, e, ty, left),
-        Form::If(m, a, b) => {
-            if is_left(alloc, scope, m)? {
-                evaluate(alloc, place, scope, a, ty, left)
-            } else {
-                evaluate(alloc, place, scope, b, ty, left)
-            }
-        }
+        Form::If(m, a, b) => evaluate_if(alloc, place, scope, m, a, b, ty, left),
         Form::Call(f, ms, es) => evaluate_call(alloc, place, scope, *f, ms, es, left),
     }
 }
@@ -158,6 +139,110 @@ fn evaluate_in_turn<'a>(
     Ok(cat_run(alloc, first, second)?)
 }
 
+// An item before the rest of a star.
+#[cycle(evaluate)]
+fn evaluate_star<'a>(
+    alloc: Global,
+    place: &Place<'_>,
+    scope: &'a Scope<'a>,
+    a: &Exp,
+    b: &Exp,
+    ty: &Ty,
+    left: u64,
+) -> Result<Evaluated, Stop>
+    requires { left < place.now.depth }
+    ensures run { IfOk result (λ r. run_of r ≡ relabel as_star (cat_run (run_at place.now scope.now (expression_of a.now) (star_item (type_of ty.now))) (run_at place.now scope.now (expression_of b.now) (star_items (type_of ty.now))))) }
+    ensures counted { IfOk result (λ r. r.calls ≤ left) }
+    ensures spent { IfErr result (λ r. r ≡ Stop.Spent → left < (relabel as_star (cat_run (run_at place.now scope.now (expression_of a.now) (star_item (type_of ty.now))) (run_at place.now scope.now (expression_of b.now) (star_items (type_of ty.now))))).calls) }
+{
+    let (s, t) = star_types(&*ty, &Ty::Eps);
+    let both = evaluate_in_turn(alloc, place, scope, a, s, b, t, left)?;
+    Ok(star_run(alloc, both)?)
+}
+
+// The left side of a sum.
+#[cycle(evaluate)]
+fn evaluate_left<'a>(
+    alloc: Global,
+    place: &Place<'_>,
+    scope: &'a Scope<'a>,
+    a: &Exp,
+    ty: &Ty,
+    left: u64,
+) -> Result<Evaluated, Stop>
+    requires { left < place.now.depth }
+    ensures run { IfOk result (λ r. run_of r ≡ relabel in_left (run_at place.now scope.now (expression_of a.now) (sum_left (type_of ty.now)))) }
+    ensures counted { IfOk result (λ r. r.calls ≤ left) }
+    ensures spent { IfErr result (λ r. r ≡ Stop.Spent → left < (relabel in_left (run_at place.now scope.now (expression_of a.now) (sum_left (type_of ty.now)))).calls) }
+{
+    let (s, _) = sum_types(&*ty, &Ty::Eps);
+    let inside = evaluate(alloc, place, scope, a, s, left)?;
+    Ok(left_run(alloc, inside)?)
+}
+
+// The right side of a sum.
+#[cycle(evaluate)]
+fn evaluate_right<'a>(
+    alloc: Global,
+    place: &Place<'_>,
+    scope: &'a Scope<'a>,
+    a: &Exp,
+    ty: &Ty,
+    left: u64,
+) -> Result<Evaluated, Stop>
+    requires { left < place.now.depth }
+    ensures run { IfOk result (λ r. run_of r ≡ relabel in_right (run_at place.now scope.now (expression_of a.now) (sum_right (type_of ty.now)))) }
+    ensures counted { IfOk result (λ r. r.calls ≤ left) }
+    ensures spent { IfErr result (λ r. r ≡ Stop.Spent → left < (relabel in_right (run_at place.now scope.now (expression_of a.now) (sum_right (type_of ty.now)))).calls) }
+{
+    let (_, t) = sum_types(&*ty, &Ty::Eps);
+    let inside = evaluate(alloc, place, scope, a, t, left)?;
+    Ok(right_run(alloc, inside)?)
+}
+
+// An expression with its type, which stands one deeper.
+#[cycle(evaluate)]
+fn evaluate_typed<'a>(
+    alloc: Global,
+    place: &Place<'_>,
+    scope: &'a Scope<'a>,
+    a: &Exp,
+    t: &TyExp,
+    left: u64,
+) -> Result<Evaluated, Stop>
+    requires { left < place.now.depth }
+    ensures run { IfOk result (λ r. run_of r ≡ typed_run (run_at place.now scope.now (expression_of a.now) (type_meant (names_known place.now.known.now) (type_tree_of t.now)))) }
+    ensures counted { IfOk result (λ r. r.calls ≤ left) }
+    ensures spent { IfErr result (λ r. r ≡ Stop.Spent → left < (typed_run (run_at place.now scope.now (expression_of a.now) (type_meant (names_known place.now.known.now) (type_tree_of t.now)))).calls) }
+{
+    let inside = evaluate_at_type(alloc, place, scope, a, t, left)?;
+    Ok(typed_run(inside)?)
+}
+
+// By the side of a sum that the value is of, the first or the second.
+#[cycle(evaluate)]
+fn evaluate_if<'a>(
+    alloc: Global,
+    place: &Place<'_>,
+    scope: &'a Scope<'a>,
+    m: &Hist,
+    a: &Exp,
+    b: &Exp,
+    ty: &Ty,
+    left: u64,
+) -> Result<Evaluated, Stop>
+    requires { left < place.now.depth }
+    ensures run { IfOk result (λ r. run_of r ≡ if_run (value (hist_of m.now).expr (past_in scope.now)) (run_at place.now scope.now (expression_of a.now) (type_of ty.now)) (run_at place.now scope.now (expression_of b.now) (type_of ty.now))) }
+    ensures counted { IfOk result (λ r. r.calls ≤ left) }
+    ensures spent { IfErr result (λ r. r ≡ Stop.Spent → left < (if_run (value (hist_of m.now).expr (past_in scope.now)) (run_at place.now scope.now (expression_of a.now) (type_of ty.now)) (run_at place.now scope.now (expression_of b.now) (type_of ty.now))).calls) }
+{
+    if is_left(alloc, scope, m)? {
+        evaluate(alloc, place, scope, a, ty, left)
+    } else {
+        evaluate(alloc, place, scope, b, ty, left)
+    }
+}
+
 // An expression with its written type.
 #[cycle(evaluate)]
 fn evaluate_at_type<'a>(
@@ -173,7 +258,7 @@ fn evaluate_at_type<'a>(
     ensures counted { IfOk result (λ r. r.calls ≤ left) }
     ensures spent { IfErr result (λ r. r ≡ Stop.Spent → left < (run_at place.now scope.now (expression_of e.now) (type_meant (names_known place.now.known.now) (type_tree_of t.now))).calls) }
 {
-    let t = type_meant(alloc, place.known, t)?;
+    let t = boxed_type(alloc, place.known, t)?;
     evaluate(alloc, place, scope, e, &t, left)
 }
 
@@ -196,7 +281,7 @@ fn evaluate_wait<'a>(
 {
     match waited(alloc, scope, x)? {
         Some(v) => evaluate(alloc, place, &Scope::Waited(x, &v, &*scope), e, ty, left),
-        None => Ok(quiet(empty(alloc, ty)?)),
+        None => nothing_run(alloc, ty),
     }
 }
 
@@ -217,9 +302,30 @@ fn evaluate_with_head<'a>(
     ensures spent { IfErr result (λ r. r ≡ Stop.Spent → left < (let_run (is_name_head (head_of h.now)) (head_run_at place.now scope.now (head_of h.now)) (run_after place.now scope.now (expression_of e.now) (type_of ty.now) (head_type_at place.now scope.now (head_of h.now)) (head_run_at place.now scope.now (head_of h.now)).out)).calls) }
 {
     let head = evaluate_head(alloc, place, scope, h, left)?;
+    evaluate_let(alloc, place, scope, h, e, &head, ty, left)
+}
+
+// What a head gave, and then what stands after it.
+#[cycle(evaluate)]
+fn evaluate_let<'a>(
+    alloc: Global,
+    place: &Place<'_>,
+    scope: &'a Scope<'a>,
+    h: &Head,
+    e: &Exp,
+    head: &Evaluated,
+    ty: &Ty,
+    left: u64,
+) -> Result<Evaluated, Stop>
+    requires room { left < place.now.depth }
+    requires counted { head.now.calls ≤ left }
+    ensures run { IfOk result (λ r. run_of r ≡ let_run (is_name_head (head_of h.now)) (run_of head.now) (run_after place.now scope.now (expression_of e.now) (type_of ty.now) (head_type_at place.now scope.now (head_of h.now)) (prefix_of head.now.output))) }
+    ensures counted { IfOk result (λ r. r.calls ≤ left) }
+    ensures spent { IfErr result (λ r. r ≡ Stop.Spent → left < head.now.calls + (run_after place.now scope.now (expression_of e.now) (type_of ty.now) (head_type_at place.now scope.now (head_of h.now)) (prefix_of head.now.output)).calls) }
+{
     let rest = left - head.calls;
     let after = evaluate_after(alloc, place, scope, h, e, &head.output, ty, rest)?;
-    Ok(let_run(is_name_head(h), &head, after)?)
+    Ok(let_run(is_name_head(h), head, after)?)
 }
 
 // What stands after a head, which gave this.
@@ -239,7 +345,7 @@ fn evaluate_after<'a>(
     ensures counted { IfOk result (λ r. r.calls ≤ left) }
     ensures spent { IfErr result (λ r. r ≡ Stop.Spent → left < (run_after place.now scope.now (expression_of e.now) (type_of ty.now) (head_type_at place.now scope.now (head_of h.now)) (prefix_of p.now)).calls) }
 {
-    let s = head_type(alloc, place, scope, h)?;
+    let s = boxed_head_type(alloc, place, scope, h)?;
     evaluate_bound(alloc, place, scope, e, &s, p, ty, left)
 }
 
@@ -262,46 +368,20 @@ fn evaluate_bound<'a>(
     ensures spent { IfErr result (λ r. r ≡ Stop.Spent → left < (run_after place.now scope.now (expression_of e.now) (type_of ty.now) (type_of s.now) (prefix_of p.now)).calls) }
 {
     match &*e.form {
-        Form::Let(x, _, e) => {
-            let inner = Scope::Stream(*x, s, p, &*scope);
-            evaluate(alloc, place, &inner, e, ty, left)
-        }
+        Form::Let(x, _, e) => evaluate_one(alloc, place, scope, *x, s, p, e, ty, left),
         Form::LetPar(x, y, _, e) => {
             let (t, u) = par_types(&*s, &Ty::Eps);
             let (p, q) = par_parts(&*p, &Prefix::EpsEmp);
-            let outer = Scope::Stream(*x, t, p, &*scope);
-            let inner = Scope::Stream(*y, u, q, &outer);
-            evaluate(alloc, place, &inner, e, ty, left)
+            evaluate_two(alloc, place, scope, *x, t, p, *y, u, q, e, ty, left)
         }
         Form::LetCat(x, y, _, e) => {
-            let (t, u) = cat_types(&*s, &Ty::Eps);
-            let parts = cat_parts(alloc, u, p)?;
-            evaluate_two(alloc, place, scope, *x, t, *y, u, &parts, e, ty, left)
+            evaluate_parts(alloc, place, scope, *x, *y, s, p, e, ty, left)
         }
         Form::CaseSum(_, x, a, y, b) => {
-            let (t, u) = sum_types(&*s, &Ty::Eps);
-            match side_taken(p) {
-                Sided::Left(q) => {
-                    let inner = Scope::Stream(*x, t, q, &*scope);
-                    evaluate(alloc, place, &inner, a, ty, left)
-                }
-                Sided::Right(q) => {
-                    let inner = Scope::Stream(*y, u, q, &*scope);
-                    evaluate(alloc, place, &inner, b, ty, left)
-                }
-                Sided::Nothing => Ok(quiet(empty(alloc, ty)?)),
-            }
+            evaluate_side(alloc, place, scope, *x, a, *y, b, s, p, ty, left)
         }
         Form::CaseStar(_, a, y, ys, b) => {
-            let (t, u) = star_types(&*s, &Ty::Eps);
-            match star_taken(alloc, stream_prefix::copy(alloc, p)?) {
-                Taken::Over => evaluate(alloc, place, scope, a, ty, left),
-                Taken::Item(q, qs) => {
-                    let parts = (q, qs);
-                    evaluate_two(alloc, place, scope, *y, t, *ys, u, &parts, b, ty, left)
-                }
-                Taken::Nothing => Ok(quiet(empty(alloc, ty)?)),
-            }
+            evaluate_item(alloc, place, scope, a, *y, *ys, b, s, p, ty, left)
         }
         Form::Var(_)
         | Form::Eps
@@ -316,8 +396,111 @@ fn evaluate_bound<'a>(
         | Form::Asc(_, _)
         | Form::Wait(_, _)
         | Form::If(_, _, _)
-        | Form::Call(_, _, _) => Ok(quiet(empty(alloc, ty)?)),
+        | Form::Call(_, _, _) => nothing_run(alloc, ty),
     }
+}
+
+// What stands after a head whose parts come one after the other.
+#[cycle(evaluate)]
+fn evaluate_parts<'a>(
+    alloc: Global,
+    place: &Place<'_>,
+    scope: &'a Scope<'a>,
+    x: Name,
+    y: Name,
+    s: &Ty,
+    p: &Prefix,
+    e: &Exp,
+    ty: &Ty,
+    left: u64,
+) -> Result<Evaluated, Stop>
+    requires { left < place.now.depth }
+    ensures run { IfOk result (λ r. run_of r ≡ run_with_two place.now scope.now x.0 y.0 (expression_of e.now) (type_of ty.now) (cat_first (type_of s.now)) (cat_second (type_of s.now)) (first_part (prefix_of p.now)) (second_part (cat_second (type_of s.now)) (prefix_of p.now))) }
+    ensures counted { IfOk result (λ r. r.calls ≤ left) }
+    ensures spent { IfErr result (λ r. r ≡ Stop.Spent → left < (run_with_two place.now scope.now x.0 y.0 (expression_of e.now) (type_of ty.now) (cat_first (type_of s.now)) (cat_second (type_of s.now)) (first_part (prefix_of p.now)) (second_part (cat_second (type_of s.now)) (prefix_of p.now))).calls) }
+{
+    let (t, u) = cat_types(&*s, &Ty::Eps);
+    let (p, q) = cat_parts(alloc, u, p)?;
+    evaluate_two(alloc, place, scope, x, t, &*p, y, u, &*q, e, ty, left)
+}
+
+// The branch of the side that is chosen.
+#[cycle(evaluate)]
+fn evaluate_side<'a>(
+    alloc: Global,
+    place: &Place<'_>,
+    scope: &'a Scope<'a>,
+    x: Name,
+    a: &Exp,
+    y: Name,
+    b: &Exp,
+    s: &Ty,
+    p: &Prefix,
+    ty: &Ty,
+    left: u64,
+) -> Result<Evaluated, Stop>
+    requires { left < place.now.depth }
+    ensures run { IfOk result (λ r. run_of r ≡ sum_run (type_of ty.now) (prefix_of p.now) (λ q. run_with_one place.now scope.now x.0 (expression_of a.now) (type_of ty.now) (sum_left (type_of s.now)) q) (λ q. run_with_one place.now scope.now y.0 (expression_of b.now) (type_of ty.now) (sum_right (type_of s.now)) q)) }
+    ensures counted { IfOk result (λ r. r.calls ≤ left) }
+    ensures spent { IfErr result (λ r. r ≡ Stop.Spent → left < (sum_run (type_of ty.now) (prefix_of p.now) (λ q. run_with_one place.now scope.now x.0 (expression_of a.now) (type_of ty.now) (sum_left (type_of s.now)) q) (λ q. run_with_one place.now scope.now y.0 (expression_of b.now) (type_of ty.now) (sum_right (type_of s.now)) q)).calls) }
+{
+    let (t, u) = sum_types(&*s, &Ty::Eps);
+    match side_taken(p) {
+        Sided::Left(q) => evaluate_one(alloc, place, scope, x, t, q, a, ty, left),
+        Sided::Right(q) => evaluate_one(alloc, place, scope, y, u, q, b, ty, left),
+        Sided::Nothing => nothing_run(alloc, ty),
+    }
+}
+
+// The branch of a star that is over, or that of its first item and the rest.
+#[cycle(evaluate)]
+fn evaluate_item<'a>(
+    alloc: Global,
+    place: &Place<'_>,
+    scope: &'a Scope<'a>,
+    a: &Exp,
+    y: Name,
+    ys: Name,
+    b: &Exp,
+    s: &Ty,
+    p: &Prefix,
+    ty: &Ty,
+    left: u64,
+) -> Result<Evaluated, Stop>
+    requires { left < place.now.depth }
+    ensures run { IfOk result (λ r. run_of r ≡ star_run (type_of ty.now) (prefix_of p.now) (run_at place.now scope.now (expression_of a.now) (type_of ty.now)) (λ q qs. run_with_two place.now scope.now y.0 ys.0 (expression_of b.now) (type_of ty.now) (star_item (type_of s.now)) (star_items (type_of s.now)) q qs)) }
+    ensures counted { IfOk result (λ r. r.calls ≤ left) }
+    ensures spent { IfErr result (λ r. r ≡ Stop.Spent → left < (star_run (type_of ty.now) (prefix_of p.now) (run_at place.now scope.now (expression_of a.now) (type_of ty.now)) (λ q qs. run_with_two place.now scope.now y.0 ys.0 (expression_of b.now) (type_of ty.now) (star_item (type_of s.now)) (star_items (type_of s.now)) q qs)).calls) }
+{
+    let (t, u) = star_types(&*s, &Ty::Eps);
+    let taken = boxed_taken(alloc, p)?;
+    match &*taken {
+        Taken::Over => evaluate(alloc, place, scope, a, ty, left),
+        Taken::Item(q, qs) => evaluate_two(alloc, place, scope, y, t, q, ys, u, qs, b, ty, left),
+        Taken::Nothing => nothing_run(alloc, ty),
+    }
+}
+
+// An expression where one name is bound.
+#[cycle(evaluate)]
+fn evaluate_one<'a>(
+    alloc: Global,
+    place: &Place<'_>,
+    scope: &'a Scope<'a>,
+    x: Name,
+    t: &Ty,
+    p: &Prefix,
+    e: &Exp,
+    ty: &Ty,
+    left: u64,
+) -> Result<Evaluated, Stop>
+    requires { left < place.now.depth }
+    ensures run { IfOk result (λ r. run_of r ≡ run_with_one place.now scope.now x.0 (expression_of e.now) (type_of ty.now) (type_of t.now) (prefix_of p.now)) }
+    ensures counted { IfOk result (λ r. r.calls ≤ left) }
+    ensures spent { IfErr result (λ r. r ≡ Stop.Spent → left < (run_with_one place.now scope.now x.0 (expression_of e.now) (type_of ty.now) (type_of t.now) (prefix_of p.now)).calls) }
+{
+    let inner = Scope::Stream(x, t, p, &*scope);
+    evaluate(alloc, place, &inner, e, ty, left)
 }
 
 // An expression where two names are bound.
@@ -328,20 +511,21 @@ fn evaluate_two<'a>(
     scope: &'a Scope<'a>,
     x: Name,
     t: &Ty,
+    p: &Prefix,
     y: Name,
     u: &Ty,
-    parts: &(Prefix, Prefix),
+    q: &Prefix,
     e: &Exp,
     ty: &Ty,
     left: u64,
 ) -> Result<Evaluated, Stop>
     requires { left < place.now.depth }
-    ensures run { IfOk result (λ r. run_of r ≡ run_with_two place.now scope.now x.0 y.0 (expression_of e.now) (type_of ty.now) (type_of t.now) (type_of u.now) (prefix_of parts.now.0) (prefix_of parts.now.1)) }
+    ensures run { IfOk result (λ r. run_of r ≡ run_with_two place.now scope.now x.0 y.0 (expression_of e.now) (type_of ty.now) (type_of t.now) (type_of u.now) (prefix_of p.now) (prefix_of q.now)) }
     ensures counted { IfOk result (λ r. r.calls ≤ left) }
-    ensures spent { IfErr result (λ r. r ≡ Stop.Spent → left < (run_with_two place.now scope.now x.0 y.0 (expression_of e.now) (type_of ty.now) (type_of t.now) (type_of u.now) (prefix_of parts.now.0) (prefix_of parts.now.1)).calls) }
+    ensures spent { IfErr result (λ r. r ≡ Stop.Spent → left < (run_with_two place.now scope.now x.0 y.0 (expression_of e.now) (type_of ty.now) (type_of t.now) (type_of u.now) (prefix_of p.now) (prefix_of q.now)).calls) }
 {
-    let outer = Scope::Stream(x, t, &parts.0, &*scope);
-    let inner = Scope::Stream(y, u, &parts.1, &outer);
+    let outer = Scope::Stream(x, t, p, &*scope);
+    let inner = Scope::Stream(y, u, q, &outer);
     evaluate(alloc, place, &inner, e, ty, left)
 }
 
@@ -361,7 +545,7 @@ fn evaluate_head<'a>(
     ensures spent { IfErr result (λ r. r ≡ Stop.Spent → left < (head_run_at place.now scope.now (head_of h.now)).calls) }
 {
     match &*h.form {
-        HeadForm::Var(x) => Ok(quiet(stream_at(alloc, scope, *x)?)),
+        HeadForm::Var(x) => name_run(alloc, scope, *x),
         HeadForm::Call(f, ms, es) => evaluate_call(alloc, place, scope, *f, ms, es, left),
         HeadForm::Asc(e, t) => evaluate_at_type(alloc, place, scope, e, t, left),
     }
@@ -413,8 +597,7 @@ fn evaluate_arguments<'a>(
     let Some((e, more)) = es.split_first() else {
         return Ok(before);
     };
-    let none = Ty::Eps;
-    let (ty, others) = first_param(params, &none);
+    let (ty, others) = first_param(params, &Ty::Eps);
     let argument = evaluate(alloc, place, scope, e, ty, left - before.calls)?;
     let so_far = one_more(before, is_name(e), argument)?;
     evaluate_arguments(alloc, place, scope, more, others, so_far, left)
@@ -459,97 +642,4 @@ fn evaluate_body(
         left - 1,
     )?;
     Ok(one_call(run))
-}
-
-// The parameters of a function, or none of one that isn't there.
-fn params_of(alloc: Global, place: &Place<'_>, f: Name) -> Result<Vec<(Name, Ty)>, Memory>
-    ensures { IfOk result (λ v. types_listed v.items ≡ leaf_types (functions_at place.now f.0).params) }
-{
-    match function_named(place.functions, f) {
-        Some(function) => leaves(alloc, &function.params),
-        None => Ok(Vec::new(alloc)),
-    }
-}
-
-// The type of the first parameter, or else the other one, and the other parameters.
-fn first_param<'a>(params: &'a [(Name, Ty)], otherwise: &'a Ty) -> (&'a Ty, &'a [(Name, Ty)])
-    ensures first { type_of result.0.now ≡ first_type (type_of otherwise.now) (types_listed params.now) }
-    ensures others { types_listed result.1.now ≡ other_types (types_listed params.now) }
-{
-    match params.split_first() {
-        Some((param, others)) => (&param.1, others),
-        None => (otherwise, params),
-    }
-}
-
-// The type of a head: its name's, its function's result, or what it is written with.
-fn head_type(alloc: Global, place: &Place<'_>, scope: &Scope<'_>, h: &Head) -> Result<Ty, Memory>
-    ensures { IfOk result (λ t. type_of t ≡ head_type (functions_at place.now) (names_known place.now.known.now) (head_of h.now) (types_in scope.now)) }
-{
-    match &*h.form {
-        HeadForm::Var(x) => type_at(alloc, scope, *x),
-        HeadForm::Call(f, _, _) => match function_named(place.functions, *f) {
-            Some(function) => stream_type::copy(alloc, &function.result),
-            None => Ok(Ty::Eps),
-        },
-        HeadForm::Asc(_, t) => type_meant(alloc, place.known, t),
-    }
-}
-
-// The value of a historical expression as a stream of the type.
-fn past_run(alloc: Global, scope: &Scope<'_>, m: &Hist, ty: &Ty) -> Result<Evaluated, Memory>
-    ensures { IfOk result (λ r. run_of r ≡ quiet (full (type_of ty.now) (value (expr_of m.now.expr.value) (past_in scope.now)))) }
-{
-    let v = value_in(alloc, scope, m)?;
-    Ok(quiet(full(alloc, ty, &v)?))
-}
-
-// The value of what has come on a name, once that is whole.
-fn waited(alloc: Global, scope: &Scope<'_>, x: Name) -> Result<Option<Value>, Memory>
-    ensures whole { IfOk result (λ r. is_some r ≡ is_maximal (streams_in scope.now x.0)) }
-    ensures value { IfOk result (λ r. IfSome r (λ v. hist_value_of v ≡ value_of (streams_in scope.now x.0))) }
-{
-    let p = stream_at(alloc, scope, x)?;
-    if maximal(&p) {
-        Ok(Some(value_of(alloc, &p)?))
-    } else {
-        Ok(None)
-    }
-}
-
-// Whether the value of a historical expression is one of the left side of a sum.
-fn is_left(alloc: Global, scope: &Scope<'_>, m: &Hist) -> Result<bool, Memory>
-    ensures { IfOk result (λ r. r ≡ is_left (value (expr_of m.now.expr.value) (past_in scope.now))) }
-{
-    let v = value_in(alloc, scope, m)?;
-    Ok(is_left_value(&v))
-}
-
-// Whether a value is one of the left side of a sum.
-#[tactic(auto, using(crate::proofs::Runs::list_is_not_left))]
-fn is_left_value(v: &Value) -> bool
-    ensures { result ≡ is_left (hist_value_of v.now) }
-{
-    match v {
-        Value::Inl(_) => true,
-        Value::Unit | Value::Int(_) | Value::Pair(_, _) | Value::Inr(_) | Value::List(_) => false,
-    }
-}
-
-// Whether an expression is a name.
-fn is_name(e: &Exp) -> bool
-    ensures { result ≡ is_name (expression_of e.now) }
-{
-    matches!(&*e.form, Form::Var(_))
-}
-
-// Whether a head is a name, or a name with its type.
-fn is_name_head(h: &Head) -> bool
-    ensures { result ≡ is_name_head (head_of h.now) }
-{
-    match &*h.form {
-        HeadForm::Var(_) => true,
-        HeadForm::Call(_, _, _) => false,
-        HeadForm::Asc(e, _) => is_name(e),
-    }
 }

@@ -6,6 +6,7 @@ mod evaluated;
 mod evaluation;
 mod functions;
 pub mod laws;
+mod looking;
 mod parts;
 mod programs;
 mod refusal;

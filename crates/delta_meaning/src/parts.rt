@@ -2,7 +2,7 @@
 
 ghost use Rattle.std.specs.Prelude.{◌≡◌, IfOk};
 ghost use Rattle.stream_type.specs.StreamType.{StreamType, type_of, eps};
-ghost use Rattle.stream_prefix.specs.StreamPrefix.{StreamPrefix, eps_emp};
+ghost use Rattle.stream_prefix.specs.StreamPrefix.{StreamPrefix, eps_emp, emp};
 ghost use Rattle.stream_prefix.specs.Tree.{prefix_of, end_of};
 ghost use Rattle.core_term.specs.Parts.{par_left, par_right, cat_first, cat_second, sum_left, sum_right, star_item, star_items, left_part, right_part, first_part, second_part};
 ghost use Rattle.core_term.specs.Run.{Run, sum_run, star_run};
@@ -88,19 +88,13 @@ pub fn par_parts<'a>(p: &'a Prefix, nothing: &'a Prefix) -> (&'a Prefix, &'a Pre
 /// What came on the first of two streams and on the one after it, which is of type `t`. Its only error is
 /// want of memory.
 #[tactic(auto, using(crate::proofs::StarForms::star_forms))]
-pub fn cat_parts(alloc: Global, t: &Ty, p: &Prefix) -> Result<(Prefix, Prefix), Memory>
-    ensures first { IfOk result (λ r. prefix_of r.0 ≡ first_part (prefix_of p.now)) }
-    ensures second { IfOk result (λ r. prefix_of r.1 ≡ second_part (type_of t.now) (prefix_of p.now)) }
+pub fn cat_parts(alloc: Global, t: &Ty, p: &Prefix) -> Result<(Box<Prefix>, Box<Prefix>), Memory>
+    ensures first { IfOk result (λ r. prefix_of r.0.value ≡ first_part (prefix_of p.now)) }
+    ensures second { IfOk result (λ r. prefix_of r.1.value ≡ second_part (type_of t.now) (prefix_of p.now)) }
 {
     match p {
-        Prefix::CatFst(a) => Ok((
-            stream_prefix::copy(alloc, a)?,
-            stream_prefix::empty(alloc, t)?,
-        )),
-        Prefix::CatBoth(a, b) => Ok((
-            stream_prefix::copy(alloc, a)?,
-            stream_prefix::copy(alloc, b)?,
-        )),
+        Prefix::CatFst(a) => Ok((boxed_copy(alloc, a)?, boxed_nothing(alloc, t)?)),
+        Prefix::CatBoth(a, b) => Ok((boxed_copy(alloc, a)?, boxed_copy(alloc, b)?)),
         Prefix::EpsEmp
         | Prefix::OneEmp
         | Prefix::OneFull
@@ -110,8 +104,22 @@ pub fn cat_parts(alloc: Global, t: &Ty, p: &Prefix) -> Result<(Prefix, Prefix), 
         | Prefix::SumEmp
         | Prefix::Inl(_)
         | Prefix::Inr(_)
-        | Prefix::Star(_, _) => Ok((Prefix::EpsEmp, stream_prefix::empty(alloc, t)?)),
+        | Prefix::Star(_, _) => Ok((boxed_nothing(alloc, &Ty::Eps)?, boxed_nothing(alloc, t)?)),
     }
+}
+
+// One more of a prefix, in a box.
+fn boxed_copy(alloc: Global, p: &Prefix) -> Result<Box<Prefix>, Memory>
+    ensures { IfOk result (λ r. prefix_of r.value ≡ prefix_of p.now) }
+{
+    Ok(Box::new(alloc, stream_prefix::copy(alloc, p)?)?)
+}
+
+// The empty prefix of a type, in a box.
+fn boxed_nothing(alloc: Global, t: &Ty) -> Result<Box<Prefix>, Memory>
+    ensures { IfOk result (λ r. prefix_of r.value ≡ emp (type_of t.now)) }
+{
+    Ok(Box::new(alloc, stream_prefix::empty(alloc, t)?)?)
 }
 
 /// What has come of a sum.
@@ -157,9 +165,18 @@ pub enum Taken {
     Item(Prefix, Prefix),
 }
 
-/// What has come of a star, with its first item apart; nothing, where it is no star.
+/// What has come of a star, with its first item apart, in a box; nothing, where it is no star. Its only
+/// error is want of memory.
+pub fn boxed_taken(alloc: Global, p: &Prefix) -> Result<Box<Taken>, Memory>
+    ensures { IfOk result (λ q. (r : StreamType) (a : Run) (b : StreamPrefix → StreamPrefix → Run) → star_run r (prefix_of p.now) a b ≡ taken_run q.value r a b) }
+{
+    let p = stream_prefix::copy(alloc, p)?;
+    Ok(Box::new(alloc, star_taken(alloc, p))?)
+}
+
+// What has come of a star, with its first item apart; nothing, where it is no star.
 #[tactic(auto, using(crate::proofs::StarForms::star_forms))]
-pub fn star_taken(alloc: Global, p: Prefix) -> Taken
+fn star_taken(alloc: Global, p: Prefix) -> Taken
     ensures { (r : StreamType) (a : Run) (b : StreamPrefix → StreamPrefix → Run) → star_run r (prefix_of p) a b ≡ taken_run result r a b }
 {
     match p {

@@ -1,15 +1,17 @@
 //! The functions of a program, and what the whole program gives.
 
 ghost use Rattle.std.specs.Prelude.{◌≡◌, ◌<◌, ◌≤◌, ◌^◌, ◌++◌, [], ◌∷◌, ℕ, map, IfOk, OnOk, IfErr};
+ghost use Rattle.stream_type.specs.StreamType.{type_of};
 ghost use Rattle.stream_prefix.specs.Tree.{prefix_of};
-ghost use Rattle.delta_tree.specs.Tree.{program_of, function_of, declaration_of};
+ghost use Rattle.bunch.specs.BunchTree.{tree_of};
+ghost use Rattle.delta_tree.specs.Tree.{program_of, function_of, declaration_of, expression_of};
 ghost use Rattle.delta_meaning.specs.TypeNames.{no_type_names, names_below};
 ghost use Rattle.delta_meaning.specs.KnownTypes.{names_known};
 ghost use Rattle.core_term.specs.CoreTerm.{typed_names_of};
 ghost use Rattle.delta_meaning.specs.SourceBody.{body_meant, functions_among, names_below_all};
 ghost use Rattle.delta_meaning.specs.SourceMeaning.{source_program_run, mean, calls_of};
 ghost use Rattle.delta_meaning.specs.Evaluated.{run_of};
-ghost use Rattle.delta_meaning.specs.Functions.{body_of};
+ghost use Rattle.delta_meaning.specs.Functions.{body_of, body_at};
 
 use crate::evaluated::Evaluated;
 use crate::evaluation::evaluate;
@@ -17,9 +19,9 @@ use crate::functions::{Function, Place, leaves};
 use crate::refusal::{EvalRefusal, Stop};
 use crate::scope::Scope;
 use crate::splitting::parts;
-use crate::types::{params_meant, past_meant, type_meant};
-use bunch::Name;
-use delta_tree::{Decl, Fun, Program};
+use crate::types::{boxed_params, boxed_type, params_meant, past_meant, type_meant};
+use bunch::{Bunch, Name};
+use delta_tree::{Decl, Exp, Fun, Program};
 use std::alloc::Global;
 use stream_prefix::Prefix;
 use stream_type::{Memory, Ty};
@@ -68,17 +70,54 @@ fn main_run(alloc: Global, p: &Program, input: &Prefix, left: u64) -> Result<Eva
     ensures spent { IfErr result (λ s. s ≡ Stop.Spent → left < calls_of (program_of p.now) (prefix_of input.now)) }
 {
     let (functions, known) = functions_of(alloc, &p.decls)?;
-    let params = params_meant(alloc, &known, &p.main.ctx)?;
-    let result = type_meant(alloc, &known, &p.main.result)?;
-    let names = leaves(alloc, &params)?;
-    let streams = parts(alloc, &params, input)?;
+    run_among(alloc, p, &functions, &known, input, left)
+}
+
+// The same, by the program's functions and the names of types that are known below all its declarations.
+fn run_among(
+    alloc: Global,
+    p: &Program,
+    functions: &[Function<'_>],
+    known: &[(Name, Ty)],
+    input: &Prefix,
+    left: u64,
+) -> Result<Evaluated, Stop>
+    requires room { left < 2 ^ 62 }
+    requires functions { map body_of functions.now ≡ functions_among no_type_names (map declaration_of p.now.decls.items) }
+    requires known { names_known known.now ≡ names_below_all no_type_names (map declaration_of p.now.decls.items) }
+    ensures run { IfOk result (λ r. run_of r ≡ source_program_run (program_of p.now) (prefix_of input.now)) }
+    ensures counted { IfOk result (λ r. r.calls ≤ left) }
+    ensures spent { IfErr result (λ s. s ≡ Stop.Spent → left < calls_of (program_of p.now) (prefix_of input.now)) }
+{
+    let params = boxed_params(alloc, known, &p.main.ctx)?;
+    let ty = boxed_type(alloc, known, &p.main.result)?;
     let place = Place {
-        functions: &functions,
-        known: &known,
+        functions,
+        known,
         depth: HORIZON,
     };
+    body_run(alloc, &place, &*params, &p.main.body, &*ty, input, left)
+}
+
+// The run of a body at its place, on a prefix of the type of its parameters.
+fn body_run(
+    alloc: Global,
+    place: &Place<'_>,
+    params: &Bunch,
+    body: &Exp,
+    ty: &Ty,
+    input: &Prefix,
+    left: u64,
+) -> Result<Evaluated, Stop>
+    requires { left < place.now.depth }
+    ensures run { IfOk result (λ r. run_of r ≡ body_at place.now (tree_of params.now) (expression_of body.now) (type_of ty.now) (prefix_of input.now)) }
+    ensures counted { IfOk result (λ r. r.calls ≤ left) }
+    ensures spent { IfErr result (λ s. s ≡ Stop.Spent → left < (body_at place.now (tree_of params.now) (expression_of body.now) (type_of ty.now) (prefix_of input.now)).calls) }
+{
+    let names = leaves(alloc, params)?;
+    let streams = parts(alloc, params, input)?;
     let scope = Scope::Params(&names, &streams, &[]);
-    evaluate(alloc, &place, &scope, &p.main.body, &result, left)
+    evaluate(alloc, place, &scope, body, ty, left)
 }
 
 // The functions among declarations as they are meant, and the names of types that are known below all.

@@ -8,7 +8,6 @@ ghost use Rattle.bunch.specs.Names.{value_at};
 ghost use Rattle.hist_value.specs.HistValue.{hist_value_of, unit_value};
 ghost use Rattle.hist_value.specs.Environment.{environment_of};
 ghost use Rattle.hist_value.specs.Evaluate.{value};
-ghost use Rattle.hist_value.specs.HistExpr.{expr_of};
 ghost use Rattle.delta_tree.specs.Tree.{hist_of};
 ghost use Rattle.core_term.specs.Environment.{by_side};
 ghost use Rattle.core_term.specs.Meaning.{no_past};
@@ -123,7 +122,7 @@ fn stream_of_param(
 
 /// The value of a historical expression. Its only error is want of memory.
 pub fn value_in(alloc: Global, scope: &Scope<'_>, m: &Hist) -> Result<Value, Memory>
-    ensures { IfOk result (λ v. hist_value_of v ≡ value (expr_of m.now.expr.value) (past_in scope.now)) }
+    ensures { IfOk result (λ v. hist_value_of v ≡ value (hist_of m.now).expr (past_in scope.now)) }
 {
     let entries = entries_in(alloc, scope)?;
     value(alloc, &m.expr, &entries)

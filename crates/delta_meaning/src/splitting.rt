@@ -1,6 +1,6 @@
 //! What has come on each parameter of the main program.
 
-ghost use Rattle.std.specs.Prelude.{◌≡◌, ◌++◌, map, IfOk, OnOk};
+ghost use Rattle.std.specs.Prelude.{◌≡◌, ◌++◌, [], ◌∷◌, map, IfOk, OnOk};
 ghost use Rattle.stream_prefix.specs.Tree.{prefix_of};
 ghost use Rattle.bunch.specs.BunchTree.{tree_of};
 ghost use Rattle.delta_meaning.specs.Splitting.{parts, empties, blanks};
@@ -27,10 +27,7 @@ fn add_parts(alloc: Global, b: &Bunch, p: &Prefix, found: &mut Vec<Prefix>) -> R
 {
     match b {
         Bunch::Empty => Ok(()),
-        Bunch::Leaf(_, _) => {
-            found.push(stream_prefix::copy(alloc, p)?)?;
-            Ok(())
-        }
+        Bunch::Leaf(_, _) => add_copy(alloc, p, found),
         Bunch::Comma(a, c) => match p {
             Prefix::Par(p, q) => {
                 add_parts(alloc, a, p, found)?;
@@ -69,6 +66,14 @@ fn add_parts(alloc: Global, b: &Bunch, p: &Prefix, found: &mut Vec<Prefix>) -> R
             | Prefix::Star(_, _) => add_blanks(b, found),
         },
     }
+}
+
+// Adds one more of a prefix.
+fn add_copy(alloc: Global, p: &Prefix, found: &mut Vec<Prefix>) -> Result<(), Memory>
+    ensures { OnOk result (map prefix_of found.new.items ≡ map prefix_of found.old.items ++ prefix_of p.now ∷ []) }
+{
+    found.push(stream_prefix::copy(alloc, p)?)?;
+    Ok(())
 }
 
 // Adds for each name that nothing has come on it.

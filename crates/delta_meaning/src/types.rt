@@ -33,23 +33,28 @@ fn form_meant(alloc: Global, known: &[(Name, Ty)], form: &TyForm) -> Result<Ty, 
         TyForm::One => Ok(Ty::One),
         TyForm::Int => Ok(Ty::Int),
         TyForm::Named(x) => named(alloc, known, *x),
-        TyForm::Cat(a, b) => stream_type::cat(
-            alloc,
-            type_meant(alloc, known, a)?,
-            type_meant(alloc, known, b)?,
-        ),
-        TyForm::Par(a, b) => stream_type::par(
-            alloc,
-            type_meant(alloc, known, a)?,
-            type_meant(alloc, known, b)?,
-        ),
-        TyForm::Sum(a, b) => stream_type::sum(
-            alloc,
-            type_meant(alloc, known, a)?,
-            type_meant(alloc, known, b)?,
-        ),
-        TyForm::Star(a) => stream_type::star(alloc, type_meant(alloc, known, a)?),
+        TyForm::Cat(a, b) => Ok(Ty::Cat(
+            boxed_type(alloc, known, a)?,
+            boxed_type(alloc, known, b)?,
+        )),
+        TyForm::Par(a, b) => Ok(Ty::Par(
+            boxed_type(alloc, known, a)?,
+            boxed_type(alloc, known, b)?,
+        )),
+        TyForm::Sum(a, b) => Ok(Ty::Sum(
+            boxed_type(alloc, known, a)?,
+            boxed_type(alloc, known, b)?,
+        )),
+        TyForm::Star(a) => Ok(Ty::Star(boxed_type(alloc, known, a)?)),
     }
+}
+
+/// The same type in a box. Its only error is want of memory.
+#[cycle(meant)]
+pub fn boxed_type(alloc: Global, known: &[(Name, Ty)], t: &TyExp) -> Result<Box<Ty>, Memory>
+    ensures { IfOk result (λ r. type_of r.value ≡ type_meant (names_known known.now) (type_tree_of t.now)) }
+{
+    Ok(Box::new(alloc, type_meant(alloc, known, t)?)?)
 }
 
 // The type of a name, or `eps` where it isn't known.
@@ -57,8 +62,7 @@ fn form_meant(alloc: Global, known: &[(Name, Ty)], form: &TyForm) -> Result<Ty, 
 fn named(alloc: Global, known: &[(Name, Ty)], x: Name) -> Result<Ty, Memory>
     ensures { IfOk result (λ r. type_of r ≡ unwrap_or (names_known known.now x.0) eps) }
 {
-    let unknown = Ty::Eps;
-    stream_type::copy(alloc, last_at(known, x, &unknown))
+    stream_type::copy(alloc, last_at(known, x, &Ty::Eps))
 }
 
 // The type of the last entry with the name, or else the other one.
@@ -76,23 +80,30 @@ fn last_at<'a>(known: &'a [(Name, Ty)], x: Name, otherwise: &'a Ty) -> &'a Ty
 
 /// The bunch that written parameters stand for: `params_meant` in `specs/TypeNames.antt`. Its only error
 /// is want of memory.
+#[cycle(params)]
 pub fn params_meant(alloc: Global, known: &[(Name, Ty)], params: &Ctx) -> Result<Bunch, Memory>
     ensures { IfOk result (λ b. tree_of b ≡ params_meant (names_known known.now) (context_of params.now)) }
 {
     match params {
         Ctx::Empty => Ok(Bunch::Empty),
         Ctx::Leaf(x, t) => Ok(Bunch::Leaf(*x, type_meant(alloc, known, t)?)),
-        Ctx::Comma(a, b) => {
-            let left = params_meant(alloc, known, a)?;
-            let right = params_meant(alloc, known, b)?;
-            Ok(Bunch::Comma(Box::new(alloc, left)?, Box::new(alloc, right)?))
-        }
-        Ctx::Semi(a, b) => {
-            let left = params_meant(alloc, known, a)?;
-            let right = params_meant(alloc, known, b)?;
-            Ok(Bunch::Semi(Box::new(alloc, left)?, Box::new(alloc, right)?))
-        }
+        Ctx::Comma(a, b) => Ok(Bunch::Comma(
+            boxed_params(alloc, known, a)?,
+            boxed_params(alloc, known, b)?,
+        )),
+        Ctx::Semi(a, b) => Ok(Bunch::Semi(
+            boxed_params(alloc, known, a)?,
+            boxed_params(alloc, known, b)?,
+        )),
     }
+}
+
+/// The same bunch in a box. Its only error is want of memory.
+#[cycle(params)]
+pub fn boxed_params(alloc: Global, known: &[(Name, Ty)], params: &Ctx) -> Result<Box<Bunch>, Memory>
+    ensures { IfOk result (λ b. tree_of b.value ≡ params_meant (names_known known.now) (context_of params.now)) }
+{
+    Ok(Box::new(alloc, params_meant(alloc, known, params)?)?)
 }
 
 /// The historical parameters that written ones stand for, in turn, with the types of the streams whose

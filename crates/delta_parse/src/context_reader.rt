@@ -8,6 +8,7 @@ ghost use Rattle.delta_parse.specs.Tables.{reading};
 ghost use Rattle.delta_parse.specs.Readers.{Gives};
 
 use crate::cursor::{Halt, accept, expect};
+use crate::making::{in_sequence, side_by_side};
 use crate::plain::Plain;
 use crate::terminal::Terminal;
 use crate::type_reader::read_type;
@@ -54,13 +55,11 @@ fn read_context<'a>(alloc: Global, tokens: &'a [Plain]) -> Result<(Ctx, &'a [Pla
     let (first, rest) = read_item(alloc, tokens)?;
     if let Some((_, rest)) = accept(Terminal::Comma, rest) {
         let (more, rest) = read_commas(alloc, rest)?;
-        let both = Ctx::Comma(Box::new(alloc, first)?, Box::new(alloc, more)?);
-        return Ok((both, rest));
+        return Ok((side_by_side(alloc, first, more)?, rest));
     }
     if let Some((_, rest)) = accept(Terminal::Semicolon, rest) {
         let (more, rest) = read_semicolons(alloc, rest)?;
-        let both = Ctx::Semi(Box::new(alloc, first)?, Box::new(alloc, more)?);
-        return Ok((both, rest));
+        return Ok((in_sequence(alloc, first, more)?, rest));
     }
     Ok((first, rest))
 }
@@ -76,8 +75,7 @@ fn read_commas<'a>(alloc: Global, tokens: &'a [Plain]) -> Result<(Ctx, &'a [Plai
         return Ok((first, rest));
     };
     let (more, rest) = read_commas(alloc, rest)?;
-    let both = Ctx::Comma(Box::new(alloc, first)?, Box::new(alloc, more)?);
-    Ok((both, rest))
+    Ok((side_by_side(alloc, first, more)?, rest))
 }
 
 #[cycle(contexts)]
@@ -91,8 +89,7 @@ fn read_semicolons<'a>(alloc: Global, tokens: &'a [Plain]) -> Result<(Ctx, &'a [
         return Ok((first, rest));
     };
     let (more, rest) = read_semicolons(alloc, rest)?;
-    let both = Ctx::Semi(Box::new(alloc, first)?, Box::new(alloc, more)?);
-    Ok((both, rest))
+    Ok((in_sequence(alloc, first, more)?, rest))
 }
 
 #[cycle(contexts)]

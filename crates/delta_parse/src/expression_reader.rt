@@ -11,6 +11,7 @@ ghost use Rattle.delta_parse.specs.Readers.{Gives, with_ending, behind, arms_of}
 
 use crate::cursor::{Halt, accept, expect, place, starts_with, starts_with_either};
 use crate::history_reader::{read_histories, read_history};
+use crate::making::waiting;
 use crate::pattern_reader::{Pattern, read_pattern};
 use crate::plain::Plain;
 use crate::terminal::Terminal;
@@ -102,8 +103,7 @@ fn read_wait<'a>(alloc: Global, tokens: &'a [Plain]) -> Result<(Exp, &'a [Plain]
     let (name, rest) = expect(Terminal::NameToken, rest)?;
     let (_, rest) = expect(Terminal::InWord, rest)?;
     let (body, rest) = read_expression(alloc, rest)?;
-    let form = Form::Wait(Name(name.name), body);
-    Ok((expression(alloc, word.at, form)?, rest))
+    Ok((waiting(alloc, word.at, Name(name.name), body)?, rest))
 }
 
 #[cycle(expressions)]

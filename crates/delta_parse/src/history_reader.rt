@@ -49,7 +49,7 @@ pub fn read_history<'a>(alloc: Global, tokens: &'a [Plain]) -> Result<(Hist, &'a
         return Ok((head, rest));
     };
     let (tail, rest) = read_history(alloc, rest)?;
-    let expr = Expr::Cons(head, tail.expr);
+    let expr = Expr::Cons(head.expr, tail.expr);
     let at = place(tokens);
     Ok((historical(alloc, at, expr)?, rest))
 }
@@ -70,7 +70,13 @@ fn read_fold<'a>(alloc: Global, tokens: &'a [Plain]) -> Result<(Hist, &'a [Plain
     let (item, rest) = expect(Terminal::NameToken, rest)?;
     let (_, rest) = expect(Terminal::Dot, rest)?;
     let (body, rest) = read_history(alloc, rest)?;
-    let expr = Expr::Fold(list.expr, start.expr, Name(so_far.name), Name(item.name), body.expr);
+    let expr = Expr::Fold(
+        list.expr,
+        start.expr,
+        Name(so_far.name),
+        Name(item.name),
+        body.expr,
+    );
     Ok((historical(alloc, word.at, expr)?, rest))
 }
 

@@ -11,6 +11,7 @@ mod expression_reader;
 mod fault;
 mod history_reader;
 pub mod laws;
+mod making;
 mod marks;
 mod numbering;
 mod parsing;

@@ -8,6 +8,7 @@ ghost use Rattle.delta_parse.specs.Tables.{reading};
 ghost use Rattle.delta_parse.specs.Readers.{Gives, with_stars};
 
 use crate::cursor::{Halt, accept, expect, place};
+use crate::making::sum_of_types;
 use crate::plain::Plain;
 use crate::terminal::Terminal;
 use bunch::Name;
@@ -26,9 +27,8 @@ pub fn read_type<'a>(alloc: Global, tokens: &'a [Plain]) -> Result<(TyExp, &'a [
         return Ok((left, rest));
     };
     let (right, rest) = read_type(alloc, rest)?;
-    let form = TyForm::Sum(left, right);
     let at = place(tokens);
-    Ok((written_type(alloc, at, form)?, rest))
+    Ok((sum_of_types(alloc, at, left, right)?, rest))
 }
 
 #[cycle(types)]

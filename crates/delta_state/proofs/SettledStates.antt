@@ -28,13 +28,14 @@ pub is_not : (b : Bool) → not b ≡ true → b ≡ false
 is_not false h = refl
 is_not true h = absurd (true≢false (sym h))
 
-left_of : (xs ys : List ℕ) (T : NameTypes) (d : Environment) → EmptyOn (xs ++ ys) T d → EmptyOn xs T d
+-- what is empty on names is so on fewer of them
+pub left_of : (xs ys : List ℕ) (T : NameTypes) (d : Environment) → EmptyOn (xs ++ ys) T d → EmptyOn xs T d
 left_of xs ys T d h = record { at = λ x m. h.at x (holds-left x xs ys m) }
 
-right_of : (xs ys : List ℕ) (T : NameTypes) (d : Environment) → EmptyOn (xs ++ ys) T d → EmptyOn ys T d
+pub right_of : (xs ys : List ℕ) (T : NameTypes) (d : Environment) → EmptyOn (xs ++ ys) T d → EmptyOn ys T d
 right_of xs ys T d h = record { at = λ x m. h.at x (holds-right x xs ys m) }
 
-tail_of : (z : ℕ) (xs : List ℕ) (T : NameTypes) (d : Environment) → EmptyOn (z ∷ xs) T d → EmptyOn xs T d
+pub tail_of : (z : ℕ) (xs : List ℕ) (T : NameTypes) (d : Environment) → EmptyOn (z ∷ xs) T d → EmptyOn xs T d
 tail_of z xs T d h = record { at = λ x m. h.at x (holds-tail x z xs m) }
 
 -- a prefix of a sum without a side, and one of a star without a mark
@@ -52,7 +53,7 @@ star_untagged s (star_rest p q) h n = absurd (true≢false n)
 star_untagged s _ h n = absurd h
 
 -- what arguments give: nothing of any
-record GiveNothing (args : ArgumentTrees) (a : Runs) : Type 0 where
+pub record GiveNothing (args : ArgumentTrees) (a : Runs) : Type 0 where
   pub outs : (x : ℕ) → value_at eps_emp (argument_names args) a.outs x ≡ emp (types_of_arguments args x)
   pub calls : a.calls ≡ 0
   pub level : a.level ≡ 0
@@ -143,7 +144,8 @@ module _ (funs : List CoreBody) (counts : ℕ → Bool) where
         (settled_nothing s (context_of_arguments c args) (types_of_arguments args) no_pasts r (arguments_extend c args) k.1 (and_second (are_settled args) (is_settled s r) i) _
         (record { at = λ x m. q.outs x }))
 
-    settled_nothings : (args : ArgumentTrees) (c : Context) (T : NameTypes) (H : PastTypes) → Extends c T H → HaveArgumentTypes funs counts c args → are_settled args ≡ true → (d : Environment) → EmptyOn (free_in_arguments args) T d
+    -- so do the arguments of a frame
+    pub settled_nothings : (args : ArgumentTrees) (c : Context) (T : NameTypes) (H : PastTypes) → Extends c T H → HaveArgumentTypes funs counts c args → are_settled args ≡ true → (d : Environment) → EmptyOn (free_in_arguments args) T d
         → GiveNothing args (run_arguments (fun_at funs) args T d)
     settled_nothings no_arguments c T H e k i d h = record { outs = λ x. refl; calls = refl; level = refl }
     settled_nothings (argument_before u t s args) c T H e k i d h =

@@ -7,8 +7,6 @@ pub mod laws;
 mod machine;
 mod place;
 mod state;
-#[cfg(test)]
-mod tests;
 
 pub use counting::{count_states, held_events};
 pub use machine::{Machine, StepRefusal};

@@ -8,8 +8,6 @@ mod line_reader;
 mod line_writer;
 mod pull;
 mod serve;
-#[cfg(test)]
-mod tests;
 mod writing;
 
 pub use delta_end::{End, InputFault};

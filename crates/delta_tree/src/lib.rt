@@ -7,8 +7,6 @@ mod copying;
 mod expressions;
 mod placing;
 mod programs;
-#[cfg(test)]
-mod tests;
 mod types;
 
 pub use contexts::Ctx;

@@ -5,8 +5,6 @@ mod fault;
 mod front;
 pub mod laws;
 mod reader;
-#[cfg(test)]
-mod tests;
 mod version;
 mod write;
 

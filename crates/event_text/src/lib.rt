@@ -4,8 +4,6 @@
 mod fault;
 pub mod laws;
 mod read;
-#[cfg(test)]
-mod tests;
 mod write;
 
 pub use fault::LineFault;

@@ -8,8 +8,6 @@ mod event;
 mod fault;
 pub mod laws;
 mod single;
-#[cfg(test)]
-mod tests;
 mod word;
 
 pub use admitting::admits;

@@ -18,6 +18,3 @@ pub use memory::{MemLink, MemShelf, MemSink};
 pub use shelf::Shelf;
 pub use sink::Sink;
 pub use stream::{DirShelf, StdLink, StdSink, StreamLink, StreamSink};
-
-#[cfg(test)]
-mod tests;

@@ -23,24 +23,27 @@ fn is_writable(alloc: Global, text: &[u8], version: Version) -> bool {
     accepted
 }
 
-// The number of texts of the core of an accepted text.
-fn names_in(alloc: Global, text: &[u8]) -> Result<usize, Fail> {
+// Whether the core of an accepted text has so many texts.
+fn has_texts(alloc: Global, text: &[u8], count: usize) -> Result<bool, Fail> {
     let accepted = accept(alloc, text)?;
-    let names = accepted.checked.core().texts.len();
-    drop(accepted);
-    Ok(names)
+    Ok(accepted.checked.core().texts.len() == count)
 }
 
 #[test]
 fn first_program_is_accepted(rt: HostRuntime) -> Result<(), Fail> {
-    let names = names_in(rt.alloc(), b"main(x : Int) : Int = x")?;
-    assert_eq!(rt; names, 1);
+    assert!(rt; has_texts(rt.alloc(), b"main(x : Int) : Int = x", 1)?);
     Ok(())
+}
+
+// Whether that is wrong first with a text.
+fn is_refused(alloc: Global, text: &[u8], name: RefusalName, at: u32) -> bool {
+    let refusal = Refusal { name, at };
+    accept(alloc, text).err() == Some(TextFault::Refused(refusal))
 }
 
 // Each text and what is wrong with it first.
 #[test]
-fn texts_are_refused_by_name_and_place(rt: HostRuntime) -> Result<(), Fail> {
+fn texts_are_refused_by_name_and_place(rt: HostRuntime) {
     let rows: [(&[u8], RefusalName, u32); 6] = [
         (b"main(x : Int) : Int = ", RefusalName::Expected, 21),
         (b"main(x : Int) : Int = y", RefusalName::Unbound, 22),
@@ -54,34 +57,31 @@ fn texts_are_refused_by_name_and_place(rt: HostRuntime) -> Result<(), Fail> {
         ),
     ];
     for (text, name, at) in rows {
-        let refusal = Refusal { name, at };
-        assert_eq!(rt;
-            accept(rt.alloc(), text).err(),
-            Some(TextFault::Refused(refusal))
-        );
+        assert!(rt; is_refused(rt.alloc(), text, name, at));
     }
-    Ok(())
 }
 
-#[test]
-fn wide_output_is_refused_for_short_frames(rt: HostRuntime) -> Result<(), Fail> {
-    let text = b"main() : Int******************************** = nil";
-    assert!(rt; is_accepted(rt.alloc(), text));
-    assert!(rt; is_writable(rt.alloc(), text, Version::V2));
+// Whether a text's output is too wide for frames of version 1.
+fn is_wide(alloc: Global, text: &[u8]) -> bool {
     let refusal = Refusal {
         name: RefusalName::WideOutput,
         at: 0,
     };
-    assert_eq!(rt;
-        accept_to_write(rt.alloc(), text, Version::V1).err(),
-        Some(TextFault::Refused(refusal))
-    );
-    Ok(())
+    let found = accept_to_write(alloc, text, Version::V1).err();
+    found == Some(TextFault::Refused(refusal))
+}
+
+#[test]
+fn wide_output_is_refused_for_short_frames(rt: HostRuntime) {
+    let text = b"main() : Int******************************** = nil";
+    assert!(rt; is_accepted(rt.alloc(), text));
+    assert!(rt; is_writable(rt.alloc(), text, Version::V2));
+    assert!(rt; is_wide(rt.alloc(), text));
 }
 
 // A text at each side of each rule of types: what breaks it, with the place, and what keeps it.
 #[test]
-fn each_rule_has_two_sides(rt: HostRuntime) -> Result<(), Fail> {
+fn each_rule_has_two_sides(rt: HostRuntime) {
     let rows: [(&[u8], RefusalName, u32, &[u8]); 7] = [
         (
             b"main(x : Int) : 1 = x",
@@ -127,12 +127,7 @@ fn each_rule_has_two_sides(rt: HostRuntime) -> Result<(), Fail> {
         ),
     ];
     for (broken, name, at, kept) in rows {
-        let refusal = Refusal { name, at };
-        assert_eq!(rt;
-            accept(rt.alloc(), broken).err(),
-            Some(TextFault::Refused(refusal))
-        );
+        assert!(rt; is_refused(rt.alloc(), broken, name, at));
         assert!(rt; is_accepted(rt.alloc(), kept));
     }
-    Ok(())
 }

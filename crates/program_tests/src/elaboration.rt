@@ -1,7 +1,6 @@
 //! Programs with their cores, or with what is wrong first. Places are bytes of a text, and names are
 //! numbered as they first stand in it.
 
-use bunch::Name;
 use core_term::{Core, Node, Term};
 use delta_check::{TypeCause, TypeFault};
 use delta_elab::{ElabFault, ProgramFault, elaborate, typed};
@@ -19,12 +18,25 @@ fn core_of(alloc: Global, text: &[u8]) -> Result<Core, Fail> {
     Ok(core?)
 }
 
-// What is wrong first with the names and types of a text's program.
-fn fault_of(alloc: Global, text: &[u8]) -> Result<Option<ElabFault>, Fail> {
+// A fault by its name, the number of the name that it tells, and its place.
+fn told(fault: &ElabFault) -> (&'static str, u32, u32) {
+    match fault {
+        ElabFault::Unbound(x, at) => ("Unbound", x.0, *at),
+        ElabFault::NoFunction(x, at) => ("NoFunction", x.0, *at),
+        ElabFault::NoType(x, at) => ("NoType", x.0, *at),
+        ElabFault::TooWide(at) => ("TooWide", 0, *at),
+        ElabFault::TooTall(at) => ("TooTall", 0, *at),
+        _ => ("", 0, 0),
+    }
+}
+
+// What is wrong first with the names and types of a text's program, or "none".
+fn fault_of(alloc: Global, text: &[u8]) -> Result<(&'static str, u32, u32), Fail> {
     let program = program_of(alloc, text)?;
-    let fault = elaborate(alloc, &program).err();
-    drop(program);
-    Ok(fault)
+    match &elaborate(alloc, &program) {
+        Err(fault) => Ok(told(fault)),
+        Ok(_) => Ok(("none", 0, 0)),
+    }
 }
 
 fn texts_are(core: &Core, texts: &[&str]) -> bool {
@@ -67,13 +79,15 @@ fn is_parted(n: &Node) -> bool {
     }
 }
 
+// Whether that text's core is so, with a text for each name.
+fn gets_a_name(alloc: Global) -> Result<bool, Fail> {
+    let core = core_of(alloc, PARTED)?;
+    Ok(texts_are(&core, &["z", "x", "y", "#3"]) && is_parted(&core.main.body))
+}
+
 #[test]
 fn a_head_with_its_type_gets_a_name(rt: HostRuntime) -> Result<(), Fail> {
-    let core = core_of(rt.alloc(), PARTED)?;
-    let named = texts_are(&core, &["z", "x", "y", "#3"]);
-    let parted = is_parted(&core.main.body);
-    drop(core);
-    assert!(rt; named && parted);
+    assert!(rt; gets_a_name(rt.alloc())?);
     Ok(())
 }
 
@@ -85,14 +99,17 @@ fn is_bound_anew(n: &Node) -> bool {
     }
 }
 
+// Whether a text's core is so, gives a number, and has two names with one text.
+fn binds_anew(alloc: Global, text: &[u8]) -> Result<bool, Fail> {
+    let core = core_of(alloc, text)?;
+    let gives = matches!(&core.main.result, Ty::Int);
+    Ok(gives && texts_are(&core, &["x", "x"]) && is_bound_anew(&core.main.body))
+}
+
 #[test]
 fn a_name_bound_anew_has_a_number_of_its_own(rt: HostRuntime) -> Result<(), Fail> {
     let text = b"type N = Int main(x : N) : N = let x = (x : N) in x";
-    let core = core_of(rt.alloc(), text)?;
-    let named = texts_are(&core, &["x", "x"]);
-    let anew = matches!(&core.main.result, Ty::Int) && is_bound_anew(&core.main.body);
-    drop(core);
-    assert!(rt; named && anew);
+    assert!(rt; binds_anew(rt.alloc(), text)?);
     Ok(())
 }
 
@@ -118,35 +135,40 @@ fn is_compared(n: &Node) -> bool {
     }
 }
 
+// Whether a text's core is so, with three names of its own.
+fn compares(alloc: Global, text: &[u8]) -> Result<bool, Fail> {
+    let core = core_of(alloc, text)?;
+    Ok(texts_are(&core, &["#0", "#1", "#2"]) && is_compared(&core.main.body))
+}
+
 #[test]
 fn an_if_is_a_case_on_its_test(rt: HostRuntime) -> Result<(), Fail> {
-    let core = core_of(rt.alloc(), b"main() : Int = if 1 < 2 then {7} else {8}")?;
-    let named = texts_are(&core, &["#0", "#1", "#2"]);
-    let compared = is_compared(&core.main.body);
-    drop(core);
-    assert!(rt; named && compared);
+    assert!(rt; compares(rt.alloc(), b"main() : Int = if 1 < 2 then {7} else {8}")?);
     Ok(())
 }
 
 #[test]
 fn unknown_names_are_told_with_their_places(rt: HostRuntime) -> Result<(), Fail> {
-    let alloc = rt.alloc();
-    let fault = fault_of(alloc, b"main(x : Int) : Int = y")?;
-    assert!(rt; matches!(fault, Some(ElabFault::Unbound(Name(1), 22))));
-    let fault = fault_of(alloc, b"main(x : Int) : Int = y(x)")?;
-    assert!(rt; matches!(fault, Some(ElabFault::NoFunction(Name(1), 22))));
-    let fault = fault_of(alloc, b"main(x : y) : Int = x")?;
-    assert!(rt; matches!(fault, Some(ElabFault::NoType(Name(1), 9))));
+    let rows: [(&[u8], &str, u32); 3] = [
+        (b"main(x : Int) : Int = y", "Unbound", 22),
+        (b"main(x : Int) : Int = y(x)", "NoFunction", 22),
+        (b"main(x : y) : Int = x", "NoType", 9),
+    ];
+    for (text, name, at) in rows {
+        assert!(rt; fault_of(rt.alloc(), text)? == (name, 1, at));
+    }
     Ok(())
 }
 
 #[test]
 fn names_are_looked_for_in_waits_and_in_histories(rt: HostRuntime) -> Result<(), Fail> {
-    let alloc = rt.alloc();
-    let fault = fault_of(alloc, b"main(x : Int) : Int = wait y in x")?;
-    assert!(rt; matches!(fault, Some(ElabFault::Unbound(Name(1), 22))));
-    let fault = fault_of(alloc, b"main(x : Int) : Int = {y}")?;
-    assert!(rt; matches!(fault, Some(ElabFault::Unbound(Name(1), 23))));
+    let rows: [(&[u8], u32); 2] = [
+        (b"main(x : Int) : Int = wait y in x", 22),
+        (b"main(x : Int) : Int = {y}", 23),
+    ];
+    for (text, at) in rows {
+        assert!(rt; fault_of(rt.alloc(), text)? == ("Unbound", 1, at));
+    }
     Ok(())
 }
 
@@ -164,17 +186,19 @@ type j = i || i
 type k = j || j
 ";
 
+// What is wrong first with a text behind those types.
+fn fault_behind(alloc: Global, rest: &str) -> Result<(&'static str, u32, u32), Fail> {
+    let mut text = String::from_str(alloc, ELEVEN)?;
+    text.push_str(rest)?;
+    fault_of(alloc, text.as_bytes())
+}
+
 #[test]
 fn a_type_with_too_many_nodes_is_too_wide(rt: HostRuntime) -> Result<(), Fail> {
-    let alloc = rt.alloc();
-    let mut text = String::from_str(alloc, ELEVEN)?;
-    text.push_str("main() : Int = {7}")?;
-    let fault = fault_of(alloc, text.as_bytes())?;
-    assert!(rt; fault.is_none());
-    let mut text = String::from_str(alloc, ELEVEN)?;
-    text.push_str("type l = k || k main() : Int = {7}")?;
-    let fault = fault_of(alloc, text.as_bytes())?;
-    assert!(rt; matches!(fault, Some(ElabFault::TooWide(189))));
+    let fits = fault_behind(rt.alloc(), "main() : Int = {7}")?;
+    assert!(rt; fits == ("none", 0, 0));
+    let wide = fault_behind(rt.alloc(), "type l = k || k main() : Int = {7}")?;
+    assert!(rt; wide == ("TooWide", 0, 189));
     Ok(())
 }
 
@@ -192,54 +216,67 @@ fn starred(alloc: Global, count: u32) -> Result<String, Fail> {
     Ok(text)
 }
 
+// What is wrong first with that text.
+fn fault_of_starred(alloc: Global, count: u32) -> Result<(&'static str, u32, u32), Fail> {
+    let text = starred(alloc, count)?;
+    fault_of(alloc, text.as_bytes())
+}
+
 #[test]
 fn a_type_above_the_limit_is_too_tall(rt: HostRuntime) -> Result<(), Fail> {
-    let alloc = rt.alloc();
-    let fault = fault_of(alloc, starred(alloc, 23)?.as_bytes())?;
-    assert!(rt; fault.is_none());
-    let fault = fault_of(alloc, starred(alloc, 24)?.as_bytes())?;
-    assert!(rt; matches!(fault, Some(ElabFault::TooTall(62))));
+    assert!(rt; fault_of_starred(rt.alloc(), 23)? == ("none", 0, 0));
+    assert!(rt; fault_of_starred(rt.alloc(), 24)? == ("TooTall", 0, 62));
     Ok(())
 }
 
-// What a text's program is refused for at either stage.
-fn refusal_of(alloc: Global, text: &[u8]) -> Result<Option<ProgramFault>, Fail> {
+// Whether a text's program is typed.
+fn is_typed(alloc: Global, text: &[u8]) -> Result<bool, Fail> {
     let program = program_of(alloc, text)?;
-    let refusal = typed(alloc, &program).err();
-    drop(program);
-    Ok(refusal)
+    Ok(typed(alloc, &program).is_ok())
 }
 
 #[test]
 fn a_typed_program_is_accepted(rt: HostRuntime) -> Result<(), Fail> {
-    assert!(rt; refusal_of(rt.alloc(), PARTED)?.is_none());
+    assert!(rt; is_typed(rt.alloc(), PARTED)?);
     Ok(())
+}
+
+// Whether a text's program is refused for that name and place.
+fn is_refused_for_a_name(alloc: Global, text: &[u8]) -> Result<bool, Fail> {
+    let program = program_of(alloc, text)?;
+    match &typed(alloc, &program) {
+        Err(ProgramFault::Elab(fault)) => Ok(told(fault) == ("Unbound", 1, 22)),
+        _ => Ok(false),
+    }
 }
 
 #[test]
 fn a_program_is_refused_for_a_name(rt: HostRuntime) -> Result<(), Fail> {
-    let refusal = refusal_of(rt.alloc(), b"main(x : Int) : Int = y")?;
-    assert!(rt;
-        matches!(
-            refusal,
-            Some(ProgramFault::Elab(ElabFault::Unbound(Name(1), 22)))
-        )
-    );
+    assert!(rt; is_refused_for_a_name(rt.alloc(), b"main(x : Int) : Int = y")?);
     Ok(())
+}
+
+// Whether it is a mismatch in the first node, at the place 29.
+fn is_mismatch(fault: &TypeFault) -> bool {
+    match fault {
+        TypeFault::Refused { node, at, cause } => {
+            *node == 0 && *at == 29 && matches!(cause, TypeCause::Mismatch { .. })
+        }
+        _ => false,
+    }
+}
+
+// Whether a text's program is refused for that.
+fn is_refused_for_a_type(alloc: Global, text: &[u8]) -> Result<bool, Fail> {
+    let program = program_of(alloc, text)?;
+    match &typed(alloc, &program) {
+        Err(ProgramFault::Type(fault)) => Ok(is_mismatch(fault)),
+        _ => Ok(false),
+    }
 }
 
 #[test]
 fn a_program_is_refused_for_a_type(rt: HostRuntime) -> Result<(), Fail> {
-    let refusal = refusal_of(rt.alloc(), b"main(x : Int || Int) : Int = x")?;
-    assert!(rt;
-        matches!(
-            refusal,
-            Some(ProgramFault::Type(TypeFault::Refused {
-                node: 0,
-                at: 29,
-                cause: TypeCause::Mismatch { .. }
-            }))
-        )
-    );
+    assert!(rt; is_refused_for_a_type(rt.alloc(), b"main(x : Int || Int) : Int = x")?);
     Ok(())
 }

@@ -49,31 +49,31 @@ fn refused(
 ) -> Result<Option<EvalRefusal>, Fail> {
     let input = numbers(alloc, items)?;
     let program = program_of(alloc, text)?;
-    let found = eval(alloc, &program, &input, budget.min(10_000)).err();
-    drop(program);
-    drop(input);
-    Ok(found)
+    Ok(eval(alloc, &program, &input, budget.min(10_000)).err())
 }
 
-// The number of whole items of a prefix that has ended.
-fn items_of(p: &Prefix) -> Option<usize> {
+// Whether a prefix has ended and has so many whole items.
+fn has_items(p: &Prefix, count: usize) -> bool {
     match p {
-        Prefix::Star(items, StarEnd::Done) => Some(items.len()),
-        _ => None,
+        Prefix::Star(items, StarEnd::Done) => items.len() == count,
+        _ => false,
     }
+}
+
+// Whether the doubled numbers 3 and 4 are two items, with three calls at the first level.
+fn are_doubled(alloc: Global) -> Result<bool, Fail> {
+    let doubled = ran(alloc, DOUBLING, &[3, 4])?;
+    let counted = doubled.calls == 3 && doubled.level == 1;
+    Ok(counted && has_items(&doubled.output, 2))
 }
 
 #[test]
 fn calls_are_counted_up_to_the_budget(rt: HostRuntime) -> Result<(), Fail> {
-    let alloc = rt.alloc();
-    let doubled = ran(alloc, DOUBLING, &[3, 4])?;
-    let (calls, level, items) = (doubled.calls, doubled.level, items_of(&doubled.output));
-    drop(doubled);
-    assert_eq!(rt; (calls, level), (3, 1));
-    assert_eq!(rt; items, Some(2));
-    assert_eq!(rt; refused(alloc, DOUBLING, &[3, 4], 3)?, None);
-    let spent = refused(alloc, DOUBLING, &[3, 4], 2)?;
-    assert_eq!(rt; spent, Some(EvalRefusal::Budget(2)));
+    assert!(rt; are_doubled(rt.alloc())?);
+    for (budget, refusal) in [(3, None), (2, Some(EvalRefusal::Budget(2)))] {
+        let found = refused(rt.alloc(), DOUBLING, &[3, 4], budget)?;
+        assert!(rt; found == refusal);
+    }
     Ok(())
 }
 
@@ -85,7 +85,7 @@ fn counted(alloc: Global, text: &[u8]) -> Result<(u64, u64), Fail> {
 
 #[test]
 fn a_loop_stays_and_a_nest_goes_down(rt: HostRuntime) -> Result<(), Fail> {
-    assert_eq!(rt; counted(rt.alloc(), LOOPING)?, (21, 1));
-    assert_eq!(rt; counted(rt.alloc(), NESTING)?, (21, 21));
+    assert!(rt; counted(rt.alloc(), LOOPING)? == (21, 1));
+    assert!(rt; counted(rt.alloc(), NESTING)? == (21, 21));
     Ok(())
 }

@@ -35,10 +35,7 @@ fn written(alloc: Global) -> Result<TyExp, Memory> {
 fn meant(alloc: Global) -> Result<Ty, Memory> {
     let known = known(alloc)?;
     let written = written(alloc)?;
-    let meant = type_meant(alloc, &known, &written);
-    drop(known);
-    drop(written);
-    meant
+    type_meant(alloc, &known, &written)
 }
 
 // `(Int . eps)* + (Int || Int)`
@@ -48,13 +45,16 @@ fn wanted(alloc: Global) -> Result<Ty, Memory> {
     sum(alloc, many, both)
 }
 
+// Whether that is meant.
+fn is_meant(alloc: Global) -> Result<bool, Memory> {
+    let meant = meant(alloc)?;
+    let wanted = wanted(alloc)?;
+    Ok(same(&meant, &wanted))
+}
+
 #[test]
 fn a_written_type_stands_for_a_type(rt: HostRuntime) -> Result<(), Fail> {
-    let (meant, wanted) = (meant(rt.alloc())?, wanted(rt.alloc())?);
-    let same = same(&meant, &wanted);
-    drop(meant);
-    drop(wanted);
-    assert!(rt; same);
+    assert!(rt; is_meant(rt.alloc())?);
     Ok(())
 }
 
@@ -71,10 +71,7 @@ fn params(alloc: Global) -> Result<Ctx, Memory> {
 fn meant_params(alloc: Global) -> Result<Bunch, Memory> {
     let known = known(alloc)?;
     let params = params(alloc)?;
-    let meant = params_meant(alloc, &known, &params);
-    drop(known);
-    drop(params);
-    meant
+    params_meant(alloc, &known, &params)
 }
 
 // Whether a bunch is `x : Int; y : eps`.
@@ -103,12 +100,15 @@ fn is_beside_nothing(b: &Bunch) -> bool {
     }
 }
 
+// Whether that is meant by those parameters.
+fn are_meant(alloc: Global) -> Result<bool, Memory> {
+    let meant = meant_params(alloc)?;
+    Ok(is_beside_nothing(&meant))
+}
+
 #[test]
 fn written_parameters_stand_for_a_bunch(rt: HostRuntime) -> Result<(), Fail> {
-    let meant = meant_params(rt.alloc())?;
-    let right = is_beside_nothing(&meant);
-    drop(meant);
-    assert!(rt; right);
+    assert!(rt; are_meant(rt.alloc())?);
     Ok(())
 }
 
@@ -118,10 +118,7 @@ fn meant_past(alloc: Global) -> Result<Vec<(Name, Ty)>, Memory> {
     let mut past = Vec::new(alloc);
     past.push((Name(2), named(alloc, 5, 0)?))?;
     past.push((Name(3), written(alloc)?))?;
-    let meant = past_meant(alloc, &known, &past);
-    drop(known);
-    drop(past);
-    meant
+    past_meant(alloc, &known, &past)
 }
 
 // Whether these are x, a number, and y, a sum.
@@ -134,11 +131,14 @@ fn are_past(past: &[(Name, Ty)]) -> bool {
     }
 }
 
+// Whether they stand for that.
+fn past_is_meant(alloc: Global) -> Result<bool, Memory> {
+    let meant = meant_past(alloc)?;
+    Ok(are_past(&meant))
+}
+
 #[test]
 fn historical_parameters_have_types(rt: HostRuntime) -> Result<(), Fail> {
-    let meant = meant_past(rt.alloc())?;
-    let right = are_past(&meant);
-    drop(meant);
-    assert!(rt; right);
+    assert!(rt; past_is_meant(rt.alloc())?);
     Ok(())
 }

@@ -74,7 +74,7 @@ module _ (c : CoreProgram) (runnable : IsRunnable c) (numbers : ℕ → Bound) (
     -- so the state that follows one that stands for the program holds no more than it
     next_at_most : bound_after c numbers (join p d) (next_state c p s d) ⊑ bound_after c numbers p s
     next_at_most =
-        let ready : IsReady c.funs n (context_after c p) (left p) (output_left c p) s = record { extends = extends_after c runnable p; typed = stands.is_typed; settled = stands.settled; deep = stands.is_deep } in
+        let ready : IsReady c.funs n (context_after c p) (left p) (output_left c p) s = record { extends = extends_after c p; typed = stands.is_typed; settled = stands.settled; deep = stands.is_deep } in
         let streams = state_streams c.funs (is_inert_fun c.funs) s (context_after c p) (output_left c p) stands.is_typed in
         step_at_most c.funs runnable.is_typed.funs_typed (all_apart c runnable) numbers enough n s (context_after c p) (left p) (output_left c p) ready (split_after params p d) (record { at = split_after_derives params h k })
         (split_after_agrees params (distinct_params c runnable) p d (is_prefix h) (is_prefix k)) le (context_after c (join p d)) (record { types = λ x m. after_both x (is_parameter params (left p) x (streams.at x m)); order = within_itself _ _ })

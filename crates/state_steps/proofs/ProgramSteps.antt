@@ -47,7 +47,7 @@ use Rattle.state_steps.proofs.CalledBodies.{body_context, extends_params}
 use Rattle.state_steps.proofs.TermSteps.{term_step}
 use Rattle.state_steps.proofs.CallSteps.{calls_step_at}
 use Rattle.state_steps.proofs.StateSteps.{IsReady, state_step}
-use Rattle.state_steps.proofs.SplitInputs.{later_derives, split_after_join, left_after}
+use Rattle.state_steps.proofs.SplitInputs.{later_derives, split_after_join, left_after, first_is_part}
 use Rattle.state_steps.proofs.RunnablePrograms.{all_apart, main_apart, distinct_params, mean_derives, main_typed}
 
 -- what is at most a number is at most what that number is at most
@@ -58,6 +58,14 @@ le_trans i j k h l = omega (arith, h, l)
 pub pred_le : (i j : ℕ) → i ≤ j → pred i ≤ pred j
 pred_le i j h = omega (arith, h)
 
+-- the types that p leaves of the parameters extend their context
+pub extends_after : (c : CoreProgram) (p : StreamPrefix) → Extends (context_after c p) (left_at (split c.main.params p) (types_in c.main.params)) no_pasts
+extends_after c p = record { stream = λ x t i. go x t (holds x (leaf_names c.main.params)) i; historical = λ x t i. i }
+  where
+    go : (x : ℕ) (t : StreamType) (i : Bool) → (if i then Some (left_at (split c.main.params p) (types_in c.main.params) x) else None) ≡ Some t → left_at (split c.main.params p) (types_in c.main.params) x ≡ t
+    go x t true e = cc e
+    go x t false e = absurd (cc e)
+
 module _ (c : CoreProgram) (runnable : IsRunnable c) where
   -- a first input p of a program and what follows it, as the parameters see it
   inputs_at_start : (p q r : StreamPrefix) → Derives (as_type c.main.params) p → Derives (der p (as_type c.main.params)) q → Derives (der q (der p (as_type c.main.params))) r → Inputs (types_in c.main.params) (stands_before c.main.params) (split c.main.params p) (split_after c.main.params p q) (split_after c.main.params p (join q r))
@@ -65,7 +73,7 @@ module _ (c : CoreProgram) (runnable : IsRunnable c) where
     streams = record { at = split_derives c.main.params h };
     agrees = order_of_tree c.main.params (distinct_params c runnable) (split c.main.params p) (split_agrees_in_tree c.main.params (distinct_params c runnable) h);
     next = record { at = split_after_derives c.main.params h k };
-    more = record { at = λ x. part (subst (λ t. Derives t (split_after c.main.params (join p q) r x)) (left_after c.main.params h k x) (split_after_derives c.main.params (join_is_prefix h k) (later_derives c.main.params h k l) x)) (sym (split_after_join c.main.params h k l x)) };
+    more = record { at = first_is_part c.main.params h k l };
   }
 
   -- and what follows later, after p and d
@@ -121,24 +129,16 @@ module _ (c : CoreProgram) (runnable : IsRunnable c) where
         types x s true k = k
         types x s false k = k
 
-  -- the types that p leaves of the parameters extend their context
-  pub extends_after : (p : StreamPrefix) → Extends (context_after c p) (left_at (split c.main.params p) (types_in c.main.params)) no_pasts
-  extends_after p = record { stream = λ x t i. go x t (holds x (leaf_names c.main.params)) i; historical = λ x t i. i }
-    where
-      go : (x : ℕ) (t : StreamType) (i : Bool) → (if i then Some (left_at (split c.main.params p) (types_in c.main.params) x) else None) ≡ Some t → left_at (split c.main.params p) (types_in c.main.params) x ≡ t
-      go x t true e = cc e
-      go x t false e = absurd (cc e)
-
   -- what a state that stands for a program gives is a prefix of what is left of the result
   pub rest_is_left : (n : ℕ) (p d : StreamPrefix) (s : StateTree) → Derives (as_type c.main.params) p → Derives (der p (as_type c.main.params)) d → StandsFor c n p s → Derives (der (mean c p) c.main.result) (rest_mean c p s d)
   rest_is_left n p d s h k stands =
       let t : Streams (left_at (split c.main.params p) (types_in c.main.params)) (split_after c.main.params p d) = record { at = split_after_derives c.main.params h k } in
-      (state_run_grows c.funs runnable.is_typed.funs_typed s (context_after c p) (left_at (split c.main.params p) (types_in c.main.params)) (output_left c p) (extends_after p) stands.is_typed (split_after c.main.params p d) (split_after c.main.params p d) t (continues_same _ _ t)).first
+      (state_run_grows c.funs runnable.is_typed.funs_typed s (context_after c p) (left_at (split c.main.params p) (types_in c.main.params)) (output_left c p) (extends_after c p) stands.is_typed (split_after c.main.params p d) (split_after c.main.params p d) t (continues_same _ _ t)).first
 
   module _ (n m : ℕ) (p d : StreamPrefix) (s : StateTree) (h : Derives (as_type c.main.params) p) (k : Derives (der p (as_type c.main.params)) d) (stands : StandsFor c n p s) (le : rest_calls c p s d + m ≤ n) where
     -- a state that stands for a program is ready,
     good : IsReady c.funs n (context_after c p) (left_at (split c.main.params p) (types_in c.main.params)) (output_left c p) s
-    good = record { extends = extends_after p; typed = stands.is_typed; settled = stands.settled; deep = stands.is_deep }
+    good = record { extends = extends_after c p; typed = stands.is_typed; settled = stands.settled; deep = stands.is_deep }
 
     -- so it steps on d,
     moved : (q r : StreamPrefix) → Derives (der (join p d) (as_type c.main.params)) q → Derives (der q (der (join p d) (as_type c.main.params))) r

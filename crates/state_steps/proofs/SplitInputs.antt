@@ -1,8 +1,9 @@
 -- What comes of a program's input in two parts, as its parameters see it.
 use Rattle.std.proofs.Common.{◌≡◌, ◌∙◌, ℕ, ap, subst, sym}
-use Rattle.stream_prefix.specs.StreamPrefix.{StreamPrefix, der, join}
+use Rattle.stream_prefix.specs.StreamPrefix.{StreamPrefix, der, join, IsPart}
 use Rattle.stream_prefix.proofs.Derivations.{Derives}
 use Rattle.stream_prefix.proofs.Joins.{der-join, join_assoc, join_is_prefix, join_cancel}
+use Rattle.stream_prefix.proofs.Parts.{part}
 use Rattle.bunch.specs.BunchTree.{BunchTree, as_type}
 use Rattle.core_term.specs.Agreement.{types_in}
 use Rattle.core_term.specs.Environment.{left_at}
@@ -34,3 +35,9 @@ module _ (b : BunchTree) {p d q : StreamPrefix} (h : Derives (as_type b) p) (k :
 -- what two parts of the input leave of a name's type
 pub left_after : (b : BunchTree) {p d : StreamPrefix} → Derives (as_type b) p → Derives (der p (as_type b)) d → (x : ℕ) → left_at (split b (join p d)) (types_in b) x ≡ left_at (split_after b p d) (left_at (split b p) (types_in b)) x
 left_after b h k x = ap (λ w. der w (types_in b x)) (split_join b h k x) ∙ der-join (split_derives b h x) (split_after_derives b h k x)
+
+-- what comes on a name in one part after p is a part of what comes in two
+pub first_is_part : (b : BunchTree) {p d q : StreamPrefix} → Derives (as_type b) p → Derives (der p (as_type b)) d → Derives (der d (der p (as_type b))) q → (x : ℕ)
+    → IsPart (left_at (split b p) (types_in b) x) (split_after b p d x) (split_after b p (join d q) x)
+first_is_part b {p = p} {d = d} {q = q} h k l x =
+    part (subst (λ t. Derives t (split_after b (join p d) q x)) (left_after b h k x) (split_after_derives b (join_is_prefix h k) (later_derives b h k l) x)) (sym (split_after_join b h k l x))

@@ -7,8 +7,6 @@ mod joining;
 pub mod laws;
 mod prefix;
 mod table;
-#[cfg(test)]
-mod tests;
 
 pub use copying::copy;
 pub use derivative::derive;

@@ -36,20 +36,3 @@ pub fn same(a: &Ty, b: &Ty) -> bool
         _ => false,
     }
 }
-
-#[cfg(test)]
-mod tests {
-    use super::*;
-    use std::test::Fail;
-
-    #[test]
-    fn copies_are_the_same(rt: HostRuntime) -> Result<(), Fail> {
-        let alloc = rt.alloc();
-        let t = cat(alloc, Ty::Int, star(alloc, Ty::One)?)?;
-        let copied = copy(alloc, &t)?;
-        assert!(rt; same(&copied, &t));
-        let other = cat(alloc, Ty::Int, star(alloc, Ty::Eps)?)?;
-        assert!(rt; !same(&copied, &other));
-        Ok(())
-    }
-}

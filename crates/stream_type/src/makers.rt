@@ -34,29 +34,3 @@ pub fn star(alloc: Global, a: Ty) -> Result<Ty, Memory>
 {
     Ok(Ty::Star(Box::new(alloc, a)?))
 }
-
-#[cfg(test)]
-mod tests {
-    use super::*;
-    use std::test::Fail;
-
-    #[test]
-    fn makes_each_form(rt: HostRuntime) -> Result<(), Fail> {
-        let alloc = rt.alloc();
-        let first = cat(alloc, Ty::Int, Ty::One)?;
-        let both = par(alloc, Ty::One, Ty::Eps)?;
-        let either = sum(alloc, first, both)?;
-        let many = star(alloc, either)?;
-        let Ty::Star(either) = many else {
-            assert!(rt; false, "a star");
-            return Ok(());
-        };
-        let Ty::Sum(first, both) = Box::into_inner(either) else {
-            assert!(rt; false, "a sum");
-            return Ok(());
-        };
-        assert!(rt; matches!(*first, Ty::Cat(_, _)));
-        assert!(rt; matches!(*both, Ty::Par(_, _)));
-        Ok(())
-    }
-}

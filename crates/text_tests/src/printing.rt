@@ -5,59 +5,66 @@ use delta_parse::parse;
 use delta_print::{print, show};
 use std::alloc::Global;
 use std::test::Fail;
-use stream_type::{Ty, cat, par, star, sum};
+use stream_type::{Memory, Ty, cat, par, star, sum};
 
-// The canonical text of a text's program.
-fn printed(alloc: Global, text: &str) -> Result<String, Fail> {
+// Whether that is the canonical text of a text's program.
+fn is_printed(alloc: Global, text: &str, canonical: &str) -> Result<bool, Fail> {
     let found = tokens(alloc, text.as_bytes())?;
     let program = parse(alloc, &found)?;
-    drop(found);
-    let printed = print(alloc, &program);
-    drop(program);
-    Ok(printed?)
+    let printed = print(alloc, &program)?;
+    Ok(printed.as_str() == canonical)
 }
 
 #[test]
 fn prints_one_line(rt: HostRuntime) -> Result<(), Fail> {
-    let text = printed(rt.alloc(), "main(x:Int):Int=((x))")?;
-    assert_eq!(rt; text.as_str(), "main (x : Int) : Int = x\n");
+    let canonical = "main (x : Int) : Int = x\n";
+    assert!(rt; is_printed(rt.alloc(), "main(x:Int):Int=((x))", canonical)?);
     Ok(())
 }
+
+const TWICE: &str = "type N = (Int)
+fun twice(xs : N*) : N* =
+  case xs of { nil => nil | y :: ys => wait y in ({y * 2} :: twice(ys)) }
+main(xs : N*) : N* = twice(xs)";
 
 #[test]
 fn prints_a_line_for_each_declaration(rt: HostRuntime) -> Result<(), Fail> {
-    let text = printed(
-        rt.alloc(),
-        "type N = (Int)
-fun twice(xs : N*) : N* =
-  case xs of { nil => nil | y :: ys => wait y in ({y * 2} :: twice(ys)) }
-main(xs : N*) : N* = twice(xs)",
-    )?;
-    let expected =
+    let canonical =
         "type N = Int\nfun twice (xs : N*) : N* = case xs of { nil => nil | y :: ys => wait y in { y * 2 } :: twice (ys) }\nmain (xs : N*) : N* = twice (xs)\n";
-    assert_eq!(rt; text.as_str(), expected);
+    assert!(rt; is_printed(rt.alloc(), TWICE, canonical)?);
     Ok(())
 }
 
-// The canonical text of a type.
-fn shown(alloc: Global, t: Ty) -> Result<String, Fail> {
-    let shown = show(alloc, &t);
-    drop(t);
-    Ok(shown?)
+// Whether a type is shown so.
+fn is_shown(alloc: Global, t: Ty, text: &str) -> Result<bool, Fail> {
+    let shown = show(alloc, &t)?;
+    Ok(shown.as_str() == text)
+}
+
+fn first_in_brackets(alloc: Global) -> Result<Ty, Memory> {
+    cat(alloc, sum(alloc, Ty::One, Ty::Int)?, Ty::Int)
+}
+
+fn sums(alloc: Global) -> Result<Ty, Memory> {
+    let left = cat(alloc, Ty::One, Ty::Int)?;
+    sum(alloc, left, sum(alloc, Ty::Eps, Ty::Int)?)
+}
+
+fn sides(alloc: Global) -> Result<Ty, Memory> {
+    let left = par(alloc, Ty::Int, Ty::One)?;
+    par(alloc, left, par(alloc, Ty::Int, Ty::Eps)?)
+}
+
+fn stars(alloc: Global) -> Result<Ty, Memory> {
+    star(alloc, star(alloc, cat(alloc, Ty::Int, Ty::Int)?)?)
 }
 
 #[test]
 fn shows_brackets_where_they_are_needed(rt: HostRuntime) -> Result<(), Fail> {
     let alloc = rt.alloc();
-    let t = cat(alloc, sum(alloc, Ty::One, Ty::Int)?, Ty::Int)?;
-    assert_eq!(rt; shown(alloc, t)?.as_str(), "(1 + Int) . Int");
-    let right = sum(alloc, Ty::Eps, Ty::Int)?;
-    let t = sum(alloc, cat(alloc, Ty::One, Ty::Int)?, right)?;
-    assert_eq!(rt; shown(alloc, t)?.as_str(), "1 . Int + eps + Int");
-    let right = par(alloc, Ty::Int, Ty::Eps)?;
-    let t = par(alloc, par(alloc, Ty::Int, Ty::One)?, right)?;
-    assert_eq!(rt; shown(alloc, t)?.as_str(), "(Int || 1) || Int || eps");
-    let t = star(alloc, star(alloc, cat(alloc, Ty::Int, Ty::Int)?)?)?;
-    assert_eq!(rt; shown(alloc, t)?.as_str(), "(Int . Int)**");
+    assert!(rt; is_shown(alloc, first_in_brackets(alloc)?, "(1 + Int) . Int")?);
+    assert!(rt; is_shown(alloc, sums(alloc)?, "1 . Int + eps + Int")?);
+    assert!(rt; is_shown(alloc, sides(alloc)?, "(Int || 1) || Int || eps")?);
+    assert!(rt; is_shown(alloc, stars(alloc)?, "(Int . Int)**")?);
     Ok(())
 }

@@ -4,22 +4,17 @@ use bunch::{Bunch, Name};
 use core_term::{Body, Core, Node, Term, body_of, copy, copy_core, fits, free};
 use hist_value::{Expr, Op};
 use std::alloc::Global;
-use std::test::Fail;
 use stream_type::{Memory, Ty, cat, star};
 
-fn at(at: u32, term: Term) -> Node {
-    Node { at, term }
-}
-
-fn boxed(alloc: Global, place: u32, term: Term) -> Result<Box<Node>, Memory> {
-    Ok(Box::new(alloc, at(place, term))?)
+fn boxed(alloc: Global, at: u32, term: Term) -> Result<Box<Node>, Memory> {
+    Ok(Box::new(alloc, Node { at, term })?)
 }
 
 // `(x; y)` at the place 38, with the names 0 and 1.
-fn pair(alloc: Global) -> Result<Node, Memory> {
+fn pair(alloc: Global) -> Result<Box<Node>, Memory> {
     let first = boxed(alloc, 39, Term::Var(Name(0)))?;
     let second = boxed(alloc, 42, Term::Var(Name(1)))?;
-    Ok(at(38, Term::Cat(first, second)))
+    boxed(alloc, 38, Term::Cat(first, second))
 }
 
 // `x : Int; y : Int`
@@ -41,17 +36,17 @@ fn body(alloc: Global, params: Bunch, gives: Ty, body: Node) -> Body {
 
 // `main(x : Int; y : Int) : Int . Int = (x; y)`
 fn main_in_turn(alloc: Global) -> Result<Body, Memory> {
-    let numbers = cat(alloc, Ty::Int, Ty::Int)?;
-    let params = params(alloc)?;
     let pair = pair(alloc)?;
-    Ok(body(alloc, params, numbers, pair))
+    let numbers = cat(alloc, Ty::Int, Ty::Int)?;
+    Ok(body(alloc, params(alloc)?, numbers, Box::into_inner(pair)))
 }
 
 // The texts of x and y.
 fn texts(alloc: Global) -> Result<Vec<String>, Memory> {
     let mut texts = Vec::new(alloc);
-    texts.push(String::from_str(alloc, "x")?)?;
-    texts.push(String::from_str(alloc, "y")?)?;
+    for text in ["x", "y"] {
+        texts.push(String::from_str(alloc, text)?)?;
+    }
     Ok(texts)
 }
 
@@ -64,7 +59,11 @@ fn in_turn(alloc: Global, funs: Vec<Body>) -> Result<Core, Memory> {
 
 // A body without parameters, with this result and `()`.
 fn mark(alloc: Global, t: Ty) -> Body {
-    body(alloc, Bunch::Empty, t, at(0, Term::Unit))
+    let unit = Node {
+        at: 0,
+        term: Term::Unit,
+    };
+    body(alloc, Bunch::Empty, t, unit)
 }
 
 // A type of this height.
@@ -76,66 +75,62 @@ fn tall(alloc: Global, height: u32) -> Result<Ty, Memory> {
     Ok(t)
 }
 
-// The free names of a term.
-fn names_of(alloc: Global, node: Node) -> Result<Vec<Name>, Memory> {
-    let names = free(alloc, &node);
-    drop(node);
-    names
+// Whether these are the free names of a term.
+fn are_names(
+    alloc: Global,
+    node: Result<Box<Node>, Memory>,
+    expected: &[Name],
+) -> Result<bool, Memory> {
+    let node = node?;
+    let names = free(alloc, &node)?;
+    Ok(names.as_slice() == expected)
 }
 
 #[test]
-fn names_in_order_of_use(rt: HostRuntime) -> Result<(), Fail> {
-    let alloc = rt.alloc();
-    let names = names_of(alloc, pair(alloc)?)?;
-    assert_eq!(rt; names.as_slice(), [Name(0), Name(1)].as_slice());
-    Ok(())
+fn names_in_order_of_use(rt: HostRuntime) {
+    let term = pair(rt.alloc());
+    assert!(rt; matches!(are_names(rt.alloc(), term, &[Name(0), Name(1)]), Ok(true)));
 }
 
 // `let (3, 4) = 2 in (3, (2, 5))`
-fn parts(alloc: Global) -> Result<Node, Memory> {
+fn parts(alloc: Global) -> Result<Box<Node>, Memory> {
     let subject = boxed(alloc, 3, Term::Var(Name(2)))?;
     let other = boxed(alloc, 4, Term::Var(Name(5)))?;
     let right = boxed(alloc, 2, Term::Par(subject, other))?;
     let left = boxed(alloc, 1, Term::Var(Name(3)))?;
     let inside = boxed(alloc, 0, Term::Par(left, right))?;
-    Ok(at(0, Term::LetPar(Name(3), Name(4), Name(2), inside)))
+    boxed(alloc, 0, Term::LetPar(Name(3), Name(4), Name(2), inside))
 }
 
 #[test]
-fn bound_names_are_hidden(rt: HostRuntime) -> Result<(), Fail> {
-    let alloc = rt.alloc();
-    let names = names_of(alloc, parts(alloc)?)?;
-    assert_eq!(rt; names.as_slice(), [Name(2), Name(5)].as_slice());
-    Ok(())
+fn bound_names_are_hidden(rt: HostRuntime) {
+    let term = parts(rt.alloc());
+    assert!(rt; matches!(are_names(rt.alloc(), term, &[Name(2), Name(5)]), Ok(true)));
 }
 
 // `wait 1 in {1}`
-fn wait_for_value(alloc: Global) -> Result<Node, Memory> {
+fn wait_for_value(alloc: Global) -> Result<Box<Node>, Memory> {
     let value = boxed(alloc, 1, Term::Past(Expr::Var(Name(1))))?;
-    Ok(at(0, Term::Wait(Name(1), Ty::Int, value)))
+    boxed(alloc, 0, Term::Wait(Name(1), Ty::Int, value))
 }
 
 // `wait 1 in (0; 1)`
-fn wait_for_pair(alloc: Global) -> Result<Node, Memory> {
-    let after = Box::new(alloc, pair(alloc)?)?;
-    Ok(at(0, Term::Wait(Name(1), Ty::Int, after)))
+fn wait_for_pair(alloc: Global) -> Result<Box<Node>, Memory> {
+    boxed(alloc, 0, Term::Wait(Name(1), Ty::Int, pair(alloc)?))
 }
 
 #[test]
-fn the_subject_of_a_wait_stays_free(rt: HostRuntime) -> Result<(), Fail> {
-    let alloc = rt.alloc();
-    let names = names_of(alloc, wait_for_value(alloc)?)?;
-    assert_eq!(rt; names.as_slice(), [Name(1)].as_slice());
-    let names = names_of(alloc, wait_for_pair(alloc)?)?;
-    assert_eq!(rt; names.as_slice(), [Name(1), Name(0)].as_slice());
-    Ok(())
+fn the_subject_of_a_wait_stays_free(rt: HostRuntime) {
+    let value = wait_for_value(rt.alloc());
+    assert!(rt; matches!(are_names(rt.alloc(), value, &[Name(1)]), Ok(true)));
+    let pair = wait_for_pair(rt.alloc());
+    assert!(rt; matches!(are_names(rt.alloc(), pair, &[Name(1), Name(0)]), Ok(true)));
 }
 
 // A copy of a term.
-fn copied(alloc: Global, node: Node) -> Result<Node, Memory> {
-    let copied = copy(alloc, &node);
-    drop(node);
-    copied
+fn copied(alloc: Global, node: &Node) -> Result<Box<Node>, Memory> {
+    let copied = copy(alloc, node)?;
+    Ok(Box::new(alloc, copied)?)
 }
 
 // Whether a term is this name, at this place.
@@ -153,26 +148,40 @@ fn is_pair(node: &Node) -> bool {
     }
 }
 
-#[test]
-fn a_copy_is_equal(rt: HostRuntime) -> Result<(), Fail> {
-    let alloc = rt.alloc();
-    let node = copied(alloc, pair(alloc)?)?;
-    let same = is_pair(&node);
-    drop(node);
-    assert!(rt; same);
-    Ok(())
+// Whether the copy of the pair is the pair.
+fn is_pair_copied(alloc: Global) -> Result<bool, Memory> {
+    let pair = pair(alloc)?;
+    let copied = copied(alloc, &pair)?;
+    Ok(is_pair(&copied))
 }
 
-// `{7 / 0}` and the arguments `(x; y)` and `nil` of a call of the function 3.
-fn call(alloc: Global) -> Result<Node, Memory> {
+#[test]
+fn a_copy_is_equal(rt: HostRuntime) {
+    assert!(rt; matches!(is_pair_copied(rt.alloc()), Ok(true)));
+}
+
+// `{7 / 0}`
+fn values(alloc: Global) -> Result<Vec<Expr>, Memory> {
     let seven = Box::new(alloc, Expr::Lit(7))?;
     let zero = Box::new(alloc, Expr::Lit(0))?;
     let mut values = Vec::new(alloc);
     values.push(Expr::Bin(Op::Div, seven, zero))?;
+    Ok(values)
+}
+
+// The arguments `(x; y)` and `nil`.
+fn arguments(alloc: Global) -> Result<Vec<Node>, Memory> {
+    let (pair, nil) = (pair(alloc)?, boxed(alloc, 50, Term::Nil)?);
     let mut arguments = Vec::new(alloc);
-    arguments.push(pair(alloc)?)?;
-    arguments.push(at(50, Term::Nil))?;
-    Ok(at(30, Term::Call(3, values, arguments)))
+    arguments.push(Box::into_inner(pair))?;
+    arguments.push(Box::into_inner(nil))?;
+    Ok(arguments)
+}
+
+// A call of the function 3 with these.
+fn call(alloc: Global) -> Result<Box<Node>, Memory> {
+    let values = values(alloc)?;
+    boxed(alloc, 30, Term::Call(3, values, arguments(alloc)?))
 }
 
 // Whether arguments are `(x; y)` and `nil`, with their places.
@@ -195,15 +204,16 @@ fn is_call(node: &Node) -> bool {
     }
 }
 
+// Whether the copy of the call is the call, and has its free names.
+fn is_call_copied(alloc: Global) -> Result<bool, Memory> {
+    let call = call(alloc)?;
+    let copied = copied(alloc, &call)?;
+    Ok(is_call(&copied) && are_names(alloc, Ok(copied), &[Name(0), Name(1)])?)
+}
+
 #[test]
-fn a_copied_call_has_its_arguments(rt: HostRuntime) -> Result<(), Fail> {
-    let alloc = rt.alloc();
-    let node = copied(alloc, call(alloc)?)?;
-    let same = is_call(&node);
-    let names = names_of(alloc, node)?;
-    assert!(rt; same);
-    assert_eq!(rt; names.as_slice(), [Name(0), Name(1)].as_slice());
-    Ok(())
+fn a_copied_call_has_its_arguments(rt: HostRuntime) {
+    assert!(rt; matches!(is_call_copied(rt.alloc()), Ok(true)));
 }
 
 // A function that gives a mark, and one that gives a number.
@@ -214,11 +224,10 @@ fn marks(alloc: Global) -> Result<Vec<Body>, Memory> {
     Ok(funs)
 }
 
-// A copy of a program.
-fn copied_program(alloc: Global, program: Core) -> Result<Core, Memory> {
-    let copied = copy_core(alloc, &program);
-    drop(program);
-    copied
+// A copy of the program in turn with those functions.
+fn copied_program(alloc: Global) -> Result<Core, Memory> {
+    let program = in_turn(alloc, marks(alloc)?)?;
+    copy_core(alloc, &program)
 }
 
 // Whether a body is that of the program in turn.
@@ -229,62 +238,81 @@ fn is_in_turn(main: &Body) -> bool {
         && is_pair(&main.body)
 }
 
-// How many functions and texts a program has, and whether it is the program in turn.
-fn looked_at(program: Core) -> (u64, u64, bool) {
-    let (funs, texts) = (program.funs.len() as u64, program.texts.len() as u64);
-    let same = is_in_turn(&program.main);
-    drop(program);
-    (funs, texts, same)
+// Whether that copy has two functions, two texts and the body of the program in turn.
+fn is_copied(alloc: Global) -> Result<bool, Memory> {
+    let program = copied_program(alloc)?;
+    let counts = program.funs.len() == 2 && program.texts.len() == 2;
+    Ok(counts && is_in_turn(&program.main))
 }
 
 #[test]
-fn a_copied_program_is_equal(rt: HostRuntime) -> Result<(), Fail> {
-    let alloc = rt.alloc();
-    let (funs, texts, same) = looked_at(copied_program(alloc, in_turn(alloc, marks(alloc)?)?)?);
-    assert_eq!(rt; funs, 2);
-    assert_eq!(rt; texts, 2);
-    assert!(rt; same);
-    Ok(())
+fn a_copied_program_is_equal(rt: HostRuntime) {
+    assert!(rt; matches!(is_copied(rt.alloc()), Ok(true)));
 }
 
-// Which of the functions of these numbers a program has, and whether the second gives numbers.
-fn found(program: Core) -> ([bool; 4], bool) {
-    let there = [
-        body_of(&program, 0).is_some(),
-        body_of(&program, 1).is_some(),
-        body_of(&program, 2).is_some(),
-        body_of(&program, u32::MAX).is_some(),
-    ];
-    let second = match body_of(&program, 1) {
+// Which of the functions of these numbers a program has.
+fn there(program: &Core) -> [bool; 4] {
+    [
+        body_of(program, 0).is_some(),
+        body_of(program, 1).is_some(),
+        body_of(program, 2).is_some(),
+        body_of(program, u32::MAX).is_some(),
+    ]
+}
+
+// Whether the second function of a program gives numbers.
+fn second_gives_numbers(program: &Core) -> bool {
+    match body_of(program, 1) {
         Some(body) => matches!(body.result, Ty::Int),
         None => false,
-    };
-    drop(program);
-    (there, second)
+    }
+}
+
+// Whether just these functions are there, and the second gives numbers where it is.
+fn has(program: &Core, expected: [bool; 4]) -> bool {
+    there(program) == expected && second_gives_numbers(program) == expected[1]
+}
+
+// Whether a program without functions has none.
+fn has_none(alloc: Global) -> Result<bool, Memory> {
+    let program = in_turn(alloc, Vec::new(alloc))?;
+    Ok(has(&program, [false, false, false, false]))
+}
+
+// Whether a program of two functions has these.
+fn has_two(alloc: Global) -> Result<bool, Memory> {
+    let program = in_turn(alloc, marks(alloc)?)?;
+    Ok(has(&program, [true, true, false, false]))
 }
 
 #[test]
-fn functions_by_number(rt: HostRuntime) -> Result<(), Fail> {
-    let alloc = rt.alloc();
-    let (there, second) = found(in_turn(alloc, Vec::new(alloc))?);
-    assert_eq!(rt; there, [false, false, false, false]);
-    assert!(rt; !second);
-    let (there, second) = found(in_turn(alloc, marks(alloc)?)?);
-    assert_eq!(rt; there, [true, true, false, false]);
-    assert!(rt; second);
-    Ok(())
+fn functions_by_number(rt: HostRuntime) {
+    assert!(rt; matches!(has_none(rt.alloc()), Ok(true)));
+    assert!(rt; matches!(has_two(rt.alloc()), Ok(true)));
 }
 
 // Whether a program with these parameters and this result fits.
 fn fits_with(alloc: Global, params: Bunch, gives: Ty) -> bool {
+    let nil = Node {
+        at: 0,
+        term: Term::Nil,
+    };
     let program = Core {
         funs: Vec::new(alloc),
-        main: body(alloc, params, gives, at(0, Term::Nil)),
+        main: body(alloc, params, gives, nil),
         texts: Vec::new(alloc),
     };
-    let fits = fits(&program);
-    drop(program);
-    fits
+    fits(&program)
+}
+
+// Whether a program with a result of this height fits.
+fn result_fits(alloc: Global, height: u32) -> Result<bool, Memory> {
+    Ok(fits_with(alloc, Bunch::Empty, tall(alloc, height)?))
+}
+
+// The same with a parameter of this height.
+fn parameter_fits(alloc: Global, height: u32) -> Result<bool, Memory> {
+    Ok(fits_with(alloc, Bunch::Leaf(Name(0), tall(alloc, height)?), Ty::Int))
 }
 
 // `0 : t, 1 : Int`, where t has this height.
@@ -294,18 +322,17 @@ fn beside(alloc: Global, height: u32) -> Result<Bunch, Memory> {
     Ok(Bunch::Comma(tallest, beside))
 }
 
+// The same with such parameters.
+fn both_fit(alloc: Global, height: u32) -> Result<bool, Memory> {
+    Ok(fits_with(alloc, beside(alloc, height)?, Ty::Int))
+}
+
 #[test]
-fn low_programs_fit(rt: HostRuntime) -> Result<(), Fail> {
+fn low_programs_fit(rt: HostRuntime) {
     let alloc = rt.alloc();
-    let low = fits_with(alloc, Bunch::Empty, tall(alloc, 64)?);
-    assert!(rt; low);
-    let high = fits_with(alloc, Bunch::Empty, tall(alloc, 65)?);
-    assert!(rt; !high);
-    let low = fits_with(alloc, Bunch::Leaf(Name(0), tall(alloc, 64)?), Ty::Int);
-    assert!(rt; low);
-    let high = fits_with(alloc, beside(alloc, 64)?, Ty::Int);
-    assert!(rt; !high);
-    let low = fits_with(alloc, beside(alloc, 63)?, Ty::Int);
-    assert!(rt; low);
-    Ok(())
+    assert!(rt; matches!(result_fits(alloc, 64), Ok(true)));
+    assert!(rt; matches!(result_fits(alloc, 65), Ok(false)));
+    assert!(rt; matches!(parameter_fits(alloc, 64), Ok(true)));
+    assert!(rt; matches!(both_fit(alloc, 63), Ok(true)));
+    assert!(rt; matches!(both_fit(alloc, 64), Ok(false)));
 }

@@ -30,11 +30,11 @@ returns-clause-body c =
     let all-entries : entries ≡ entries_from leafs m ++ entries_from pasts n =
     ap number_entries c.in_ok-append.ensures.items
     ∙ (number_entries-append c.number_params.new.numbers.items c.number_past.new.numbers.items ∙ ap₂ (λ xs ys. xs ++ ys) param-entries past-entries) in
-    body-made (function_named bs) (number_named bs) b n m (length third) entries (typed_names_of c.in_ok-past.past.items) (tree_of c.in_ok-params.params) (type_of c.in_ok-copy.field-0) (term_of c.in_ok-term.term)
+    body-made (function_named bs) (number_named bs) b n m (length third) entries (typed_names_of c.in_ok-past.past.items) (tree_of c.into_inner.result) (type_of c.in_ok-result.result) (term_of c.into_inner-2.result)
     (more-variables first second pasts (rw c.deref.ensures.value at c.in_ok-past.ensures.next))
     (more-variables second third leafs c.in_ok-params.ensures.next)
     all-entries
     (rw c.deref.ensures.value at c.in_ok-past.ensures.past)
-    c.in_ok-params.ensures.params
-    c.in_ok-copy.ensures
-    (rw c.deref-2.ensures.value at c.in_ok-term.ensures.term)
+    (ap tree_of c.into_inner.ensures ∙ c.in_ok-params.ensures.params)
+    c.in_ok-result.ensures
+    (ap term_of c.into_inner-2.ensures ∙ (rw c.deref-2.ensures.value at c.in_ok-term.ensures.term))

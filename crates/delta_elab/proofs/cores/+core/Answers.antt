@@ -39,42 +39,42 @@ head_read at form f ms es past arguments i p q = rw (i, p, q) (sym (head_form_of
 pub core-returns-in-Call-clause-term : goal.core-returns-in-Call-clause-term
 core-returns-in-Call-clause-term t c =
     let read : call_at c.args.e.now.at c.in-Call.f.0 (map hist_of c.deref-in-Call.result.now) (expressions_of c.deref-in-Call-2.result.now) ≡ expression_of c.args.e.now =
-    call_read _ _ c.in-Call.f c.in-Call.past c.in-Call.es _ _ c.in-Call.is (cc c.deref-in-Call.ensures.value) (cc c.deref-in-Call-2.ensures.value) in
-    let P : Expression → Type 0 = λ e. IfOk c.call.result (λ n. term_of n ≡ core_in c.args.setting.now c.args.scope.now e (wanted_of c.args.r) (length (origins_of c.args.origins.now.items))) in
+    call_read _ _ c.in-Call.f c.in-Call.past c.in-Call.es _ _ (sym c.deref.ensures ∙ c.in-Call.is) (cc c.deref-in-Call.ensures.value) (cc c.deref-in-Call-2.ensures.value) in
+    let P : Expression → Type 0 = λ e. IfOk c.call.result (λ n. term_of n.value ≡ core_in c.args.setting.now c.args.scope.now e (wanted_of c.args.r) (length (origins_of c.args.origins.now.items))) in
     subst P read c.call.ensures.term
 
 pub core-returns-in-Call-clause-places : goal.core-returns-in-Call-clause-places
 core-returns-in-Call-clause-places t c =
     let read : call_at c.args.e.now.at c.in-Call.f.0 (map hist_of c.deref-in-Call.result.now) (expressions_of c.deref-in-Call-2.result.now) ≡ expression_of c.args.e.now =
-    call_read _ _ c.in-Call.f c.in-Call.past c.in-Call.es _ _ c.in-Call.is (cc c.deref-in-Call.ensures.value) (cc c.deref-in-Call-2.ensures.value) in
-    let P : Expression → Type 0 = λ e. IfOk c.call.result (λ n. places_of n ≡ node_places e) in
+    call_read _ _ c.in-Call.f c.in-Call.past c.in-Call.es _ _ (sym c.deref.ensures ∙ c.in-Call.is) (cc c.deref-in-Call.ensures.value) (cc c.deref-in-Call-2.ensures.value) in
+    let P : Expression → Type 0 = λ e. IfOk c.call.result (λ n. places_of n.value ≡ node_places e) in
     subst P read c.call.ensures.places
 
 pub core-returns-in-Call-clause-next : goal.core-returns-in-Call-clause-next
 core-returns-in-Call-clause-next t c =
     let read : call_at c.args.e.now.at c.in-Call.f.0 (map hist_of c.deref-in-Call.result.now) (expressions_of c.deref-in-Call-2.result.now) ≡ expression_of c.args.e.now =
-    call_read _ _ c.in-Call.f c.in-Call.past c.in-Call.es _ _ c.in-Call.is (cc c.deref-in-Call.ensures.value) (cc c.deref-in-Call-2.ensures.value) in
+    call_read _ _ c.in-Call.f c.in-Call.past c.in-Call.es _ _ (sym c.deref.ensures ∙ c.in-Call.is) (cc c.deref-in-Call.ensures.value) (cc c.deref-in-Call-2.ensures.value) in
     let P : Expression → Type 0 = λ e. OnOk c.call.result (origins_of c.call.new.origins.items ≡ origins_of c.args.origins.now.items ++ new_in e) in
     subst P read c.call.ensures.next
 
 pub head-returns-in-Call-clause-term : goal.head-returns-in-Call-clause-term
 head-returns-in-Call-clause-term t c =
-    let read : call_head c.args.h.now.at c.in-Call.f.0 (map hist_of c.deref.result.now) (expressions_of c.deref-in-Call.result.now) ≡ head_of c.args.h.now =
-    head_read _ _ c.in-Call.f c.in-Call.past c.in-Call.es _ _ c.in-Call.is (cc c.deref.ensures.value) (cc c.deref-in-Call.ensures.value) in
-    let P : Head → Type 0 = λ h. IfOk c.call.result (λ n. term_of n ≡ head_in c.args.setting.now c.args.scope.now h (length (origins_of c.args.origins.now.items))) in
+    let read : call_head c.args.h.now.at c.in-Call.f.0 (map hist_of c.deref-in-Call.result.now) (expressions_of c.deref-in-Call-2.result.now) ≡ head_of c.args.h.now =
+    head_read _ _ c.in-Call.f c.in-Call.past c.in-Call.es _ _ (sym c.deref.ensures ∙ c.in-Call.is) (cc c.deref-in-Call.ensures.value) (cc c.deref-in-Call-2.ensures.value) in
+    let P : Head → Type 0 = λ h. IfOk c.call.result (λ n. term_of n.value ≡ head_in c.args.setting.now c.args.scope.now h (length (origins_of c.args.origins.now.items))) in
     subst P read c.call.ensures.term
 
 pub head-returns-in-Call-clause-places : goal.head-returns-in-Call-clause-places
 head-returns-in-Call-clause-places t c =
-    let read : call_head c.args.h.now.at c.in-Call.f.0 (map hist_of c.deref.result.now) (expressions_of c.deref-in-Call.result.now) ≡ head_of c.args.h.now =
-    head_read _ _ c.in-Call.f c.in-Call.past c.in-Call.es _ _ c.in-Call.is (cc c.deref.ensures.value) (cc c.deref-in-Call.ensures.value) in
-    let P : Head → Type 0 = λ h. IfOk c.call.result (λ n. places_of n ≡ head_places h) in
+    let read : call_head c.args.h.now.at c.in-Call.f.0 (map hist_of c.deref-in-Call.result.now) (expressions_of c.deref-in-Call-2.result.now) ≡ head_of c.args.h.now =
+    head_read _ _ c.in-Call.f c.in-Call.past c.in-Call.es _ _ (sym c.deref.ensures ∙ c.in-Call.is) (cc c.deref-in-Call.ensures.value) (cc c.deref-in-Call-2.ensures.value) in
+    let P : Head → Type 0 = λ h. IfOk c.call.result (λ n. places_of n.value ≡ head_places h) in
     subst P read c.call.ensures.places
 
 pub head-returns-in-Call-clause-next : goal.head-returns-in-Call-clause-next
 head-returns-in-Call-clause-next t c =
-    let read : call_head c.args.h.now.at c.in-Call.f.0 (map hist_of c.deref.result.now) (expressions_of c.deref-in-Call.result.now) ≡ head_of c.args.h.now =
-    head_read _ _ c.in-Call.f c.in-Call.past c.in-Call.es _ _ c.in-Call.is (cc c.deref.ensures.value) (cc c.deref-in-Call.ensures.value) in
+    let read : call_head c.args.h.now.at c.in-Call.f.0 (map hist_of c.deref-in-Call.result.now) (expressions_of c.deref-in-Call-2.result.now) ≡ head_of c.args.h.now =
+    head_read _ _ c.in-Call.f c.in-Call.past c.in-Call.es _ _ (sym c.deref.ensures ∙ c.in-Call.is) (cc c.deref-in-Call.ensures.value) (cc c.deref-in-Call-2.ensures.value) in
     let P : Head → Type 0 = λ h. OnOk c.call.result (origins_of c.call.new.origins.items ≡ origins_of c.args.origins.now.items ++ new_in_head h) in
     subst P read c.call.ensures.next
 
@@ -85,12 +85,12 @@ arguments-loop-i-preserved t c =
     let ts = param_types c.args.function in
     let e = c.index-es-i.result in
     let after = origins_of c.core.new.origins.items in
-    let typed = c.in_ok-core.ensures.term ∙ ap (λ r. core_in c.args.setting.now scope (expression_of e) r (length (origins_of c.loop-i.origins.items))) c.param_type.ensures in
+    let typed = c.in_ok-core.ensures.term ∙ ap (λ r. core_in c.args.setting.now scope (expression_of e) r (length (origins_of c.loop-i.origins.items))) c.param_type-r.ensures in
     let count : length after ≡ length (origins_of c.loop-i.origins.items) + length (new_in (expression_of e)) = ap length c.in_ok-core.ensures.next ∙ length-append _ _ in
-    rw c.in_ok-push.ensures.items (
-      cores-next (function_named bs) (number_named bs) (names_known c.args.setting.now.known.now) (numbers_in scope) (name_types_in scope) c.args.es.now ts c.loop-i.i e c.loop-i.cores.items c.in_ok-core.field-0 _ _ _
+    rw (c.in_ok-push.ensures.items, c.into_inner.ensures) (
+      cores-next (function_named bs) (number_named bs) (names_known c.args.setting.now.known.now) (numbers_in scope) (name_types_in scope) c.args.es.now ts c.loop-i.i e c.loop-i.cores.items c.in_ok-core.field-0.value _ _ _
           c.loop-i-test.true c.index-es-i.is c.loop-i.invariant.0 typed count,
-      places-next c.args.es.now c.loop-i.i e c.loop-i-test.true c.index-es-i.is c.loop-i.cores.items c.in_ok-core.field-0 _ c.loop-i.invariant.1 c.in_ok-core.ensures.places,
+      places-next c.args.es.now c.loop-i.i e c.loop-i-test.true c.index-es-i.is c.loop-i.cores.items c.in_ok-core.field-0.value _ c.loop-i.invariant.1 c.in_ok-core.ensures.places,
       variables-next c.args.es.now c.loop-i.i e c.loop-i-test.true c.index-es-i.is (origins_of c.loop-i.origins.items) after _ c.loop-i.invariant.2 c.in_ok-core.ensures.next,
     )
 

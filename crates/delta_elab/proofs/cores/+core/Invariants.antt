@@ -17,8 +17,8 @@ use Rattle.delta_elab.proofs.cores.+core.Given as goal
 abbrev pub decreases-core : goal.decreases-core
 decreases-core l = 4 * size-Exp l.e.now
 
-abbrev pub decreases-boxed : goal.decreases-boxed
-decreases-boxed l = 4 * size-Exp l.e.now + 1
+abbrev pub decreases-both : goal.decreases-both
+decreases-both l = max (4 * size-Exp l.a.now) (4 * size-Exp l.b.now) + 1
 
 abbrev pub decreases-core_of_typed : goal.decreases-core_of_typed
 decreases-core_of_typed l = 4 * size-Exp l.a.now + 2

@@ -1,5 +1,5 @@
 -- What comes before in the order of reading is fine.
-use Rattle.std.proofs.Common.{◌≡◌, true, Some, None, map}
+use Rattle.std.proofs.Common.{◌≡◌, true, Some, None, map, sym, ◌∙◌}
 use Rattle.std.proofs.lemmas.Result.{err_from_is_err_and}
 use Rattle.bunch.specs.Names.{put}
 use Rattle.delta_tree.specs.SyntaxTree.{call_at, call_head}
@@ -18,10 +18,10 @@ check_expression-returns-in_err-check_expression-in-CaseSum t c =
     let names = names_known c.args.known.now.types.now in
     let bound = bound_in c.args.bound.now in
     let e = c.in_err-check_expression-in-CaseSum.field-0.0 in
-    let second : Some (fault_of e) ≡ to_say (faults_in is_there names (expression_of c.in-CaseSum.a.value) (put c.in-CaseSum.x.0 true bound)) =
-    cc (c.in_err-check_expression-in-CaseSum.ensures, c.deref-in-CaseSum.ensures) in
+    let second : Some (fault_of e) ≡ to_say (faults_in is_there names (expression_of c.in-CaseSum.a) (put c.in-CaseSum.x.0 true bound)) =
+    cc c.in_err-check_expression-in-CaseSum.ensures in
     let exit = err_from_is_err_and c.from_residual-in_err-check_expression-in-CaseSum.result c.from_residual-in_err-check_expression-in-CaseSum.ensures.1 in
-    rw (c.in-CaseSum.is, exit.1, exit.2) (later _ _ _ c.in_ok-check_head-in-CaseSum.ensures (earlier _ _ _ second))
+    rw (sym c.deref.ensures ∙ c.in-CaseSum.is, exit.1, exit.2) (later _ _ _ c.in_ok-check_head-in-CaseSum.ensures (earlier _ _ _ second))
 
 pub check_expression-returns-in_ok-check_histories-in-Call : goal.check_expression-returns-in_ok-check_histories-in-Call
 check_expression-returns-in_ok-check_histories-in-Call t c =
@@ -29,7 +29,7 @@ check_expression-returns-in_ok-check_histories-in-Call t c =
     let names = names_known c.args.known.now.types.now in
     let bound = bound_in c.args.bound.now in
     let whole : expression_of c.args.e.now ≡ call_at c.args.e.now.at c.in-Call.f.0 (map hist_of c.in-Call.past.items) (expressions_of c.in-Call.arguments.items) =
-    rw c.in-Call.is (expression_form_of-call _ c.in-Call.f c.in-Call.past c.in-Call.arguments) in
+    rw (sym c.deref.ensures ∙ c.in-Call.is) (expression_form_of-call _ c.in-Call.f c.in-Call.past c.in-Call.arguments) in
     let second : None ≡ to_say (exprs_faults (map hist_of c.in-Call.past.items) bound) =
     cc (c.in_ok-check_histories-in-Call.ensures, c.deref-in-Call.ensures.value) in
     let third : said c.check_arguments.result ≡ to_say (argument_faults is_there names (expressions_of c.in-Call.arguments.items) bound) =
@@ -42,9 +42,9 @@ check_head-returns-in_ok-check_histories-in-Call t c =
     let names = names_known c.args.known.now.types.now in
     let bound = bound_in c.args.bound.now in
     let whole : head_of c.args.h.now ≡ call_head c.args.h.now.at c.in-Call.f.0 (map hist_of c.in-Call.past.items) (expressions_of c.in-Call.arguments.items) =
-    rw c.in-Call.is (head_form_of-call _ c.in-Call.f c.in-Call.past c.in-Call.arguments) in
+    rw (sym c.deref.ensures ∙ c.in-Call.is) (head_form_of-call _ c.in-Call.f c.in-Call.past c.in-Call.arguments) in
     let second : None ≡ to_say (exprs_faults (map hist_of c.in-Call.past.items) bound) =
-    cc (c.in_ok-check_histories-in-Call.ensures, c.deref.ensures.value) in
+    cc (c.in_ok-check_histories-in-Call.ensures, c.deref-in-Call.ensures.value) in
     let third : said c.check_arguments.result ≡ to_say (argument_faults is_there names (expressions_of c.in-Call.arguments.items) bound) =
-    cc (c.check_arguments.ensures, c.deref-in-Call.ensures.value) in
+    cc (c.check_arguments.ensures, c.deref-in-Call-2.ensures.value) in
     rw whole (later _ _ _ c.in_ok-check_function-in-Call.ensures (later _ _ _ second third))

@@ -1,17 +1,14 @@
 -- What a call, a wait, a case on a star and a body are, by the form of their tree.
-use Rattle.std.proofs.Common.{◌≡◌, ℕ, ◌+◌, ◌-◌, ◌<◌, List, map, IfOk, IfErr, refl, sym, ap, ap₂, ◌∙◌, subst, arith, rules}
+use Rattle.std.proofs.Common.{◌≡◌, ◌+◌, ◌-◌, ◌<◌, List, map, IfOk, IfErr, refl, sym, ap, ap₂, ◌∙◌, subst, arith, rules}
 use Rattle.std.proofs.lemmas.Result.{IfOk-weaker, MatchResult-weaker, err_from_is_err_and}
 use Rattle.stream_type.specs.StreamType.{type_of}
-use Rattle.stream_prefix.specs.declared.prefix.Prefix.{Prefix}
-use Rattle.stream_prefix.specs.declared.prefix.StarEnd.TheVariants.{Done}
-use Rattle.stream_prefix.specs.Tree.{prefix_of, star_of, end_of}
-use Rattle.stream_prefix.proofs.Rows.{prefix_of-star}
+use Rattle.stream_prefix.specs.Tree.{prefix_of}
 use Rattle.delta_tree.specs.declared.expressions.Exp.{Exp}
 use Rattle.delta_tree.specs.declared.expressions.Hist.{Hist}
-use Rattle.delta_tree.specs.SyntaxTree.{Expression, Head, wait_at, call_at, call_head}
+use Rattle.delta_tree.specs.SyntaxTree.{wait_at, call_at, call_head}
 use Rattle.delta_tree.specs.Tree.{expression_of, expressions_of, expression_form_of, head_of, head_form_of, hist_of}
 use Rattle.delta_tree.proofs.Rows.{expression_form_of-call, head_form_of-call}
-use Rattle.core_term.specs.Run.{Run, quiet, let_run}
+use Rattle.core_term.specs.Run.{Run, let_run}
 use Rattle.delta_meaning.specs.declared.refusal.Stop.TheVariants.{Spent}
 use Rattle.delta_meaning.specs.SourceMeaning.{is_name_head}
 use Rattle.delta_meaning.specs.Evaluated.{run_of}
@@ -36,75 +33,435 @@ use Rattle.delta_meaning.proofs.Evaluations.{call_with_depth}
 use Rattle.delta_meaning.proofs.Runs.{body_runs}
 use Rattle.delta_meaning.proofs.evaluation.+evaluate.Goals as goal
 
-pub evaluate-returns-in-Nil-clause-run : goal.evaluate-returns-in-Nil-clause-run
-evaluate-returns-in-Nil-clause-run t c =
-    rw c.in-Nil.is (c.quiet-in-Nil.ensures ∙ ap quiet (prefix_of-star c.new.result Done ∙ ap (λ (l : List Prefix). star_of (map prefix_of l) (end_of Done)) c.new.ensures.items))
+pub evaluate-returns-in-Var-clause-run : goal.evaluate-returns-in-Var-clause-run
+evaluate-returns-in-Var-clause-run t c =
+    let there : c.args.e.now.form.value ≡ c.deref.result.now = sym c.deref.ensures in
+    rw (there, c.in-Var.is) c.name_run.ensures.run
+
+pub evaluate-returns-in-Var-clause-counted : goal.evaluate-returns-in-Var-clause-counted
+evaluate-returns-in-Var-clause-counted t c =
+    c.name_run.ensures.counted c.args.left
+
+pub evaluate-returns-in-Var-clause-spent : goal.evaluate-returns-in-Var-clause-spent
+evaluate-returns-in-Var-clause-spent t c =
+    c.name_run.ensures.spent c.args.left _
+
+pub evaluate-returns-in-Past-clause-run : goal.evaluate-returns-in-Past-clause-run
+evaluate-returns-in-Past-clause-run t c =
+    let there : c.args.e.now.form.value ≡ c.deref.result.now = sym c.deref.ensures in
+    rw (there, c.in-Past.is) c.past_run.ensures.run
+
+pub evaluate-returns-in-Past-clause-counted : goal.evaluate-returns-in-Past-clause-counted
+evaluate-returns-in-Past-clause-counted t c =
+    c.past_run.ensures.counted c.args.left
+
+pub evaluate-returns-in-Past-clause-spent : goal.evaluate-returns-in-Past-clause-spent
+evaluate-returns-in-Past-clause-spent t c =
+    c.past_run.ensures.spent c.args.left _
+
+pub evaluate-returns-in-Cons-clause-run : goal.evaluate-returns-in-Cons-clause-run
+evaluate-returns-in-Cons-clause-run t c =
+    let there : c.args.e.now.form.value ≡ c.deref.result.now = sym c.deref.ensures in
+    rw (there, c.in-Cons.is) c.evaluate_star.ensures.run
+
+pub evaluate-returns-in-Cons-clause-counted : goal.evaluate-returns-in-Cons-clause-counted
+evaluate-returns-in-Cons-clause-counted t c =
+    c.evaluate_star.ensures.counted
+
+pub evaluate-returns-in-Cons-clause-spent : goal.evaluate-returns-in-Cons-clause-spent
+evaluate-returns-in-Cons-clause-spent t c =
+    let there : c.args.e.now.form.value ≡ c.deref.result.now = sym c.deref.ensures in
+    rw (there, c.in-Cons.is) c.evaluate_star.ensures.spent
+
+pub evaluate-returns-in-Inl-clause-run : goal.evaluate-returns-in-Inl-clause-run
+evaluate-returns-in-Inl-clause-run t c =
+    let there : c.args.e.now.form.value ≡ c.deref.result.now = sym c.deref.ensures in
+    rw (there, c.in-Inl.is) c.evaluate_left.ensures.run
+
+pub evaluate-returns-in-Inl-clause-counted : goal.evaluate-returns-in-Inl-clause-counted
+evaluate-returns-in-Inl-clause-counted t c =
+    c.evaluate_left.ensures.counted
+
+pub evaluate-returns-in-Inl-clause-spent : goal.evaluate-returns-in-Inl-clause-spent
+evaluate-returns-in-Inl-clause-spent t c =
+    let there : c.args.e.now.form.value ≡ c.deref.result.now = sym c.deref.ensures in
+    rw (there, c.in-Inl.is) c.evaluate_left.ensures.spent
+
+pub evaluate-returns-in-Inr-clause-run : goal.evaluate-returns-in-Inr-clause-run
+evaluate-returns-in-Inr-clause-run t c =
+    let there : c.args.e.now.form.value ≡ c.deref.result.now = sym c.deref.ensures in
+    rw (there, c.in-Inr.is) c.evaluate_right.ensures.run
+
+pub evaluate-returns-in-Inr-clause-counted : goal.evaluate-returns-in-Inr-clause-counted
+evaluate-returns-in-Inr-clause-counted t c =
+    c.evaluate_right.ensures.counted
+
+pub evaluate-returns-in-Inr-clause-spent : goal.evaluate-returns-in-Inr-clause-spent
+evaluate-returns-in-Inr-clause-spent t c =
+    let there : c.args.e.now.form.value ≡ c.deref.result.now = sym c.deref.ensures in
+    rw (there, c.in-Inr.is) c.evaluate_right.ensures.spent
+
+pub evaluate-returns-in-Asc-clause-run : goal.evaluate-returns-in-Asc-clause-run
+evaluate-returns-in-Asc-clause-run t c =
+    let there : c.args.e.now.form.value ≡ c.deref.result.now = sym c.deref.ensures in
+    rw (there, c.in-Asc.is) c.evaluate_typed.ensures.run
+
+pub evaluate-returns-in-Asc-clause-counted : goal.evaluate-returns-in-Asc-clause-counted
+evaluate-returns-in-Asc-clause-counted t c =
+    c.evaluate_typed.ensures.counted
+
+pub evaluate-returns-in-Asc-clause-spent : goal.evaluate-returns-in-Asc-clause-spent
+evaluate-returns-in-Asc-clause-spent t c =
+    let there : c.args.e.now.form.value ≡ c.deref.result.now = sym c.deref.ensures in
+    rw (there, c.in-Asc.is) c.evaluate_typed.ensures.spent
+
+pub evaluate-returns-in-If-clause-run : goal.evaluate-returns-in-If-clause-run
+evaluate-returns-in-If-clause-run t c =
+    let there : c.args.e.now.form.value ≡ c.deref.result.now = sym c.deref.ensures in
+    rw (there, c.in-If.is) c.evaluate_if.ensures.run
+
+pub evaluate-returns-in-If-clause-counted : goal.evaluate-returns-in-If-clause-counted
+evaluate-returns-in-If-clause-counted t c =
+    c.evaluate_if.ensures.counted
+
+pub evaluate-returns-in-If-clause-spent : goal.evaluate-returns-in-If-clause-spent
+evaluate-returns-in-If-clause-spent t c =
+    let there : c.args.e.now.form.value ≡ c.deref.result.now = sym c.deref.ensures in
+    rw (there, c.in-If.is) c.evaluate_if.ensures.spent
+
+pub evaluate-returns-in-Let-clause-run : goal.evaluate-returns-in-Let-clause-run
+evaluate-returns-in-Let-clause-run t c =
+    let there : c.args.e.now.form.value ≡ c.deref.result.now = sym c.deref.ensures in
+    let i = c.args.place.now in
+    let s = c.args.scope.now in
+    let e = c.args.e.now in
+    let r = type_of c.args.ty.now in
+    let h = head_of c.in-Let.h in
+    let a = head_run_at i s h in
+    let same : let_run (is_name_head h) a (run_after i s (expression_of e) r (head_type_at i s h) a.out) ≡ run_at i s (expression_of e) r = rw (there, c.in-Let.is) refl in
+    subst (λ (z : Run). IfOk c.evaluate_with_head.result (λ b. run_of b ≡ z)) same c.evaluate_with_head.ensures.run
+
+pub evaluate-returns-in-Let-clause-counted : goal.evaluate-returns-in-Let-clause-counted
+evaluate-returns-in-Let-clause-counted t c =
+    c.evaluate_with_head.ensures.counted
+
+pub evaluate-returns-in-Let-clause-spent : goal.evaluate-returns-in-Let-clause-spent
+evaluate-returns-in-Let-clause-spent t c =
+    let there : c.args.e.now.form.value ≡ c.deref.result.now = sym c.deref.ensures in
+    let i = c.args.place.now in
+    let s = c.args.scope.now in
+    let e = c.args.e.now in
+    let r = type_of c.args.ty.now in
+    let h = head_of c.in-Let.h in
+    let a = head_run_at i s h in
+    let same : let_run (is_name_head h) a (run_after i s (expression_of e) r (head_type_at i s h) a.out) ≡ run_at i s (expression_of e) r = rw (there, c.in-Let.is) refl in
+    subst (λ (z : Run). IfErr c.evaluate_with_head.result (λ b. b ≡ Spent → c.args.left < z.calls)) same c.evaluate_with_head.ensures.spent
+
+pub evaluate-returns-in-LetPar-clause-run : goal.evaluate-returns-in-LetPar-clause-run
+evaluate-returns-in-LetPar-clause-run t c =
+    let there : c.args.e.now.form.value ≡ c.deref.result.now = sym c.deref.ensures in
+    let i = c.args.place.now in
+    let s = c.args.scope.now in
+    let e = c.args.e.now in
+    let r = type_of c.args.ty.now in
+    let h = head_of c.in-LetPar.h in
+    let a = head_run_at i s h in
+    let same : let_run (is_name_head h) a (run_after i s (expression_of e) r (head_type_at i s h) a.out) ≡ run_at i s (expression_of e) r = rw (there, c.in-LetPar.is) refl in
+    subst (λ (z : Run). IfOk c.evaluate_with_head-in-LetPar.result (λ b. run_of b ≡ z)) same c.evaluate_with_head-in-LetPar.ensures.run
+
+pub evaluate-returns-in-LetPar-clause-counted : goal.evaluate-returns-in-LetPar-clause-counted
+evaluate-returns-in-LetPar-clause-counted t c =
+    c.evaluate_with_head-in-LetPar.ensures.counted
+
+pub evaluate-returns-in-LetPar-clause-spent : goal.evaluate-returns-in-LetPar-clause-spent
+evaluate-returns-in-LetPar-clause-spent t c =
+    let there : c.args.e.now.form.value ≡ c.deref.result.now = sym c.deref.ensures in
+    let i = c.args.place.now in
+    let s = c.args.scope.now in
+    let e = c.args.e.now in
+    let r = type_of c.args.ty.now in
+    let h = head_of c.in-LetPar.h in
+    let a = head_run_at i s h in
+    let same : let_run (is_name_head h) a (run_after i s (expression_of e) r (head_type_at i s h) a.out) ≡ run_at i s (expression_of e) r = rw (there, c.in-LetPar.is) refl in
+    subst (λ (z : Run). IfErr c.evaluate_with_head-in-LetPar.result (λ b. b ≡ Spent → c.args.left < z.calls)) same c.evaluate_with_head-in-LetPar.ensures.spent
+
+pub evaluate-returns-in-LetCat-clause-run : goal.evaluate-returns-in-LetCat-clause-run
+evaluate-returns-in-LetCat-clause-run t c =
+    let there : c.args.e.now.form.value ≡ c.deref.result.now = sym c.deref.ensures in
+    let i = c.args.place.now in
+    let s = c.args.scope.now in
+    let e = c.args.e.now in
+    let r = type_of c.args.ty.now in
+    let h = head_of c.in-LetCat.h in
+    let a = head_run_at i s h in
+    let same : let_run (is_name_head h) a (run_after i s (expression_of e) r (head_type_at i s h) a.out) ≡ run_at i s (expression_of e) r = rw (there, c.in-LetCat.is) refl in
+    subst (λ (z : Run). IfOk c.evaluate_with_head-in-LetCat.result (λ b. run_of b ≡ z)) same c.evaluate_with_head-in-LetCat.ensures.run
+
+pub evaluate-returns-in-LetCat-clause-counted : goal.evaluate-returns-in-LetCat-clause-counted
+evaluate-returns-in-LetCat-clause-counted t c =
+    c.evaluate_with_head-in-LetCat.ensures.counted
+
+pub evaluate-returns-in-LetCat-clause-spent : goal.evaluate-returns-in-LetCat-clause-spent
+evaluate-returns-in-LetCat-clause-spent t c =
+    let there : c.args.e.now.form.value ≡ c.deref.result.now = sym c.deref.ensures in
+    let i = c.args.place.now in
+    let s = c.args.scope.now in
+    let e = c.args.e.now in
+    let r = type_of c.args.ty.now in
+    let h = head_of c.in-LetCat.h in
+    let a = head_run_at i s h in
+    let same : let_run (is_name_head h) a (run_after i s (expression_of e) r (head_type_at i s h) a.out) ≡ run_at i s (expression_of e) r = rw (there, c.in-LetCat.is) refl in
+    subst (λ (z : Run). IfErr c.evaluate_with_head-in-LetCat.result (λ b. b ≡ Spent → c.args.left < z.calls)) same c.evaluate_with_head-in-LetCat.ensures.spent
+
+pub evaluate-returns-in-CaseSum-clause-run : goal.evaluate-returns-in-CaseSum-clause-run
+evaluate-returns-in-CaseSum-clause-run t c =
+    let there : c.args.e.now.form.value ≡ c.deref.result.now = sym c.deref.ensures in
+    let i = c.args.place.now in
+    let s = c.args.scope.now in
+    let e = c.args.e.now in
+    let r = type_of c.args.ty.now in
+    let h = head_of c.in-CaseSum.h in
+    let a = head_run_at i s h in
+    let same : let_run (is_name_head h) a (run_after i s (expression_of e) r (head_type_at i s h) a.out) ≡ run_at i s (expression_of e) r = rw (there, c.in-CaseSum.is) refl in
+    subst (λ (z : Run). IfOk c.evaluate_with_head-in-CaseSum.result (λ b. run_of b ≡ z)) same c.evaluate_with_head-in-CaseSum.ensures.run
+
+pub evaluate-returns-in-CaseSum-clause-counted : goal.evaluate-returns-in-CaseSum-clause-counted
+evaluate-returns-in-CaseSum-clause-counted t c =
+    c.evaluate_with_head-in-CaseSum.ensures.counted
+
+pub evaluate-returns-in-CaseSum-clause-spent : goal.evaluate-returns-in-CaseSum-clause-spent
+evaluate-returns-in-CaseSum-clause-spent t c =
+    let there : c.args.e.now.form.value ≡ c.deref.result.now = sym c.deref.ensures in
+    let i = c.args.place.now in
+    let s = c.args.scope.now in
+    let e = c.args.e.now in
+    let r = type_of c.args.ty.now in
+    let h = head_of c.in-CaseSum.h in
+    let a = head_run_at i s h in
+    let same : let_run (is_name_head h) a (run_after i s (expression_of e) r (head_type_at i s h) a.out) ≡ run_at i s (expression_of e) r = rw (there, c.in-CaseSum.is) refl in
+    subst (λ (z : Run). IfErr c.evaluate_with_head-in-CaseSum.result (λ b. b ≡ Spent → c.args.left < z.calls)) same c.evaluate_with_head-in-CaseSum.ensures.spent
 
 pub evaluate-returns-in-CaseStar-clause-run : goal.evaluate-returns-in-CaseStar-clause-run
 evaluate-returns-in-CaseStar-clause-run t c =
+    let there : c.args.e.now.form.value ≡ c.deref.result.now = sym c.deref.ensures in
     let i = c.args.place.now in
     let s = c.args.scope.now in
     let e = c.args.e.now in
     let r = type_of c.args.ty.now in
     let h = head_of c.in-CaseStar.h in
     let a = head_run_at i s h in
-    let same : let_run (is_name_head h) a (run_after i s (expression_of e) r (head_type_at i s h) a.out) ≡ run_at i s (expression_of e) r = rw c.in-CaseStar.is refl in
+    let same : let_run (is_name_head h) a (run_after i s (expression_of e) r (head_type_at i s h) a.out) ≡ run_at i s (expression_of e) r = rw (there, c.in-CaseStar.is) refl in
     subst (λ (z : Run). IfOk c.evaluate_with_head-in-CaseStar.result (λ b. run_of b ≡ z)) same c.evaluate_with_head-in-CaseStar.ensures.run
+
+pub evaluate-returns-in-CaseStar-clause-counted : goal.evaluate-returns-in-CaseStar-clause-counted
+evaluate-returns-in-CaseStar-clause-counted t c =
+    c.evaluate_with_head-in-CaseStar.ensures.counted
+
+pub evaluate-returns-in-CaseStar-clause-spent : goal.evaluate-returns-in-CaseStar-clause-spent
+evaluate-returns-in-CaseStar-clause-spent t c =
+    let there : c.args.e.now.form.value ≡ c.deref.result.now = sym c.deref.ensures in
+    let i = c.args.place.now in
+    let s = c.args.scope.now in
+    let e = c.args.e.now in
+    let r = type_of c.args.ty.now in
+    let h = head_of c.in-CaseStar.h in
+    let a = head_run_at i s h in
+    let same : let_run (is_name_head h) a (run_after i s (expression_of e) r (head_type_at i s h) a.out) ≡ run_at i s (expression_of e) r = rw (there, c.in-CaseStar.is) refl in
+    subst (λ (z : Run). IfErr c.evaluate_with_head-in-CaseStar.result (λ b. b ≡ Spent → c.args.left < z.calls)) same c.evaluate_with_head-in-CaseStar.ensures.spent
 
 pub evaluate-returns-in-Wait-clause-run : goal.evaluate-returns-in-Wait-clause-run
 evaluate-returns-in-Wait-clause-run t c =
+    let there : c.args.e.now.form.value ≡ c.deref.result.now = sym c.deref.ensures in
     let e = c.args.e.now in
-    let there : c.in-Wait.e.value ≡ c.deref-in-Wait.result.now = cc in
-    let is : expression_of e ≡ wait_at e.at c.in-Wait.x.0 (expression_of c.deref-in-Wait.result.now) = ap (expression_form_of e.at) c.in-Wait.is ∙ ap (λ (q : Exp). wait_at e.at c.in-Wait.x.0 (expression_of q)) there in
+    let is : expression_of e ≡ wait_at e.at c.in-Wait.x.0 (expression_of c.in-Wait.e) = ap (expression_form_of e.at) (there ∙ c.in-Wait.is) in
     rw is (IfOk-weaker c.evaluate_wait.result _ _ (λ a h. h e.at) c.evaluate_wait.ensures.run)
 
 pub evaluate-returns-in-Wait-clause-spent : goal.evaluate-returns-in-Wait-clause-spent
 evaluate-returns-in-Wait-clause-spent t c =
+    let there : c.args.e.now.form.value ≡ c.deref.result.now = sym c.deref.ensures in
     let e = c.args.e.now in
-    let there : c.in-Wait.e.value ≡ c.deref-in-Wait.result.now = cc in
-    let is : expression_of e ≡ wait_at e.at c.in-Wait.x.0 (expression_of c.deref-in-Wait.result.now) = ap (expression_form_of e.at) c.in-Wait.is ∙ ap (λ (q : Exp). wait_at e.at c.in-Wait.x.0 (expression_of q)) there in
+    let is : expression_of e ≡ wait_at e.at c.in-Wait.x.0 (expression_of c.in-Wait.e) = ap (expression_form_of e.at) (there ∙ c.in-Wait.is) in
     rw is (MatchResult-weaker c.evaluate_wait.result c.evaluate_wait.ensures.spent (λ x u. u) (λ y h p. h p e.at))
 
 pub evaluate-evaluate_call-requires : goal.evaluate-evaluate_call-requires
 evaluate-evaluate_call-requires t c =
+    let there : c.args.e.now.form.value ≡ c.deref.result.now = sym c.deref.ensures in
     let e = c.args.e.now in
-    let is : expression_of e ≡ call_at e.at c.in-Call.f.0 (map hist_of c.in-Call.ms.items) (expressions_of c.in-Call.es.items) = ap (expression_form_of e.at) c.in-Call.is ∙ expression_form_of-call e.at c.in-Call.f c.in-Call.ms c.in-Call.es in
+    let is : expression_of e ≡ call_at e.at c.in-Call.f.0 (map hist_of c.in-Call.ms.items) (expressions_of c.in-Call.es.items) = ap (expression_form_of e.at) (there ∙ c.in-Call.is) ∙ expression_form_of-call e.at c.in-Call.f c.in-Call.ms c.in-Call.es in
     let heavy : weight (expression_of e) ≡ 4 + weight_of_all (expressions_of c.deref-in-Call-2.result.now) = ap weight is ∙ ap (λ (l : List Exp). 4 + weight_of_all (expressions_of l)) (sym c.deref-in-Call-2.ensures.value) in
     search rules
 
 pub evaluate-returns-in-Call-clause-run : goal.evaluate-returns-in-Call-clause-run
 evaluate-returns-in-Call-clause-run t c =
+    let there : c.args.e.now.form.value ≡ c.deref.result.now = sym c.deref.ensures in
     let e = c.args.e.now in
     let is : expression_of e ≡ call_at e.at c.in-Call.f.0 (map hist_of c.deref-in-Call.result.now) (expressions_of c.deref-in-Call-2.result.now) =
-    ap (expression_form_of e.at) c.in-Call.is ∙ (expression_form_of-call e.at c.in-Call.f c.in-Call.ms c.in-Call.es ∙ ap₂ (λ (m : List Hist) (l : List Exp). call_at e.at c.in-Call.f.0 (map hist_of m) (expressions_of l)) (sym c.deref-in-Call.ensures.value) (sym c.deref-in-Call-2.ensures.value)) in
+    ap (expression_form_of e.at) (there ∙ c.in-Call.is) ∙ (expression_form_of-call e.at c.in-Call.f c.in-Call.ms c.in-Call.es ∙ ap₂ (λ (m : List Hist) (l : List Exp). call_at e.at c.in-Call.f.0 (map hist_of m) (expressions_of l)) (sym c.deref-in-Call.ensures.value) (sym c.deref-in-Call-2.ensures.value)) in
     rw is (IfOk-weaker c.evaluate_call.result _ _ (λ a h. h e.at) c.evaluate_call.ensures.run)
 
 pub evaluate-returns-in-Call-clause-spent : goal.evaluate-returns-in-Call-clause-spent
 evaluate-returns-in-Call-clause-spent t c =
+    let there : c.args.e.now.form.value ≡ c.deref.result.now = sym c.deref.ensures in
     let e = c.args.e.now in
     let is : expression_of e ≡ call_at e.at c.in-Call.f.0 (map hist_of c.deref-in-Call.result.now) (expressions_of c.deref-in-Call-2.result.now) =
-    ap (expression_form_of e.at) c.in-Call.is ∙ (expression_form_of-call e.at c.in-Call.f c.in-Call.ms c.in-Call.es ∙ ap₂ (λ (m : List Hist) (l : List Exp). call_at e.at c.in-Call.f.0 (map hist_of m) (expressions_of l)) (sym c.deref-in-Call.ensures.value) (sym c.deref-in-Call-2.ensures.value)) in
+    ap (expression_form_of e.at) (there ∙ c.in-Call.is) ∙ (expression_form_of-call e.at c.in-Call.f c.in-Call.ms c.in-Call.es ∙ ap₂ (λ (m : List Hist) (l : List Exp). call_at e.at c.in-Call.f.0 (map hist_of m) (expressions_of l)) (sym c.deref-in-Call.ensures.value) (sym c.deref-in-Call-2.ensures.value)) in
     rw is (MatchResult-weaker c.evaluate_call.result c.evaluate_call.ensures.spent (λ x u. u) (λ y h p. h p e.at))
+
+pub evaluate_with_head-returns-clause-run : goal.evaluate_with_head-returns-clause-run
+evaluate_with_head-returns-clause-run t c =
+    let i = c.args.place.now in
+    let s = c.args.scope.now in
+    let e = expression_of c.args.e.now in
+    let r = type_of c.args.ty.now in
+    let h = head_of c.args.h.now in
+    subst (λ (z : Run). IfOk c.evaluate_let.result (λ b. run_of b ≡ let_run (is_name_head h) z (run_after i s e r (head_type_at i s h) z.out))) c.in_ok-head.ensures.run c.evaluate_let.ensures.run
+
+pub evaluate_with_head-returns-clause-spent : goal.evaluate_with_head-returns-clause-spent
+evaluate_with_head-returns-clause-spent t c =
+    let i = c.args.place.now in
+    let s = c.args.scope.now in
+    let e = expression_of c.args.e.now in
+    let r = type_of c.args.ty.now in
+    let h = head_of c.args.h.now in
+    subst (λ (z : Run). IfErr c.evaluate_let.result (λ b. b ≡ Spent → c.args.left < z.calls + (run_after i s e r (head_type_at i s h) z.out).calls)) c.in_ok-head.ensures.run c.evaluate_let.ensures.spent
+
+pub evaluate_bound-returns-in-Let-clause-run : goal.evaluate_bound-returns-in-Let-clause-run
+evaluate_bound-returns-in-Let-clause-run t c =
+    let there : c.args.e.now.form.value ≡ c.deref.result.now = sym c.deref.ensures in
+    rw (there, c.in-Let.is) c.evaluate_one.ensures.run
+
+pub evaluate_bound-returns-in-Let-clause-counted : goal.evaluate_bound-returns-in-Let-clause-counted
+evaluate_bound-returns-in-Let-clause-counted t c =
+    c.evaluate_one.ensures.counted
+
+pub evaluate_bound-returns-in-Let-clause-spent : goal.evaluate_bound-returns-in-Let-clause-spent
+evaluate_bound-returns-in-Let-clause-spent t c =
+    let there : c.args.e.now.form.value ≡ c.deref.result.now = sym c.deref.ensures in
+    rw (there, c.in-Let.is) c.evaluate_one.ensures.spent
+
+pub evaluate_bound-returns-in-LetCat-clause-run : goal.evaluate_bound-returns-in-LetCat-clause-run
+evaluate_bound-returns-in-LetCat-clause-run t c =
+    let there : c.args.e.now.form.value ≡ c.deref.result.now = sym c.deref.ensures in
+    rw (there, c.in-LetCat.is) c.evaluate_parts.ensures.run
+
+pub evaluate_bound-returns-in-LetCat-clause-counted : goal.evaluate_bound-returns-in-LetCat-clause-counted
+evaluate_bound-returns-in-LetCat-clause-counted t c =
+    c.evaluate_parts.ensures.counted
+
+pub evaluate_bound-returns-in-LetCat-clause-spent : goal.evaluate_bound-returns-in-LetCat-clause-spent
+evaluate_bound-returns-in-LetCat-clause-spent t c =
+    let there : c.args.e.now.form.value ≡ c.deref.result.now = sym c.deref.ensures in
+    rw (there, c.in-LetCat.is) c.evaluate_parts.ensures.spent
+
+pub evaluate_bound-returns-in-CaseSum-clause-run : goal.evaluate_bound-returns-in-CaseSum-clause-run
+evaluate_bound-returns-in-CaseSum-clause-run t c =
+    let there : c.args.e.now.form.value ≡ c.deref.result.now = sym c.deref.ensures in
+    rw (there, c.in-CaseSum.is) c.evaluate_side.ensures.run
+
+pub evaluate_bound-returns-in-CaseSum-clause-counted : goal.evaluate_bound-returns-in-CaseSum-clause-counted
+evaluate_bound-returns-in-CaseSum-clause-counted t c =
+    c.evaluate_side.ensures.counted
+
+pub evaluate_bound-returns-in-CaseSum-clause-spent : goal.evaluate_bound-returns-in-CaseSum-clause-spent
+evaluate_bound-returns-in-CaseSum-clause-spent t c =
+    let there : c.args.e.now.form.value ≡ c.deref.result.now = sym c.deref.ensures in
+    rw (there, c.in-CaseSum.is) c.evaluate_side.ensures.spent
+
+pub evaluate_bound-returns-in-CaseStar-clause-run : goal.evaluate_bound-returns-in-CaseStar-clause-run
+evaluate_bound-returns-in-CaseStar-clause-run t c =
+    let there : c.args.e.now.form.value ≡ c.deref.result.now = sym c.deref.ensures in
+    rw (there, c.in-CaseStar.is) c.evaluate_item.ensures.run
+
+pub evaluate_bound-returns-in-CaseStar-clause-counted : goal.evaluate_bound-returns-in-CaseStar-clause-counted
+evaluate_bound-returns-in-CaseStar-clause-counted t c =
+    c.evaluate_item.ensures.counted
+
+pub evaluate_bound-returns-in-CaseStar-clause-spent : goal.evaluate_bound-returns-in-CaseStar-clause-spent
+evaluate_bound-returns-in-CaseStar-clause-spent t c =
+    let there : c.args.e.now.form.value ≡ c.deref.result.now = sym c.deref.ensures in
+    rw (there, c.in-CaseStar.is) c.evaluate_item.ensures.spent
+
+pub evaluate_bound-returns-in-Var-clause-counted : goal.evaluate_bound-returns-in-Var-clause-counted
+evaluate_bound-returns-in-Var-clause-counted t c =
+    c.nothing_run.ensures.counted c.args.left
+
+pub evaluate_bound-returns-in-Var-clause-spent : goal.evaluate_bound-returns-in-Var-clause-spent
+evaluate_bound-returns-in-Var-clause-spent t c =
+    c.nothing_run.ensures.spent c.args.left _
+
+pub evaluate_side-returns-in-Nothing-clause-counted : goal.evaluate_side-returns-in-Nothing-clause-counted
+evaluate_side-returns-in-Nothing-clause-counted t c =
+    c.nothing_run.ensures.counted c.args.left
+
+pub evaluate_side-returns-in-Nothing-clause-spent : goal.evaluate_side-returns-in-Nothing-clause-spent
+evaluate_side-returns-in-Nothing-clause-spent t c =
+    c.nothing_run.ensures.spent c.args.left _
+
+pub evaluate_item-returns-clause-counted : goal.evaluate_item-returns-clause-counted
+evaluate_item-returns-clause-counted t c =
+    c.nothing_run.ensures.counted c.args.left
+
+pub evaluate_item-returns-clause-spent : goal.evaluate_item-returns-clause-spent
+evaluate_item-returns-clause-spent t c =
+    c.nothing_run.ensures.spent c.args.left _
+
+pub evaluate_wait-returns-in-None-clause-counted : goal.evaluate_wait-returns-in-None-clause-counted
+evaluate_wait-returns-in-None-clause-counted t c =
+    c.nothing_run.ensures.counted c.args.left
+
+pub evaluate_wait-returns-in-None-clause-spent : goal.evaluate_wait-returns-in-None-clause-spent
+evaluate_wait-returns-in-None-clause-spent t c =
+    MatchResult-weaker c.nothing_run.result (c.nothing_run.ensures.spent c.args.left 0) (λ x u. u) (λ y h p at. absurd (omega (arith, h p)))
+
+pub evaluate_head-returns-in-Var-clause-run : goal.evaluate_head-returns-in-Var-clause-run
+evaluate_head-returns-in-Var-clause-run t c =
+    let there : c.args.h.now.form.value ≡ c.deref.result.now = sym c.deref.ensures in
+    rw (there, c.in-Var.is) c.name_run.ensures.run
+
+pub evaluate_head-returns-in-Var-clause-counted : goal.evaluate_head-returns-in-Var-clause-counted
+evaluate_head-returns-in-Var-clause-counted t c =
+    c.name_run.ensures.counted c.args.left
+
+pub evaluate_head-returns-in-Var-clause-spent : goal.evaluate_head-returns-in-Var-clause-spent
+evaluate_head-returns-in-Var-clause-spent t c =
+    c.name_run.ensures.spent c.args.left _
+
+pub evaluate_head-returns-in-Asc-clause-run : goal.evaluate_head-returns-in-Asc-clause-run
+evaluate_head-returns-in-Asc-clause-run t c =
+    let there : c.args.h.now.form.value ≡ c.deref.result.now = sym c.deref.ensures in
+    rw (there, c.in-Asc.is) c.evaluate_at_type.ensures.run
+
+pub evaluate_head-returns-in-Asc-clause-counted : goal.evaluate_head-returns-in-Asc-clause-counted
+evaluate_head-returns-in-Asc-clause-counted t c =
+    c.evaluate_at_type.ensures.counted
+
+pub evaluate_head-returns-in-Asc-clause-spent : goal.evaluate_head-returns-in-Asc-clause-spent
+evaluate_head-returns-in-Asc-clause-spent t c =
+    let there : c.args.h.now.form.value ≡ c.deref.result.now = sym c.deref.ensures in
+    rw (there, c.in-Asc.is) c.evaluate_at_type.ensures.spent
 
 pub evaluate_head-evaluate_call-requires : goal.evaluate_head-evaluate_call-requires
 evaluate_head-evaluate_call-requires t c =
+    let there : c.args.h.now.form.value ≡ c.deref.result.now = sym c.deref.ensures in
     let h = c.args.h.now in
-    let is : head_of h ≡ call_head h.at c.in-Call.f.0 (map hist_of c.in-Call.ms.items) (expressions_of c.in-Call.es.items) = ap (head_form_of h.at) c.in-Call.is ∙ head_form_of-call h.at c.in-Call.f c.in-Call.ms c.in-Call.es in
-    let heavy : weight_of_head (head_of h) ≡ 4 + weight_of_all (expressions_of c.deref-in-Call.result.now) = ap weight_of_head is ∙ ap (λ (l : List Exp). 4 + weight_of_all (expressions_of l)) (sym c.deref-in-Call.ensures.value) in
+    let is : head_of h ≡ call_head h.at c.in-Call.f.0 (map hist_of c.in-Call.ms.items) (expressions_of c.in-Call.es.items) = ap (head_form_of h.at) (there ∙ c.in-Call.is) ∙ head_form_of-call h.at c.in-Call.f c.in-Call.ms c.in-Call.es in
+    let heavy : weight_of_head (head_of h) ≡ 4 + weight_of_all (expressions_of c.deref-in-Call-2.result.now) = ap weight_of_head is ∙ ap (λ (l : List Exp). 4 + weight_of_all (expressions_of l)) (sym c.deref-in-Call-2.ensures.value) in
     search rules
 
 pub evaluate_head-returns-in-Call-clause-run : goal.evaluate_head-returns-in-Call-clause-run
 evaluate_head-returns-in-Call-clause-run t c =
+    let there : c.args.h.now.form.value ≡ c.deref.result.now = sym c.deref.ensures in
     let h = c.args.h.now in
-    let is : head_of h ≡ call_head h.at c.in-Call.f.0 (map hist_of c.deref.result.now) (expressions_of c.deref-in-Call.result.now) =
-    ap (head_form_of h.at) c.in-Call.is ∙ (head_form_of-call h.at c.in-Call.f c.in-Call.ms c.in-Call.es ∙ ap₂ (λ (m : List Hist) (l : List Exp). call_head h.at c.in-Call.f.0 (map hist_of m) (expressions_of l)) (sym c.deref.ensures.value) (sym c.deref-in-Call.ensures.value)) in
+    let is : head_of h ≡ call_head h.at c.in-Call.f.0 (map hist_of c.deref-in-Call.result.now) (expressions_of c.deref-in-Call-2.result.now) =
+    ap (head_form_of h.at) (there ∙ c.in-Call.is) ∙ (head_form_of-call h.at c.in-Call.f c.in-Call.ms c.in-Call.es ∙ ap₂ (λ (m : List Hist) (l : List Exp). call_head h.at c.in-Call.f.0 (map hist_of m) (expressions_of l)) (sym c.deref-in-Call.ensures.value) (sym c.deref-in-Call-2.ensures.value)) in
     rw is (IfOk-weaker c.evaluate_call.result _ _ (λ a k. k h.at) c.evaluate_call.ensures.run)
 
 pub evaluate_head-returns-in-Call-clause-spent : goal.evaluate_head-returns-in-Call-clause-spent
 evaluate_head-returns-in-Call-clause-spent t c =
+    let there : c.args.h.now.form.value ≡ c.deref.result.now = sym c.deref.ensures in
     let h = c.args.h.now in
-    let is : head_of h ≡ call_head h.at c.in-Call.f.0 (map hist_of c.deref.result.now) (expressions_of c.deref-in-Call.result.now) =
-    ap (head_form_of h.at) c.in-Call.is ∙ (head_form_of-call h.at c.in-Call.f c.in-Call.ms c.in-Call.es ∙ ap₂ (λ (m : List Hist) (l : List Exp). call_head h.at c.in-Call.f.0 (map hist_of m) (expressions_of l)) (sym c.deref.ensures.value) (sym c.deref-in-Call.ensures.value)) in
+    let is : head_of h ≡ call_head h.at c.in-Call.f.0 (map hist_of c.deref-in-Call.result.now) (expressions_of c.deref-in-Call-2.result.now) =
+    ap (head_form_of h.at) (there ∙ c.in-Call.is) ∙ (head_form_of-call h.at c.in-Call.f c.in-Call.ms c.in-Call.es ∙ ap₂ (λ (m : List Hist) (l : List Exp). call_head h.at c.in-Call.f.0 (map hist_of m) (expressions_of l)) (sym c.deref-in-Call.ensures.value) (sym c.deref-in-Call-2.ensures.value)) in
     rw is (MatchResult-weaker c.evaluate_call.result c.evaluate_call.ensures.spent (λ x u. u) (λ y k p. k p h.at))
 
 pub evaluate_body-returns-clause-run : goal.evaluate_body-returns-clause-run

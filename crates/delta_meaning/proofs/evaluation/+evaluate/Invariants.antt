@@ -20,13 +20,13 @@ abbrev pub decreases-evaluate_wait : goal.decreases-evaluate_wait
 decreases-evaluate_wait l = weight_of_calls l.place.now + (1 + weight (expression_of l.e.now))
 
 abbrev pub decreases-evaluate_with_head : goal.decreases-evaluate_with_head
-decreases-evaluate_with_head l = weight_of_calls l.place.now + (4 + (weight_of_head (head_of l.h.now) + weight_after (expression_of l.e.now)))
+decreases-evaluate_with_head l = weight_of_calls l.place.now + (6 + (weight_of_head (head_of l.h.now) + weight_after (expression_of l.e.now)))
 
 abbrev pub decreases-evaluate_after : goal.decreases-evaluate_after
-decreases-evaluate_after l = weight_of_calls l.place.now + (3 + weight_after (expression_of l.e.now))
+decreases-evaluate_after l = weight_of_calls l.place.now + (4 + weight_after (expression_of l.e.now))
 
 abbrev pub decreases-evaluate_bound : goal.decreases-evaluate_bound
-decreases-evaluate_bound l = weight_of_calls l.place.now + (2 + weight_after (expression_of l.e.now))
+decreases-evaluate_bound l = weight_of_calls l.place.now + (3 + weight_after (expression_of l.e.now))
 
 abbrev pub decreases-evaluate_two : goal.decreases-evaluate_two
 decreases-evaluate_two l = weight_of_calls l.place.now + (1 + weight (expression_of l.e.now))
@@ -42,3 +42,33 @@ decreases-evaluate_arguments l = weight_of_calls l.place.now + (2 + weight_of_al
 
 abbrev pub decreases-evaluate_body : goal.decreases-evaluate_body
 decreases-evaluate_body l = weight_of_calls l.place.now + (1)
+
+abbrev pub decreases-evaluate_star : goal.decreases-evaluate_star
+decreases-evaluate_star l = weight_of_calls l.place.now + (2 + (weight (expression_of l.a.now) + weight (expression_of l.b.now)))
+
+abbrev pub decreases-evaluate_left : goal.decreases-evaluate_left
+decreases-evaluate_left l = weight_of_calls l.place.now + (1 + weight (expression_of l.a.now))
+
+abbrev pub decreases-evaluate_right : goal.decreases-evaluate_right
+decreases-evaluate_right l = weight_of_calls l.place.now + (1 + weight (expression_of l.a.now))
+
+abbrev pub decreases-evaluate_typed : goal.decreases-evaluate_typed
+decreases-evaluate_typed l = weight_of_calls l.place.now + (2 + weight (expression_of l.a.now))
+
+abbrev pub decreases-evaluate_if : goal.decreases-evaluate_if
+decreases-evaluate_if l = weight_of_calls l.place.now + (1 + (weight (expression_of l.a.now) + weight (expression_of l.b.now)))
+
+abbrev pub decreases-evaluate_let : goal.decreases-evaluate_let
+decreases-evaluate_let l = weight_of_calls l.place.now + (5 + weight_after (expression_of l.e.now))
+
+abbrev pub decreases-evaluate_parts : goal.decreases-evaluate_parts
+decreases-evaluate_parts l = weight_of_calls l.place.now + (2 + weight (expression_of l.e.now))
+
+abbrev pub decreases-evaluate_side : goal.decreases-evaluate_side
+decreases-evaluate_side l = weight_of_calls l.place.now + (2 + (weight (expression_of l.a.now) + weight (expression_of l.b.now)))
+
+abbrev pub decreases-evaluate_item : goal.decreases-evaluate_item
+decreases-evaluate_item l = weight_of_calls l.place.now + (2 + (weight (expression_of l.a.now) + weight (expression_of l.b.now)))
+
+abbrev pub decreases-evaluate_one : goal.decreases-evaluate_one
+decreases-evaluate_one l = weight_of_calls l.place.now + (1 + weight (expression_of l.e.now))

@@ -13,8 +13,8 @@ use Rattle.delta_print.proofs.expression_rows.+expressions.Goals as goal
 pub put_form-returns-in_ok-put_expressions-in-Call : goal.put_form-returns-in_ok-put_expressions-in-Call
 put_form-returns-in_ok-put_expressions-in-Call t c =
     let old = c.args.row.now.items in
-    let front : c.put_callee.new.row.items ≡ old ++ named c.in-Call.f.0 ∷ (hists_row (map hist_of c.in-Call.hists.items) ++ Fixed Open ∷ []) = rw c.deref-in-Call.ensures.value at c.in_ok-put_callee-in-Call.ensures in
-    let inside : c.put_expressions.new.row.items ≡ c.put_callee.new.row.items ++ expressions_row (expressions_of c.in-Call.arguments.items) = rw c.deref-in-Call-2.ensures.value at c.in_ok-put_expressions-in-Call.ensures in
+    let front : c.put_callee.new.row.items ≡ old ++ named c.in-Call.f.0 ∷ (hists_row (map hist_of c.in-Call.hists.items) ++ Fixed Open ∷ []) = rw c.deref.ensures.value at c.in_ok-put_callee-in-Call.ensures in
+    let inside : c.put_expressions.new.row.items ≡ c.put_callee.new.row.items ++ expressions_row (expressions_of c.in-Call.arguments.items) = rw c.deref-in-Call.ensures.value at c.in_ok-put_expressions-in-Call.ensures in
     let P : Type 0 = c.put_fixed-in-Call.new.row.items ≡ c.put_expressions.new.row.items ++ Fixed Close ∷ [] in
     let Q : Type 0 = (at : ℕ) → c.put_fixed-in-Call.new.row.items ≡ old ++ expression_row (expression_form_of at c.args.form.now) in
     let tree : (at : ℕ) → expression_form_of at c.args.form.now ≡ call_at at c.in-Call.f.0 (map hist_of c.in-Call.hists.items) (expressions_of c.in-Call.arguments.items) =

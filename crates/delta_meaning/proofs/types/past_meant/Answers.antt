@@ -1,0 +1,8 @@
+-- One parameter more.
+use Rattle.std.proofs.Common.{arith}
+use Rattle.std.proofs.lemmas.Grind.{common_steps}
+use Rattle.delta_meaning.proofs.types.past_meant.Goals as goal
+
+pub loop-param-preserved : goal.loop-param-preserved
+loop-param-preserved c =
+    grind (arith, common_steps)
