@@ -48,7 +48,7 @@ use Rattle.state_steps.proofs.Steps.{by_test, left_emp, right_emp, sequence_call
 use Rattle.state_steps.proofs.PartSteps.{cat_order, par_der}
 use Rattle.state_steps.proofs.TermSteps.{some_type}
 use Rattle.state_steps.proofs.HeldSteps.{inputs_held}
-use Rattle.state_steps.proofs.StateSteps.{IsReady, state_derives, state_whole, state_nothing, arguments_agree}
+use Rattle.state_steps.proofs.StateSteps.{IsReady, AreReady, ready_left, ready_right, ready_first, code_is_deep, ready_bound, ready_under, ready_arguments, ready_body, ready_argument, ready_others, state_derives, state_whole, state_nothing, arguments_agree}
 use Rattle.state_bounds.specs.Bounds.{Bound, greater, ◌⊑◌}
 use Rattle.state_bounds.specs.TermBounds.{case_room, wait_room, body_bound}
 use Rattle.state_bounds.specs.StateBounds.{code_bound, state_bound, argument_bounds}
@@ -105,12 +105,12 @@ module _ (funs : List CoreBody) (all_typed : All (IsTypedBody funs) funs) (all_a
     step_at_most (var_state x) c T r g d s agrees le e k = omega arith
     step_at_most (par_state a b) c T (par u v) g d s agrees le e k =
         both_at_most _ _ _ _
-        (step_at_most a c T u (record { extends = g.extends; typed = g.typed.0; settled = and_first (is_settled a u) (is_settled b v) g.settled; deep = all_left (HasDepth n) (laters_of a) (laters_of b) g.deep }) d s agrees (omega (arith, le)) e (gains_left (free_in_state a) (free_in_state b) _ e.types c.order e.order k))
-        (step_at_most b c T v (record { extends = g.extends; typed = g.typed.1; settled = and_second (is_settled a u) (is_settled b v) g.settled; deep = all_right (HasDepth n) (laters_of a) (laters_of b) g.deep }) d s agrees (omega (arith, le)) e (gains_right (free_in_state a) (free_in_state b) _ e.types c.order e.order k))
+        (step_at_most a c T u (ready_left g) d s agrees (omega (arith, le)) e (gains_left (free_in_state a) (free_in_state b) _ e.types c.order e.order k))
+        (step_at_most b c T v (ready_right g) d s agrees (omega (arith, le)) e (gains_right (free_in_state a) (free_in_state b) _ e.types c.order e.order k))
     step_at_most (par_state a b) c T _ g d s agrees le e k = absurd g.typed
     step_at_most (cat_state a l) c T (cat u v) g d s agrees le e k =
-        let ga : IsReady funs n c T u a = record { extends = g.extends; typed = g.typed.0; settled = and_first (is_settled a u) (not (null_of u)) g.settled; deep = all_left (HasDepth n) (laters_of a) (l ∷ []) g.deep } in
-        let deep : n ≤ l.depth = All-head (HasDepth n) l [] (all_right (HasDepth n) (laters_of a) (l ∷ []) g.deep) in
+        let ga : IsReady funs n c T u a = ready_first g in
+        let deep : n ≤ l.depth = code_is_deep g in
         let first = run_state F a T u d in
         let second = run_later F l T v d in
         let m = cat_calls_first first second n le in
@@ -128,9 +128,9 @@ module _ (funs : List CoreBody) (all_typed : All (IsTypedBody funs) funs) (all_a
         (whole_or_empty T d (free_in_state a) (free_names l.term) (λ x y mx my. agrees x y (and_second (is_some (c.types x) && is_some (c.types y)) (c.order x y) (g.typed.2 x y mx my))))) kl)) own))
     step_at_most (cat_state a l) c T _ g d s agrees le e k = absurd g.typed
     step_at_most (let_state x u a b) c T r g d s agrees le e k =
-        let ga : IsReady funs n c T u a = record { extends = g.extends; typed = g.typed.0; settled = and_first (is_settled a u) (is_settled b r) g.settled; deep = all_left (HasDepth n) (laters_of a) (laters_of b) g.deep } in
+        let ga : IsReady funs n c T u a = ready_bound g in
         let o = place_let x (free_in_state a) true c.order in
-        let gb : IsReady funs n (with_name x u o c) (put x u T) r b = record { extends = extends_name c T no_pasts x u u o g.extends refl; typed = g.typed.1; settled = and_second (is_settled a u) (is_settled b r) g.settled; deep = all_right (HasDepth n) (laters_of a) (laters_of b) g.deep } in
+        let gb : IsReady funs n (with_name x u o c) (put x u T) r b = ready_under g in
         let p = (run_state F a T u d).out in
         let free = free_in_state (rest_of F a T u d) in
         let m : (run_state F a T u d).calls ≤ n = omega (arith, le) in
@@ -256,20 +256,19 @@ module _ (funs : List CoreBody) (all_typed : All (IsTypedBody funs) funs) (all_a
     step_at_most (frame_state args b) c T r g d s agrees le e k =
         let U = types_of_arguments args in
         let p = value_at eps_emp (argument_names args) (run_arguments F args T d).outs in
-        let deep = all_left (HasDepth n) (laters_in args) (laters_of b) g.deep in
-        let settled = and_first (are_settled args) (is_settled b r) g.settled in
+        let ready = ready_arguments g in
         let m : (run_arguments F args T d).calls ≤ n = omega (arith, le) in
         let grow = arguments_run_grow funs all_typed args c T g.extends g.typed.0 d d s (continues_same T d s) in
-        let gb : IsReady funs n (context_of_arguments c args) U r b = record { extends = arguments_extend c args; typed = g.typed.1; settled = and_second (are_settled args) (is_settled b r) g.settled; deep = all_right (HasDepth n) (laters_in args) (laters_of b) g.deep } in
-        both_at_most _ _ _ _ (steps_at_most args c T g.extends g.typed.0 settled deep d s agrees m e k)
-        (step_at_most b (context_of_arguments c args) U r gb p grow.streams (arguments_agree funs all_typed n args c T g.extends g.typed.0 settled deep d s agrees m) (omega (arith, le)) (context_of_arguments e (rest_of_arguments F args T d))
+        let gb : IsReady funs n (context_of_arguments c args) U r b = ready_body g in
+        both_at_most _ _ _ _ (steps_at_most args c T ready d s agrees m e k)
+        (step_at_most b (context_of_arguments c args) U r gb p grow.streams (arguments_agree funs all_typed n args c T ready d s agrees m) (omega (arith, le)) (context_of_arguments e (rest_of_arguments F args T d))
         (frame_leaves funs args b c T r g.typed.1 d e k))
 
     -- and what is left of arguments no more than the arguments can
-    pub steps_at_most : (args : ArgumentTrees) (c : Context) (T : NameTypes) → Extends c T no_pasts → HaveArgumentTypes funs I c args → are_settled args ≡ true → All (HasDepth n) (laters_in args) → (d : Environment) → Streams T d → Agrees T c.order d
+    pub steps_at_most : (args : ArgumentTrees) (c : Context) (T : NameTypes) → AreReady funs n c T args → (d : Environment) → Streams T d → Agrees T c.order d
         → (run_arguments F args T d).calls ≤ n → (e : Context) → Leaves (free_in_arguments args) T c.order d e → argument_bounds funs numbers (rest_of_arguments F args T d) e ⊑ argument_bounds funs numbers args c
-    steps_at_most no_arguments c T w h i deep d s agrees le e k = omega arith
-    steps_at_most (argument_before x t a args) c T w h i deep d s agrees le e k =
+    steps_at_most no_arguments c T g d s agrees le e k = omega arith
+    steps_at_most (argument_before x t a args) c T g d s agrees le e k =
         both_at_most _ _ _ _
-        (step_at_most a c T t (record { extends = w; typed = h.0; settled = and_first (is_settled a t) (are_settled args) i; deep = all_left (HasDepth n) (laters_of a) (laters_in args) deep }) d s agrees (omega (arith, le)) e (gains_left (free_in_state a) (free_in_arguments args) _ e.types c.order e.order k))
-        (steps_at_most args c T w h.1 (and_second (is_settled a t) (are_settled args) i) (all_right (HasDepth n) (laters_of a) (laters_in args) deep) d s agrees (omega (arith, le)) e (gains_right (free_in_state a) (free_in_arguments args) _ e.types c.order e.order k))
+        (step_at_most a c T t (ready_argument g) d s agrees (omega (arith, le)) e (gains_left (free_in_state a) (free_in_arguments args) _ e.types c.order e.order k))
+        (steps_at_most args c T (ready_others g) d s agrees (omega (arith, le)) e (gains_right (free_in_state a) (free_in_arguments args) _ e.types c.order e.order k))
