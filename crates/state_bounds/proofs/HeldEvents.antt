@@ -85,34 +85,34 @@ module _ (c : Context) (free : List ℕ) (held : List HeldName) (h : IsHeld c fr
 module _ (funs : List CoreBody) (counts : ℕ → Bool) (numbers : ℕ → Bound) where
   mutual
     -- a settled state holds no more events than its bound says,
-    pub settled_holds : (s : StateTree) (c : Context) (r : StreamType) → HasStateType funs counts c s r → is_settled s r ≡ true → counted (events_held (without_marks s)) ⊑ state_bound funs numbers s c
-    settled_holds (sink t) c r h i = omega arith
-    settled_holds (var_state x) c r h i = omega arith
-    settled_holds (par_state a b) c (par s t) h i =
-        counted_both (events_held (without_marks a)) (events_held (without_marks b)) _ _ (settled_holds a c s h.0 (and_first (is_settled a s) (is_settled b t) i)) (settled_holds b c t h.1 (and_second (is_settled a s) (is_settled b t) i))
-    settled_holds (par_state a b) c _ h i = absurd h
-    settled_holds (cat_state a l) c (cat s t) h i = at_most_left (counted (events_held (without_marks a))) (state_bound funs numbers a c) _ (settled_holds a c s h.0 (and_first (is_settled a s) (not (null_of s)) i))
-    settled_holds (cat_state a l) c _ h i = absurd h
-    settled_holds (let_state x s a b) c r h i =
-        counted_both (events_held (without_marks a)) (events_held (without_marks b)) _ _ (settled_holds a c s h.0 (and_first (is_settled a s) (is_settled b r) i))
-        (settled_holds b (with_name x s (place_let x (free_in_state a) true c.order) c) r h.1 (and_second (is_settled a s) (is_settled b r) i))
-    settled_holds (let_par_state x y z a) c r h i = settled_holds a (with_parts x (par_left (type_at c z)) y (par_right (type_at c z)) z c) r h.2 i
-    settled_holds (let_cat_state x y z a) c r h i = settled_holds a (with_fact x y (with_parts x (cat_first (type_at c z)) y (cat_second (type_at c z)) z c)) r h.2 i
-    settled_holds (sum_state z t held x l y m) c r h i =
+    pub settled_counted : (s : StateTree) (c : Context) (r : StreamType) → HasStateType funs counts c s r → is_settled s r ≡ true → counted (events_held (without_marks s)) ⊑ state_bound funs numbers s c
+    settled_counted (sink t) c r h i = omega arith
+    settled_counted (var_state x) c r h i = omega arith
+    settled_counted (par_state a b) c (par s t) h i =
+        counted_both (events_held (without_marks a)) (events_held (without_marks b)) _ _ (settled_counted a c s h.0 (and_first (is_settled a s) (is_settled b t) i)) (settled_counted b c t h.1 (and_second (is_settled a s) (is_settled b t) i))
+    settled_counted (par_state a b) c _ h i = absurd h
+    settled_counted (cat_state a l) c (cat s t) h i = at_most_left (counted (events_held (without_marks a))) (state_bound funs numbers a c) _ (settled_counted a c s h.0 (and_first (is_settled a s) (not (null_of s)) i))
+    settled_counted (cat_state a l) c _ h i = absurd h
+    settled_counted (let_state x s a b) c r h i =
+        counted_both (events_held (without_marks a)) (events_held (without_marks b)) _ _ (settled_counted a c s h.0 (and_first (is_settled a s) (is_settled b r) i))
+        (settled_counted b (with_name x s (place_let x (free_in_state a) true c.order) c) r h.1 (and_second (is_settled a s) (is_settled b r) i))
+    settled_counted (let_par_state x y z a) c r h i = settled_counted a (with_parts x (par_left (type_at c z)) y (par_right (type_at c z)) z c) r h.2 i
+    settled_counted (let_cat_state x y z a) c r h i = settled_counted a (with_fact x y (with_parts x (cat_first (type_at c z)) y (cat_second (type_at c z)) z c)) r h.2 i
+    settled_counted (sum_state z t held x l y m) c r h i =
         let typed = mark_is held z _ h.2.subject_typed in
         let none = sum_untagged _ _ (prefixes_held held z) (subst (λ s. IsPrefix s (prefixes_held held z)) typed (held_at (λ x t p. IsPrefix t p) held h.1.are_prefixes z (h.1.are_free z ∙ holds-head z _))) (is_not (has_tag (prefixes_held held z)) i) in
         at_most_left (counted (events_in (plain_held held))) (case_room (types_held held) (facts_held held c.order) z (free_in_sum z x l y m)) _ (case_events c (free_in_sum z x l y m) held h.1 z (ap is_maximal none) (ap (λ p. length (canon p)) none))
-    settled_holds (star_state z t held l y ys m) c r h i =
+    settled_counted (star_state z t held l y ys m) c r h i =
         let typed = mark_is held z _ h.2.subject_typed in
         let none = star_untagged _ (prefixes_held held z) (subst (λ s. IsPrefix s (prefixes_held held z)) typed (held_at (λ x t p. IsPrefix t p) held h.1.are_prefixes z (h.1.are_free z ∙ holds-head z _))) (is_not (has_tag (prefixes_held held z)) i) in
         at_most_left (counted (events_in (plain_held held))) (case_room (types_held held) (facts_held held c.order) z (free_in_star z l y ys m)) _ (case_events c (free_in_star z l y ys m) held h.1 z (ap is_maximal none) (ap (λ p. length (canon p)) none))
-    settled_holds (wait_state x t held l) c r h i =
+    settled_counted (wait_state x t held l) c r h i =
         at_most_left (counted (events_in (plain_held held))) (wait_room (types_held held) (facts_held held c.order) x (free_in_wait x l)) _ (waiting_events c (free_in_wait x l) held h.1 x (is_not (is_maximal (prefixes_held held x)) i))
-    settled_holds (frame_state args s) c r h i =
-        counted_both (events_held_by (arguments_without_marks args)) (events_held (without_marks s)) _ _ (settled_hold args c h.0 (and_first (are_settled args) (is_settled s r) i)) (settled_holds s (context_of_arguments c args) r h.1 (and_second (are_settled args) (is_settled s r) i))
+    settled_counted (frame_state args s) c r h i =
+        counted_both (events_held_by (arguments_without_marks args)) (events_held (without_marks s)) _ _ (arguments_counted args c h.0 (and_first (are_settled args) (is_settled s r) i)) (settled_counted s (context_of_arguments c args) r h.1 (and_second (are_settled args) (is_settled s r) i))
 
     -- and so do the arguments of a frame
-    pub settled_hold : (args : ArgumentTrees) (c : Context) → HaveArgumentTypes funs counts c args → are_settled args ≡ true → counted (events_held_by (arguments_without_marks args)) ⊑ argument_bounds funs numbers args c
-    settled_hold no_arguments c h i = omega arith
-    settled_hold (argument_before x t s args) c h i =
-        counted_both (events_held (without_marks s)) (events_held_by (arguments_without_marks args)) _ _ (settled_holds s c t h.0 (and_first (is_settled s t) (are_settled args) i)) (settled_hold args c h.1 (and_second (is_settled s t) (are_settled args) i))
+    pub arguments_counted : (args : ArgumentTrees) (c : Context) → HaveArgumentTypes funs counts c args → are_settled args ≡ true → counted (events_held_by (arguments_without_marks args)) ⊑ argument_bounds funs numbers args c
+    arguments_counted no_arguments c h i = omega arith
+    arguments_counted (argument_before x t s args) c h i =
+        counted_both (events_held (without_marks s)) (events_held_by (arguments_without_marks args)) _ _ (settled_counted s c t h.0 (and_first (is_settled s t) (are_settled args) i)) (arguments_counted args c h.1 (and_second (is_settled s t) (are_settled args) i))

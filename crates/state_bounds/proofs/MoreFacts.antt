@@ -1,5 +1,4 @@
--- The same types of the names of a list and no fewer facts between them: what it is to see less come, and that
--- each way of placing a name keeps it.
+-- The same types of the names of a list, and no fewer facts between them: each way of placing a name keeps this.
 use Rattle.std.proofs.Common.{◌≡◌, ℕ, true, List, ◌∷◌, ◌++◌}
 use Rattle.bunch.specs.Facts.{Facts, place_like, put_before}
 use Rattle.bunch.specs.Names.{put, holds}
@@ -9,8 +8,8 @@ use Rattle.core_term.proofs.Without.{put_on}
 use Rattle.state_steps.proofs.FactsWithin.{WithinOn, within_fewer, within_on_like, within_on_before}
 use Rattle.state_steps.proofs.NamesAmong.{among_left, among_right, among_tail, among_under}
 
--- of the names of the list both have the same types, and the second order has each fact of the first. A type
--- is that of a name which is there, or that of a context, which may have none
+-- of the names of the list both have the same types, and the second order has each fact of the first. The types
+-- are those of all names, or those that a context has of some
 pub record Gains {A : Type 0} (xs : List ℕ) (T U : ℕ → A) (O Q : Facts) : Type 0 where
   pub types : (x : ℕ) → holds x xs ≡ true → T x ≡ U x
   pub order : WithinOn xs O Q

@@ -40,7 +40,7 @@ use Rattle.state_bounds.proofs.RestsOfTerms.{rest_at_most}
 use Rattle.state_bounds.proofs.StateStreams.{state_streams}
 use Rattle.state_bounds.proofs.RestsOfStates.{step_at_most}
 use Rattle.state_bounds.proofs.WordSizes.{below_limit}
-use Rattle.state_bounds.proofs.HeldEvents.{settled_holds as settled_counted}
+use Rattle.state_bounds.proofs.HeldEvents.{settled_counted}
 
 module _ (c : CoreProgram) (runnable : IsRunnable c) (numbers : ℕ → Bound) (enough : AreEnough c numbers) where
   -- the parameters of main, and what an input leaves of their types

@@ -1,9 +1,9 @@
 -- What is left of a state after a step holds no more than the state can.
-use Rattle.std.proofs.Common.{◌≡◌, ◌∙◌, ◌≤◌, ⊎_elim, ℕ, Bool, true, true≢false, not, ◌&&◌, ◌||◌, List, [], ◌∷◌, if◌then◌else◌, ap, refl, subst, sym, arith}
+use Rattle.std.proofs.Common.{◌≡◌, ◌∙◌, ◌≤◌, ⊎_elim, ℕ, Bool, true, true≢false, ◌&&◌, ◌||◌, List, [], ◌∷◌, if◌then◌else◌, ap, refl, subst, sym, arith}
 use Rattle.std.specs.Prelude.{Some, is_some, unwrap_or}
 use Rattle.std.specs.List.{All}
 use Rattle.std.proofs.lemmas.List.Elements.{All-head, All-tail}
-use Rattle.stream_type.specs.StreamType.{StreamType, eps, cat, par, sum, star, null_of}
+use Rattle.stream_type.specs.StreamType.{StreamType, eps, cat, par, sum, star}
 use Rattle.stream_prefix.specs.StreamPrefix.{StreamPrefix, eps_emp, emp, is_maximal, der}
 use Rattle.stream_prefix.proofs.Derivations.{Derives, derives, is_prefix}
 use Rattle.stream_prefix.proofs.Joins.{emp_is_prefix, der-join}
@@ -30,15 +30,14 @@ use Rattle.core_term.proofs.Monotone.{pasts_put}
 use Rattle.core_term.proofs.TypedTerms.{Typed, Extends, type_in, extends_name, derive}
 use Rattle.core_term.proofs.TypedRuns.{Any, AreStreams, free_are_streams}
 use Rattle.core_term.proofs.WholeRuns.{cat_calls_first}
-use Rattle.delta_state.specs.StateTree.{HeldName, LaterTree, StateTree, ArgumentTrees, sink, var_state, par_state, cat_state, let_state, let_par_state, let_cat_state, sum_state, star_state, wait_state, frame_state, no_arguments, argument_before, held_names, argument_names, free_in_state, free_in_arguments, free_in_sum, free_in_star, free_in_wait, laters_of, laters_in}
+use Rattle.delta_state.specs.StateTree.{HeldName, LaterTree, StateTree, ArgumentTrees, sink, var_state, par_state, cat_state, let_state, let_par_state, let_cat_state, sum_state, star_state, wait_state, frame_state, no_arguments, argument_before, held_names, argument_names, free_in_state, free_in_arguments, free_in_sum, free_in_star, free_in_wait}
 use Rattle.delta_state.specs.StateMeaning.{past_in, knowing, types_held, prefixes_held, with_held, types_of_arguments, run_later, run_state, run_arguments}
 use Rattle.delta_state.specs.Apart.{BindsApart}
-use Rattle.delta_state.specs.Settled.{is_settled, are_settled}
-use Rattle.delta_state.specs.StateTyping.{HaveArgumentTypes, IsHeld, is_empty, facts_held, context_held, context_of_arguments, with_known, with_past, no_pasts}
+use Rattle.delta_state.specs.StateTyping.{IsHeld, is_empty, facts_held, context_held, context_of_arguments, with_known, with_past, no_pasts}
 use Rattle.delta_state.specs.Rest.{held_more, rest_of, rest_of_arguments, rest_later}
-use Rattle.delta_state.proofs.HeldNames.{held_left, held_prefix, arguments_extend}
+use Rattle.delta_state.proofs.HeldNames.{held_left, held_prefix}
 use Rattle.delta_state.proofs.GrowingStates.{known_types, extends_known, extends_past, known_values, held_extend, arguments_run_grow}
-use Rattle.delta_state.proofs.WholeStates.{HasDepth, all_left, all_right}
+use Rattle.delta_state.proofs.WholeStates.{HasDepth}
 use Rattle.state_steps.proofs.FactsWithin.{within_itself, within_on_let}
 use Rattle.state_steps.proofs.KnownNames.{past_types-same, past_order-same}
 use Rattle.state_steps.proofs.NoNewNames.{free_in_step}
