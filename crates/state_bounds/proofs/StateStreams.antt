@@ -17,7 +17,7 @@ use Rattle.delta_state.specs.StateTyping.{HasStateType, HaveArgumentTypes, IsHel
 use Rattle.delta_state.proofs.HeldNames.{held_at}
 use Rattle.state_steps.proofs.KnownNames.{past_types-same}
 
--- of no name there is nothing to see to;
+-- in the empty list each name is a stream name;
 streams_none : (c : Context) → AreStreams c []
 streams_none c = record { at = λ y m. absurd (true≢false (sym m)) }
 
