@@ -36,14 +36,10 @@ abbrev pub known_types : List Known → PastTypes
 known_types [] = no_pasts
 known_types (e ∷ es) = put e.name (Some (past e.type)) (known_types es)
 
--- the types of a context's names are still known once a name is historical
+-- the types of a context's names are still known once a name has a value
 pub extends_known : (c : Context) (T : NameTypes) (H : PastTypes) (x : ℕ) (t : StreamType) → Extends c T H → Extends (with_known x t c) T (put x (Some (past t)) H)
-extends_known c T H x t h = record { stream = λ y u k. stream y u (eqb y x) k; historical = λ y u k. historical y u (eqb y x) k }
+extends_known c T H x t h = record { stream = h.stream; historical = λ y u k. historical y u (eqb y x) k }
   where
-    stream : (y : ℕ) (u : StreamType) (b : Bool) → (if b then None else c.types y) ≡ Some u → T y ≡ u
-    stream y u true k = absurd (cc k)
-    stream y u false k = h.stream y u k
-
     historical : (y : ℕ) (u : HistType) (b : Bool) → (if b then Some (past t) else c.past y) ≡ Some u → (if b then Some (past t) else H y) ≡ Some u
     historical y u true k = k
     historical y u false k = h.historical y u k

@@ -74,7 +74,7 @@ frame_nothing {a = a} {b = b} x y =
 
 module _ (funs : List CoreBody) (counts : ℕ → Bool) where
   mutual
-    settled_nothing : (s : StateTree) (c : Context) (T : NameTypes) (H : PastTypes) (r : StreamType) → Extends c T H → HasStateType funs counts c s r → is_settled s r ≡ true → (d : Environment) → EmptyOn (free_in_state s) T d
+    pub settled_nothing : (s : StateTree) (c : Context) (T : NameTypes) (H : PastTypes) (r : StreamType) → Extends c T H → HasStateType funs counts c s r → is_settled s r ≡ true → (d : Environment) → EmptyOn (free_in_state s) T d
         → GivesNothing r (run_state (fun_at funs) s T r d)
     settled_nothing (sink t) c T H r e k i d h = record { out = ap emp k.0; calls = refl; level = refl }
     settled_nothing (var_state x) c T H r e k i d h = record { out = h.at x (holds-head x []) ∙ ap emp (e.stream x r k); calls = refl; level = refl }

@@ -30,9 +30,9 @@ use Rattle.delta_state.specs.Apart.{IsApart, BindsApart}
 abbrev pub no_pasts : ℕ → Option HistType
 no_pasts x = None
 
--- x is historical from here on, with the values of whole streams of type t
+-- x has the values of whole streams of type t too; whatever stream has its name keeps it
 abbrev pub with_known : ℕ → StreamType → Context → Context
-with_known x t c = record { types = put x None c.types; order = c.order; past = put x (Some (past t)) c.past }
+with_known x t c = record { types = c.types; order = c.order; past = put x (Some (past t)) c.past }
 
 -- so are these names
 abbrev pub with_past : List Known → Context → Context
