@@ -6,3 +6,4 @@ pub mod Reached
 pub mod Steps
 pub mod Weights
 pub mod Heft
+pub mod Levels

@@ -105,12 +105,7 @@ fn add_over(alloc: Global, b: &Bunch, p: &Prefix, found: &mut Vec<Entry>) -> Res
 
 /// Each name of a bunch with what the prefix p leaves of its type, and its part of what comes after p:
 /// `later_entries` in `main_steps`. What can't come counts as want of memory.
-pub fn split_after(
-    alloc: Global,
-    b: &Bunch,
-    p: &Prefix,
-    d: &Prefix,
-) -> Result<Vec<Entry>, Memory>
+pub fn split_after(alloc: Global, b: &Bunch, p: &Prefix, d: &Prefix) -> Result<Vec<Entry>, Memory>
     ensures { IfOk result (λ v. map entry_in v.items ≡ later_entries (tree_of b.now) (prefix_of p.now) (prefix_of d.now)) }
 {
     let mut found = Vec::new(alloc);
