@@ -55,7 +55,7 @@ module _ (c : Context) (T : NameTypes) (H : PastTypes) (extends : Extends c T H)
       ap (join (prefixes_held held z)) (nothing ∙ ap emp held_left) ∙ join-emp-der (derives (types_held held z) (prefixes_held held z) held_prefix)
 
 -- a name that isn't held has type `eps` and nothing
-unheld : (held : List HeldName) (z : ℕ) → holds z (held_names held) ≡ false → (types_held held z ≡ eps) × (prefixes_held held z ≡ eps_emp)
+pub unheld : (held : List HeldName) (z : ℕ) → holds z (held_names held) ≡ false → (types_held held z ≡ eps) × (prefixes_held held z ≡ eps_emp)
 unheld [] z m = (refl, refl)
 unheld (h ∷ held) z m = by_name (eqb z h.name) m (unheld held z)
   where
@@ -71,10 +71,11 @@ more_after {s = s} {p = p} h k g =
 
 module _ (c : Context) (T : NameTypes) (H : PastTypes) (extends : Extends c T H) (free : List ℕ) (held : List HeldName) (is_held : IsHeld c free held) where
   -- the type that is left of a held name
-  left : (z : ℕ) → holds z (held_names held) ≡ true → T z ≡ der (prefixes_held held z) (types_held held z)
-  left z m = extends.stream z _ (held_at (λ x t p. c.types x ≡ Some (der p t)) held is_held.are_left z m)
+  pub left_of_held : (z : ℕ) → holds z (held_names held) ≡ true → T z ≡ der (prefixes_held held z) (types_held held z)
+  left_of_held z m = extends.stream z _ (held_at (λ x t p. c.types x ≡ Some (der p t)) held is_held.are_left z m)
 
-  held_derives : (z : ℕ) → holds z (held_names held) ≡ true → Derives (types_held held z) (prefixes_held held z)
+  -- what is held of a name is a prefix of its type from before
+  pub held_derives : (z : ℕ) → holds z (held_names held) ≡ true → Derives (types_held held z) (prefixes_held held z)
   held_derives z m = derives (types_held held z) (prefixes_held held z) (held_at (λ x t p. IsPrefix t p) held is_held.are_prefixes z m)
 
   -- what was held and what comes are prefixes of the types from before
@@ -82,7 +83,7 @@ module _ (c : Context) (T : NameTypes) (H : PastTypes) (extends : Extends c T H)
   held_streams d h = record { at = λ z. by_held z (holds z (held_names held)) refl }
     where
       by_held : (z : ℕ) (b : Bool) → holds z (held_names held) ≡ b → Derives (types_held held z) (join (prefixes_held held z) (d z))
-      by_held z true m = join_is_prefix (held_derives z m) (subst (λ t. Derives t (d z)) (left z m) (h.at z))
+      by_held z true m = join_is_prefix (held_derives z m) (subst (λ t. Derives t (d z)) (left_of_held z m) (h.at z))
       by_held z false m =
           let no = unheld held z m in
           subst (λ t. Derives t (join (prefixes_held held z) (d z))) (sym no.0) (subst (λ p. Derives eps (join p (d z))) (sym no.1) eps_has_emp)
@@ -92,7 +93,7 @@ module _ (c : Context) (T : NameTypes) (H : PastTypes) (extends : Extends c T H)
   held_continues d e h g = record { at = λ z. by_held z (holds z (held_names held)) refl }
     where
       by_held : (z : ℕ) (b : Bool) → holds z (held_names held) ≡ b → IsPart (types_held held z) (join (prefixes_held held z) (d z)) (join (prefixes_held held z) (e z))
-      by_held z true m = more_after (held_derives z m) (subst (λ t. Derives t (d z)) (left z m) (h.at z)) (subst (λ t. IsPart t (d z) (e z)) (left z m) (g.at z))
+      by_held z true m = more_after (held_derives z m) (subst (λ t. Derives t (d z)) (left_of_held z m) (h.at z)) (subst (λ t. IsPart t (d z) (e z)) (left_of_held z m) (g.at z))
       by_held z false m =
           let no = unheld held z m in
           subst (λ t. IsPart t (join (prefixes_held held z) (d z)) (join (prefixes_held held z) (e z))) (sym no.0)
@@ -101,7 +102,7 @@ module _ (c : Context) (T : NameTypes) (H : PastTypes) (extends : Extends c T H)
   -- a free name on which all comes is whole, with what was held of it
   pub held_whole : (d : Environment) → Streams T d → (z : ℕ) → holds z free ≡ true → IsTrue (is_maximal (d z)) → IsTrue (is_maximal (with_held held d z))
   held_whole d h z used m =
-      let there = is_held.are_free z ∙ used in is_maximal-join (held_derives z there) (subst (λ t. Derives t (d z)) (left z there) (h.at z)) ∙ m
+      let there = is_held.are_free z ∙ used in is_maximal-join (held_derives z there) (subst (λ t. Derives t (d z)) (left_of_held z there) (h.at z)) ∙ m
 
 -- the context of a called body has the types that its environment takes
 parameter_type : (args : ArgumentTrees) (x : ℕ) (s : StreamType) → marks_of_arguments args x ≡ Some s → types_of_arguments args x ≡ s

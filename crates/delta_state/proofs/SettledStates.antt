@@ -23,6 +23,7 @@ use Rattle.delta_state.specs.Settled.{has_tag, is_settled, are_settled}
 use Rattle.delta_state.proofs.HeldNames.{mark_is, held_prefix, nothing_more, arguments_extend}
 use Rattle.delta_state.specs.Laws.{GivesNothing, SettledGivesNothing}
 
+-- what isn't true is false
 pub is_not : (b : Bool) → not b ≡ true → b ≡ false
 is_not false h = refl
 is_not true h = absurd (true≢false (sym h))
@@ -74,6 +75,7 @@ frame_nothing {a = a} {b = b} x y =
 
 module _ (funs : List CoreBody) (counts : ℕ → Bool) where
   mutual
+    -- a settled typed state gives nothing, over types T and H of all names that its context has
     pub settled_nothing : (s : StateTree) (c : Context) (T : NameTypes) (H : PastTypes) (r : StreamType) → Extends c T H → HasStateType funs counts c s r → is_settled s r ≡ true → (d : Environment) → EmptyOn (free_in_state s) T d
         → GivesNothing r (run_state (fun_at funs) s T r d)
     settled_nothing (sink t) c T H r e k i d h = record { out = ap emp k.0; calls = refl; level = refl }

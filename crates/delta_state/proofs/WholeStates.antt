@@ -32,11 +32,12 @@ use Rattle.delta_state.specs.Laws.{StateIsWhole}
 use Rattle.delta_state.proofs.HeldNames.{held_streams, held_whole, arguments_extend}
 use Rattle.delta_state.proofs.GrowingStates.{known_types, extends_known, extends_past, known_values, held_extend, state_run_grows, arguments_run_grow, extends_free, streams_of}
 
-all_left : {A : Type 0} (P : A → Type 0) (xs ys : List A) → All P (xs ++ ys) → All P xs
+-- what is true of each of two lists in a row is true of each of the first, and of the second
+pub all_left : {A : Type 0} (P : A → Type 0) (xs ys : List A) → All P (xs ++ ys) → All P xs
 all_left P [] ys h = All-nil P
 all_left P (x ∷ xs) ys h = All-cons P x xs (All-head P x (xs ++ ys) h) (all_left P xs ys (All-tail P x (xs ++ ys) h))
 
-all_right : {A : Type 0} (P : A → Type 0) (xs ys : List A) → All P (xs ++ ys) → All P ys
+pub all_right : {A : Type 0} (P : A → Type 0) (xs ys : List A) → All P (xs ++ ys) → All P ys
 all_right P [] ys h = h
 all_right P (x ∷ xs) ys h = all_right P xs ys (All-tail P x (xs ++ ys) h)
 

@@ -1,7 +1,6 @@
 -- What a machine is to its contracts, and what it is for it to stand for its program after a word.
 use Rattle.std.specs.Prelude.{ℕ, ◌+◌, ◌<◌, ◌≤◌, ◌≡◌, ◌^◌, List, [], ◌∷◌, ◌++◌, length}
-use Rattle.stream_type.specs.StreamType.{StreamType}
-use Rattle.stream_prefix.specs.StreamPrefix.{StreamPrefix, emp}
+use Rattle.stream_prefix.specs.StreamPrefix.{StreamPrefix}
 use Rattle.stream_prefix.specs.Increment.{increment}
 use Rattle.event_word.specs.StreamEvent.{StreamEvent}
 use Rattle.event_word.specs.Admits.{Admits}

@@ -1,5 +1,5 @@
 -- Where the input of a program is, read off its main bunch.
-use Rattle.std.specs.Prelude.{ℕ, Bool, true, false, List, [], ◌∷◌, ◌++◌, map}
+use Rattle.std.specs.Prelude.{Bool, true, false, List, [], ◌∷◌, ◌++◌, map}
 use Rattle.stream_type.specs.StreamType.{StreamType, type_of}
 use Rattle.stream_prefix.specs.StreamPrefix.{StreamPrefix, cat_both}
 use Rattle.bunch.specs.BunchTree.{BunchTree, empty, leaf, comma, semi, as_type, leaf_names}

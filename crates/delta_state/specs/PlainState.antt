@@ -16,7 +16,7 @@ use Rattle.delta_state.specs.declared.state.Argument.{Argument}
 use Rattle.delta_state.specs.declared.state.Later.{Later}
 use Rattle.delta_state.specs.declared.state.State.{State, Row_of-Argument, end_of-Argument, more_of-Argument}
 use Rattle.delta_state.specs.declared.state.State.TheVariants.{Sink, Var, Par', Cat', Let', LetPar', LetCat', CaseSum, CaseStar, Wait, Frame'}
-use Rattle.delta_state.specs.StateTree.{Known, HeldName, LaterTree, StateTree, ArgumentTrees, sink, var_state, par_state, cat_state, let_state, let_par_state, let_cat_state, sum_state, star_state, wait_state, frame_state, no_arguments, argument_before}
+use Rattle.delta_state.specs.StateTree.{HeldName, LaterTree, StateTree, ArgumentTrees, sink, var_state, par_state, cat_state, let_state, let_par_state, let_cat_state, sum_state, star_state, wait_state, frame_state, no_arguments, argument_before}
 
 -- a term that isn't reached yet, with the values of the historical names that it may use, and its depth
 pub record PlainLater : Type 0 where

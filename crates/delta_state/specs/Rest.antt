@@ -7,22 +7,22 @@
 --   nothing comes any more, and its second name is the subject.
 -- - A call leaves a frame, and at depth 0 nothing, as its meaning there is the empty prefix.
 use Rattle.std.specs.Prelude.{ℕ, zero, suc, if◌then◌else◌, List, [], ◌∷◌, map}
-use Rattle.stream_type.specs.StreamType.{StreamType, eps, star}
+use Rattle.stream_type.specs.StreamType.{StreamType, eps}
 use Rattle.stream_prefix.specs.StreamPrefix.{StreamPrefix, eps_emp, cat_both, in_left, in_right, star_emp, star_done, star_first, star_rest, is_maximal, emp, der, join}
 use Rattle.bunch.specs.Names.{put, value_at}
 use Rattle.bunch.specs.BunchTree.{leaf_names, as_type}
 use Rattle.hist_value.specs.HistValue.{HistValue}
 use Rattle.hist_value.specs.Evaluate.{value}
 use Rattle.hist_value.specs.Wholes.{value_of, full}
-use Rattle.core_term.specs.CoreTerm.{CoreTerm, CoreTerms, CoreBody, CoreProgram, var_term, eps_term, unit_term, nil_term, past_term, par_term, cat_term, cons_term, inl_term, inr_term, let_term, let_par_term, let_cat_term, case_sum_term, case_star_term, wait_term, call_term, no_terms, term_before, leaf_types, fun_at}
+use Rattle.core_term.specs.CoreTerm.{CoreTerm, CoreTerms, CoreBody, CoreProgram, var_term, eps_term, unit_term, nil_term, past_term, par_term, cat_term, cons_term, inl_term, inr_term, let_term, let_par_term, let_cat_term, case_sum_term, case_star_term, wait_term, call_term, term_before, leaf_types, fun_at}
 use Rattle.core_term.specs.FreeNames.{free_names, once}
 use Rattle.core_term.specs.Environment.{Environment, NameTypes, left_at}
 use Rattle.core_term.specs.Agreement.{types_in}
 use Rattle.core_term.specs.Split.{split, split_after}
 use Rattle.core_term.specs.Parts.{par_left, par_right, cat_first, cat_second, sum_left, sum_right, star_item, star_items, left_part, right_part, first_part, second_part}
-use Rattle.core_term.specs.Meaning.{values, call_at, run_with, run_all, run_at, horizon}
+use Rattle.core_term.specs.Meaning.{values, call_at, run_all, run_at, horizon}
 use Rattle.delta_state.specs.StateTree.{Known, HeldName, LaterTree, StateTree, ArgumentTrees, sink, var_state, par_state, cat_state, let_state, let_par_state, let_cat_state, sum_state, star_state, wait_state, frame_state, no_arguments, argument_before, argument_names}
-use Rattle.delta_state.specs.StateMeaning.{past_in, knowing, types_held, with_held, types_of_arguments, run_state, run_arguments, run_later}
+use Rattle.delta_state.specs.StateMeaning.{past_in, knowing, types_held, with_held, types_of_arguments, run_state, run_arguments}
 use Rattle.delta_state.specs.Stands.{output_left}
 
 -- what has come on these names, with their types

@@ -1,5 +1,5 @@
 -- Which states are settled: what could go on with what came has gone on.
-use Rattle.std.specs.Prelude.{ℕ, Bool, true, false, ◌&&◌, not}
+use Rattle.std.specs.Prelude.{Bool, true, false, ◌&&◌, not}
 use Rattle.stream_type.specs.StreamType.{StreamType, null_of}
 use Rattle.stream_prefix.specs.StreamPrefix.{StreamPrefix, in_left, in_right, star_done, star_first, star_rest, is_maximal}
 use Rattle.core_term.specs.Parts.{par_left, par_right, cat_first}

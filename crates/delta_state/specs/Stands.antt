@@ -8,7 +8,7 @@
 --   makes no call on nothing, that they are no more than those that the program makes beyond what came.
 -- - Levels don't grow with the input, so they are compared at each input and not as differences.
 -- - Code that isn't reached keeps some depth, so that no call that the budget allows stands at depth 0.
-use Rattle.std.specs.Prelude.{ℕ, pred, ◌+◌, ◌-◌, ◌*◌, ◌^◌, ◌≤◌, ◌≡◌, IsTrue, Option, Some, None, if◌then◌else◌}
+use Rattle.std.specs.Prelude.{ℕ, pred, ◌+◌, ◌-◌, ◌*◌, ◌^◌, ◌≤◌, ◌≡◌, IsTrue, Some, None, if◌then◌else◌}
 use Rattle.std.specs.List.{All}
 use Rattle.stream_type.specs.StreamType.{StreamType}
 use Rattle.stream_prefix.specs.StreamPrefix.{StreamPrefix, IsPrefix, der, join}

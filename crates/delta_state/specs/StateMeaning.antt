@@ -7,8 +7,8 @@
 -- - A held case or wait is run on what was held and, behind it, what comes, on the held names alone: the
 --   environment of a frame's body, too, is that of its parameters alone.
 use Rattle.std.specs.Prelude.{ℕ, List, [], ◌∷◌}
-use Rattle.stream_type.specs.StreamType.{StreamType, eps}
-use Rattle.stream_prefix.specs.StreamPrefix.{StreamPrefix, eps_emp, emp, is_maximal}
+use Rattle.stream_type.specs.StreamType.{StreamType}
+use Rattle.stream_prefix.specs.StreamPrefix.{eps_emp, emp, is_maximal}
 use Rattle.bunch.specs.Names.{put, value_at}
 use Rattle.hist_value.specs.HistValue.{HistValue}
 use Rattle.hist_value.specs.Wholes.{value_of}

@@ -10,6 +10,9 @@
 -- - The first name of a destructuring is neither its subject nor the second one (`Apart.antt`). A program
 --   whose names are bound once keeps this, and the rules of states ask it.
 -- - Whether a state is settled is asked apart (`Settled.antt`).
+-- - A name that has a value keeps whatever stream has its name (`with_known`). Code that isn't reached keeps its
+--   values, and what runs it later may have a stream of such a name: `case z of { inl p => x | inr q => x }` in
+--   `let x = y in ..`, beside a value of x, is typed by the let, and so is what is left of it.
 use Rattle.std.specs.Prelude.{ℕ, ◌≡◌, ◌≢◌, Bool, true, false, ◌&&◌, ◌||◌, ⊤, IsTrue, List, [], ◌∷◌, Option, Some, None}
 use Rattle.std.specs.List.{All, list_all}
 use Rattle.stream_type.specs.StreamType.{StreamType, cat, par, sum, star, null_of}
@@ -30,7 +33,7 @@ use Rattle.delta_state.specs.Apart.{IsApart, BindsApart}
 abbrev pub no_pasts : ℕ → Option HistType
 no_pasts x = None
 
--- x has the values of whole streams of type t too; whatever stream has its name keeps it
+-- x has the value of a whole stream of type t too; whatever stream has its name keeps it
 abbrev pub with_known : ℕ → StreamType → Context → Context
 with_known x t c = record { types = c.types; order = c.order; past = put x (Some (past t)) c.past }
 
