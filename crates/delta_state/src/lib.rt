@@ -10,7 +10,7 @@ mod state;
 #[cfg(test)]
 mod tests;
 
-pub use counting::{count_states, held_events};
+pub use counting::{count_states, held_events, word_len};
 pub use machine::{Machine, StepRefusal};
 pub use place::Place;
 pub use state::{Argument, Held, Later, State};

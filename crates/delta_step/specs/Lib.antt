@@ -7,3 +7,5 @@ pub mod Steps
 pub mod Weights
 pub mod Heft
 pub mod Levels
+pub mod AwaitedTree
+pub mod TreeView
