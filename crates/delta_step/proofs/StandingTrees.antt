@@ -59,6 +59,25 @@ module _ (c : CoreProgram) where
         in_limit = limit;
       }
 
+  -- in terms of what the machine holds then
+  pub begins_with : IsRunnable c → (budget : ℕ) (r : Run) (s : StateTree) → r ≡ first_run_on c (entries_on (whole_of c.main.params) (emp (input_type c))) → s ≡ first_state_on c (entries_on (whole_of c.main.params) (emp (input_type c))) → r.calls ≤ budget → budget ≤ 1000000
+      → (d : CoreProgram) (a : AwaitedTree) (input output : StreamType) → d ≡ c → a ≡ whole_of c.main.params → input ≡ input_type c → output ≡ der r.out c.main.result → KeepsAll d budget s a input output 0 r.calls []
+  begins_with runnable budget r s is_run is_state few limit d a input output e f g h =
+      subst (λ (p : CoreProgram). KeepsAll p budget s a input output 0 r.calls []) (sym e)
+      (subst (λ (l : AwaitedTree). KeepsAll c budget s l input output 0 r.calls []) (sym f)
+      (subst (λ (t : StreamType). KeepsAll c budget s (whole_of c.main.params) t output 0 r.calls []) (sym g)
+      (subst (λ (t : StreamType). KeepsAll c budget s (whole_of c.main.params) (input_type c) t 0 r.calls []) (sym h) (begins runnable budget r s is_run is_state few limit))))
+
+  -- what is given is the program's meaning on nothing, and more calls, or a greater level, than a number are its own
+  pub begins_answer : (r : Run) → r ≡ first_run_on c (entries_on (whole_of c.main.params) (emp (input_type c))) → r.out ≡ mean c (input_of c [])
+  begins_answer r is_run = ap (λ (x : Run). x.out) (is_run ∙ begins_as)
+
+  pub begins_costly : (n : ℕ) → n < (first_run_on c (entries_on (whole_of c.main.params) (emp (input_type c)))).calls → n < calls_of c (input_of c [])
+  begins_costly n h = subst (λ (x : Run). n < x.calls) begins_as h
+
+  pub begins_deep : 1001 < (first_run_on c (entries_on (whole_of c.main.params) (emp (input_type c)))).level → 1000 < level_of c (input_of c [])
+  begins_deep h = above_from_below _ (subst (λ (x : Run). 1001 < x.level) begins_as h)
+
 module _ (c : CoreProgram) (budget : ℕ) (s : StateTree) (a : AwaitedTree) (input output : StreamType) (events spent : ℕ) (w : List StreamEvent) (x : StreamEvent) (k : KeepsAll c budget s a input output events spent w) (admits : Admits (after_word w (input_type c)) x) where
   -- what the event brings
   brings : Derives (der (input_of c w) (input_type c)) (one_of x input)
@@ -111,3 +130,17 @@ module _ (c : CoreProgram) (budget : ℕ) (s : StateTree) (a : AwaitedTree) (inp
           in_budget = few;
           in_limit = k.in_limit;
         }
+
+    -- in terms of what the machine holds then, next being what came
+    pub goes_on_with : (next : StreamPrefix) (s' : StateTree) (d : CoreProgram) (budget' : ℕ) (a' : AwaitedTree) (input' output' : StreamType) (events' spent' : ℕ) → next ≡ one_of x input → s' ≡ state_on c s output (entries_on a (one_of x input)) → d ≡ c → budget' ≡ budget → a' ≡ awaited_after a next → input' ≡ der next input
+        → output' ≡ der r.out output → events' ≡ suc events → spent' ≡ r.calls → KeepsAll d budget' s' a' input' output' events' spent' (w ++ x ∷ [])
+    goes_on_with next s' d budget' a' input' output' events' spent' n is_state e b f g h i j =
+        let f' : a' ≡ awaited_after a (one_of x input) = f ∙ ap (awaited_after a) n in
+        let g' : input' ≡ der (one_of x input) input = g ∙ ap (λ (p : StreamPrefix). der p input) n in
+        subst (λ (p : CoreProgram). KeepsAll p budget' s' a' input' output' events' spent' (w ++ x ∷ [])) (sym e)
+        (subst (λ (m : ℕ). KeepsAll c m s' a' input' output' events' spent' (w ++ x ∷ [])) (sym b)
+        (subst (λ (l : AwaitedTree). KeepsAll c budget s' l input' output' events' spent' (w ++ x ∷ [])) (sym f')
+        (subst (λ (t : StreamType). KeepsAll c budget s' (awaited_after a (one_of x input)) t output' events' spent' (w ++ x ∷ [])) (sym g')
+        (subst (λ (t : StreamType). KeepsAll c budget s' (awaited_after a (one_of x input)) (der (one_of x input) input) t events' spent' (w ++ x ∷ [])) (sym h)
+        (subst (λ (m : ℕ). KeepsAll c budget s' (awaited_after a (one_of x input)) (der (one_of x input) input) (der r.out output) m spent' (w ++ x ∷ [])) (sym i)
+        (subst (λ (m : ℕ). KeepsAll c budget s' (awaited_after a (one_of x input)) (der (one_of x input) input) (der r.out output) (suc events) m (w ++ x ∷ [])) (sym j) (goes_on s' is_state)))))))
