@@ -34,7 +34,7 @@ use Rattle.kept_state.specs.KeptMeaning.{input_kept, split_kept, split_kept_afte
 use Rattle.kept_state.specs.Laws.{IsKept, Keeps, StandsThrough}
 use Rattle.kept_state.proofs.InputPlaces.{cuts_length, input_place, input_rest, kept_types, kept_split}
 use Rattle.kept_state.proofs.RestSplits.{rest_join, rest_after_derives}
-use Rattle.kept_state.proofs.Going.{over_extends}
+use Rattle.kept_state.proofs.KeptSteps.{over_extends}
 
 module _ (c : CoreProgram) (runnable : IsRunnable c) (p : StreamPrefix) (h : Derives (input_type c) p) (events : ℕ) (s : StateTree) where
   -- what is left of the types of main's parameters

@@ -1,5 +1,6 @@
--- A term in a context without some stream variables.
-use Rattle.std.proofs.Common.{◌≡◌, ◌∙◌, ℕ, Bool, true, false, true≢false, List, if◌then◌else◌, refl, sym}
+-- A term in a context where some names of streams are hidden.
+use Rattle.std.proofs.Common.{◌≡◌, ◌∙◌, ℕ, Bool, true, false, true≢false, List, if◌then◌else◌, ap, sym}
+use Rattle.std.proofs.lemmas.Bool.{false_from_ne_true}
 use Rattle.std.specs.Prelude.{Some, None, is_some}
 use Rattle.stream_type.specs.StreamType.{StreamType}
 use Rattle.bunch.specs.Names.{holds}
@@ -14,6 +15,7 @@ use Rattle.kept_state.specs.KeptTyping.{hiding}
 use Rattle.kept_state.specs.Laws.{HidingIsNotUsing}
 
 module _ (funs : List CoreBody) (counts : ℕ → Bool) (c : Context) (names : List ℕ) (e : CoreTerm) (r : StreamType) where
+  -- what is a stream where these names are hidden is one in the context too,
   seen : Sees (free_names e) (hiding names c) c
   seen = record { types = λ x s m k. go x s (holds x names) k; order = within_itself _ _; past = λ x h k. k }
     where
@@ -21,24 +23,15 @@ module _ (funs : List CoreBody) (counts : ℕ → Bool) (c : Context) (names : L
       go x s true k = absurd (cc k)
       go x s false k = k
 
+  -- a term that is typed where they are hidden uses none of them,
   unused : HasType funs counts (hiding names c) e r → (x : ℕ) → holds x names ≡ true → holds x (free_names e) ≡ false
-  unused h x m = go (holds x (free_names e)) refl
-    where
-      hidden : (b : Bool) → b ≡ true → is_some (if b then None else c.types x) ≡ false
-      hidden true k = refl
-      hidden false k = absurd (true≢false (sym k))
+  unused h x m = false_from_ne_true (holds x (free_names e)) (λ k. true≢false (sym ((free_are_streams funs counts e (hiding names c) r h).at x k) ∙ ap (λ b. is_some (if b then None else c.types x)) m))
 
-      go : (b : Bool) → holds x (free_names e) ≡ b → b ≡ false
-      go true k = absurd (true≢false (sym ((free_are_streams funs counts e (hiding names c) r h).at x k) ∙ hidden (holds x names) m))
-      go false k = refl
-
+  -- and a stream that a term uses is still one, where it uses none of them
   hides : ((x : ℕ) → holds x names ≡ true → holds x (free_names e) ≡ false) → Sees (free_names e) c (hiding names c)
-  hides f = record { types = λ x s m k. go x s m (holds x names) refl k; order = within_itself _ _; past = λ x h k. k }
-    where
-      go : (x : ℕ) (s : StreamType) → holds x (free_names e) ≡ true → (b : Bool) → holds x names ≡ b → c.types x ≡ Some s → (if b then None else c.types x) ≡ Some s
-      go x s m true i k = absurd (true≢false (sym m ∙ f x i))
-      go x s m false i k = k
+  hides f = record { types = λ x s m k. ap (λ b. if b then None else c.types x) (false_from_ne_true (holds x names) (λ i. true≢false (sym m ∙ f x i))) ∙ k; order = within_itself _ _; past = λ x h k. k }
 
+-- both ways
 pub hiding_is_not_using : HidingIsNotUsing
 hiding_is_not_using funs counts c names e r =
     (λ h. (narrow funs counts e (hiding names c) c r (seen funs counts c names e r) h, unused funs counts c names e r h), λ h. narrow funs counts e c (hiding names c) r (hides funs counts c names e r h.1) h.0)
