@@ -1,11 +1,11 @@
 -- Bytes that fill what is awaited: none of them is wrong, and after them awaited is what stood behind.
-use Rattle.std.proofs.Common.{◌≡◌, ◌∙◌, ◌≤◌, ◌<◌, ◌+◌, ◌*◌, ◌^◌, ℕ, zero, suc, List, [], ◌∷◌, ◌++◌, length, ap, ap₂, refl, arith, append_assoc, length-append}
-use Rattle.std.specs.Prelude.{Some, option_map, map}
+use Rattle.std.proofs.Common.{◌≡◌, ◌∙◌, ◌≤◌, ◌<◌, ◌+◌, ◌*◌, ◌^◌, ℕ, zero, suc, List, [], ◌∷◌, ◌++◌, length, ap, ap₂, refl, sym, arith, append_assoc, length-append}
+use Rattle.std.specs.Prelude.{Some, None, if◌then◌else◌, option_map, map}
 use Rattle.std.specs.Int.{byte_at}
 use Rattle.std.specs.List.{concat}
 use Rattle.std.proofs.lemmas.Nat.{from_be_bytes-to_be_bytes_4}
 use Rattle.kept_state.specs.KeptBytes.{short_bytes, list_bytes, most_bytes}
-use Rattle.kept_state.specs.KeptForm.{Kind, Item, bool_item, type_item, prefix_item, value_item, expr_item, node_item, known_item, held_item, argument_item, Part, any, form, count, items, list_part, item_parts, forms_of, form_at, go_on, fault_from}
+use Rattle.kept_state.specs.KeptForm.{Kind, Item, bool_item, type_item, prefix_item, value_item, expr_item, node_item, known_item, held_item, argument_item, Part, any, form, count, items, list_part, item_parts, forms_of, form_at, go_on, settle, after_byte, is_whole, fault_from}
 
 -- these bytes fill these parts, whatever is awaited behind them; there aren't too many of them
 pub record Fills (ps : List Part) (bs : List ℕ) : Type 0 where
@@ -56,26 +56,22 @@ skip_items : (item : Item) (rest : List Part) (n : ℕ) (more : List ℕ) → fa
 skip_items item rest n [] = refl
 skip_items item rest n (b ∷ more) = refl
 
--- a list of one item or more is as its first item's parts, and the others behind them
-open_items : (item : Item) (k : ℕ) (rest : List Part) (n : ℕ) (more : List ℕ) → fault_from (items (suc k) item ∷ rest) n more ≡ fault_from (item_parts item ++ (items k item ∷ rest)) n more
-open_items bool_item k rest n [] = refl
-open_items bool_item k rest n (b ∷ more) = refl
-open_items type_item k rest n [] = refl
-open_items type_item k rest n (b ∷ more) = refl
-open_items prefix_item k rest n [] = refl
-open_items prefix_item k rest n (b ∷ more) = refl
-open_items value_item k rest n [] = refl
-open_items value_item k rest n (b ∷ more) = refl
-open_items expr_item k rest n [] = refl
-open_items expr_item k rest n (b ∷ more) = refl
-open_items node_item k rest n [] = refl
-open_items node_item k rest n (b ∷ more) = refl
-open_items known_item k rest n [] = refl
-open_items known_item k rest n (b ∷ more) = refl
-open_items held_item k rest n [] = refl
-open_items held_item k rest n (b ∷ more) = refl
-open_items argument_item k rest n [] = refl
-open_items argument_item k rest n (b ∷ more) = refl
+-- the parts of an item begin with a byte
+item_settled : (item : Item) (rest : List Part) → settle (item_parts item ++ rest) ≡ item_parts item ++ rest
+item_settled bool_item rest = refl
+item_settled type_item rest = refl
+item_settled prefix_item rest = refl
+item_settled value_item rest = refl
+item_settled expr_item rest = refl
+item_settled node_item rest = refl
+item_settled known_item rest = refl
+item_settled held_item rest = refl
+item_settled argument_item rest = refl
+
+-- so a list of one item or more is as its first item's parts, and the others behind them
+open_items : (item : Item) (k : ℕ) (rest : List Part) (n : ℕ) (more : List ℕ) → fault_from (items (suc k) item ∷ rest) n more ≡ fault_from (item_parts item ++ items k item ∷ rest) n more
+open_items item k rest n [] = ap (λ ps. if is_whole ps then None else Some n) (sym (item_settled item (items k item ∷ rest)))
+open_items item k rest n (b ∷ more) = ap (λ ps. go_on (after_byte ps b) n (λ next. fault_from next (suc n) more)) (sym (item_settled item (items k item ∷ rest)))
 
 -- no bytes fill no items
 pub fill_no_items : (item : Item) → FillItems 0 item []

@@ -48,6 +48,7 @@ type_fills (star a) = fills_form type_kind 6 _ _ refl (type_fills a)
 pub types_fill : (ts : List StreamType) → Fills (list_part type_item ∷ []) (list_bytes type_bytes ts)
 types_fill ts = fills_list type_item type_bytes type_fills (λ t. some type_kind (type_bytes t) (type_fills t)) ts
 
+-- a mark
 bool_fills : (b : Bool) → Fills (form bool_kind ∷ []) (bool_bytes b)
 bool_fills true = alone bool_kind 1 refl
 bool_fills false = alone bool_kind 0 refl
@@ -157,6 +158,7 @@ mutual
   values_fill (right_of v) = fill_no_items value_item
   values_fill no_items = fill_no_items value_item
 
+-- operations
 op_fills : (o : Op) → Fills (form op_kind ∷ []) (op_byte o ∷ [])
 op_fills Add = alone op_kind 0 refl
 op_fills Sub = alone op_kind 1 refl
@@ -181,6 +183,7 @@ expr_fills nil_expr = alone expr_kind 10 refl
 expr_fills (cons_expr a b) = fills_form expr_kind 11 _ _ refl (two expr_kind _ _ (expr_fills a) (expr_fills b))
 expr_fills (fold_expr a s x y b) = fills_form expr_kind 12 _ _ refl (form_before expr_kind _ _ _ (expr_fills a) (form_before expr_kind _ _ _ (expr_fills s) (name_before _ x _ (name_before _ y _ (expr_fills b)))))
 
+-- lists of historical expressions
 exprs_fill : (ms : List HistExpr) → Fills (list_part expr_item ∷ []) (list_bytes expr_bytes ms)
 exprs_fill ms = fills_list expr_item expr_bytes expr_fills (λ m. some expr_kind (expr_bytes m) (expr_fills m)) ms
 
