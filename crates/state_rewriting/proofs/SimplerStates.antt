@@ -22,7 +22,8 @@ use Rattle.delta_state.specs.Stands.{StandsFor, input_type, output_left, context
 use Rattle.delta_state.specs.MachineView.{input_of}
 use Rattle.delta_state.proofs.GrowingStates.{extends_free, streams_of}
 use Rattle.state_steps.proofs.SplitInputs.{first_is_part}
-use Rattle.state_steps.proofs.ProgramSteps.{le_trans, pred_le, extends_after}
+use Rattle.state_steps.proofs.SourceSteps.{le_trans, pred_le}
+use Rattle.state_steps.proofs.ProgramSteps.{extends_after}
 use Rattle.state_rewriting.specs.Rewriting.{Rewritten, finished, unused, unused_pair, unused_row, unused_argument, alias, pair, renamed, frames, Simpler, SimplerBy, as_it_is, one_more}
 use Rattle.state_rewriting.specs.Laws.{SimplerKeepsType, SimplerKeepsRun, SimplerKeepsDepth, SimplerStandsFor, SimplerStandsAfter}
 use Rattle.state_rewriting.proofs.FittingParts.{Fits, FitsLocally, fits}

@@ -27,7 +27,7 @@ use Rattle.state_steps.proofs.CalledBodies.{body_context}
 module _ (funs : ℕ → CoreBody) (counts : ℕ → Bool) where
   mutual
     -- a derivation in which the first names of parts differ from what they stand beside binds them apart
-    binds_apart : {T : NameTypes} {O : Facts} {H : PastTypes} {e : CoreTerm} {r : StreamType} → Typed funs counts ◌≢◌ T O H e r → BindsApart e
+    pub binds_apart : {T : NameTypes} {O : Facts} {H : PastTypes} {e : CoreTerm} {r : StreamType} → Typed funs counts ◌≢◌ T O H e r → BindsApart e
     binds_apart (var_typed e) = tt
     binds_apart eps_typed = tt
     binds_apart unit_typed = tt
