@@ -37,21 +37,21 @@ Runs {M} session machine = session.life ≡ Open machine
 abbrev pub IsClosed : {M : Type 0} → Session M → Cause → Type 0
 IsClosed {M} session cause = session.life ≡ Closed cause
 
--- a session, be it closed, has taken the events of this word, and no other: what is left of the input's type is
--- its derivative by them, and they are counted
+-- what a session, be it closed, keeps of the events that it took, those of this word: what they leave of the
+-- input's type, and their number
 pub record HasTaken {M : Type 0} (session : Session M) (c : CoreProgram) (word : List StreamEvent) : Type 0 where
   pub rest_is : type_of session.rest ≡ after_word word (input_type c)
   pub count : session.events ≡ length word
 
--- it has taken the event after what it had taken
+-- whatever it had taken, it has now taken this event after it
 abbrev pub Takes : {M : Type 0} → Session M → Session M → StreamEvent → Type 0
 Takes {M} old new x = (c : CoreProgram) (word : List StreamEvent) → HasTaken old c word → HasTaken new c (word ++ x ∷ [])
 
--- it has taken nothing after what it had taken
+-- whatever it had taken, it has taken nothing after it
 abbrev pub TakesNothing : {M : Type 0} → Session M → Session M → Type 0
 TakesNothing {M} old new = (c : CoreProgram) (word : List StreamEvent) → HasTaken old c word → HasTaken new c word
 
--- after `Closed` and `Refused` a session is as before; after another refusal it is closed
+-- after `Closed` and `Refused` a session is as before; after each other refusal it is closed, as `Closes` says
 abbrev pub IsUnchanged : {M : Type 0} → FeedRefusal → Session M → Session M → Type 0
 IsUnchanged {M} (feeds.Closed cause) old new = new ≡ old
 IsUnchanged {M} (feeds.Refused fault) old new = new ≡ old
