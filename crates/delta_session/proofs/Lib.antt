@@ -1,0 +1,4 @@
+-- Lemmas.
+pub mod Growth
+pub mod Feeding
+pub mod WholeOutput
