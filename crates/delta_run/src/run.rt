@@ -4,7 +4,7 @@ ghost use Rattle.std.specs.Prelude.{◌≡◌, ◌≢◌, ◌⊎◌, ◌≤◌, 
 ghost use Rattle.port.specs.Moves.{bytes_written};
 ghost use Rattle.port.specs.Faults.{Rose};
 ghost use Rattle.delta_end.specs.declared.end.End.{End};
-ghost use Rattle.delta_loop.specs.Answer.{Adds, IsComplete, IsWithinLimit};
+ghost use Rattle.delta_loop.specs.Answer.{Adds, IsWithinLimit};
 ghost use Rattle.delta_end.specs.Status.{IsStatus, IsStill};
 ghost use Rattle.delta_words.specs.declared.task.Version.{Version as WrittenVersion};
 ghost use Rattle.delta_words.specs.CommandTask.{run, eval, check, print, text, frames};
@@ -16,26 +16,25 @@ ghost use Rattle.delta_run.specs.Checked.{ChecksText, PassesAccepted, RefusesUna
 ghost use Rattle.delta_run.specs.Evaluated.{EvalsText, EvalsWell, StopsWell, RefusesUnwritable};
 ghost use Rattle.delta_run.specs.CommandLine.{Asks, AskNothing, frames_of};
 ghost use Rattle.delta_end.specs.End.{FileCause, ReadCause, WriteCause};
-ghost use Rattle.delta_run.specs.FirstMeaning.{IsMeant, MayRefuse};
-ghost use Rattle.delta_loop.specs.Meaning.{Meaning};
 ghost use Rattle.delta_end.specs.Note.{note_of, Says};
-ghost use Rattle.delta_loop.specs.Output.{due};
-ghost use Rattle.delta_loop.specs.Prompt.{IsPrompt};
 ghost use Rattle.delta_loop.specs.History.{IsUntouched};
-ghost use Rattle.delta_run.specs.Text.{OfFile, RunsText};
+ghost use Rattle.delta_run.specs.Text.{OfFile, RunsPromptly, RunsMoves, RunsWell};
+ghost use Rattle.delta_run.specs.Settled.{SettlesWell};
 
-use crate::machine::FirstMachine;
-use crate::text_run::run_words;
+use crate::command::run_command;
+use delta_end::{answer, note};
+use delta_state::Machine;
 use port::{Link, Shelf, Sink};
 use std::alloc::Global;
 
-/// Runs the command line that the words are, over what is outside, and answers the exit status:
-/// 0 where the input ended and its type is finished, 2 where the words ask for nothing that is built, 3 where
-/// the program is refused, 4 where the input is, 5 where an evaluation makes more calls than its budget
-/// allows, 6 where its type awaits more at its end, 7 at a fault outside, 8 for want of memory, and 9 for more than 2^40 input bytes. The words are those after the
-/// program's name. The last thing that is written is the note, a line to the sink that says how the run
-/// ended (`note_of` of `specs/Note.antt`).
-pub fn delta<S: Shelf, L: Link, N: Sink>(
+/// Runs the command line that the words are, over what is outside, and answers the exit status: 0 where
+/// the input ended and its type is finished, 2 where the words ask for nothing that is built, 3 where the
+/// program is refused, 4 where the input is, 5 where the program makes more calls than its budget allows or
+/// one at too great a level, 6 where the input's type awaits more at its end, 7 at a fault outside, 8 for
+/// want of memory, and 9 for more than 2^40 input bytes. The words are those after the program's name. The
+/// last thing that is written is the note, a line to the sink that says how the run ended (`note_of` of
+/// `specs/Note.antt`). Programs run on the machine M.
+pub fn delta<M: Machine, S: Shelf, L: Link, N: Sink>(
     alloc: Global,
     words: &[String],
     shelf: &mut S,
@@ -47,14 +46,14 @@ pub fn delta<S: Shelf, L: Link, N: Sink>(
     ensures command { AskNothing words.now → (result ≡ 2) ⊎ (result ≡ 8) }
     ensures untouched { AskNothing words.now → IsUntouched (L.log link.old) (L.log link.new) (L.left link.old) (L.left link.new) }
     // Before each read, what was written are the header and the frames of the successive increments of the
-    // program's one-shot meaning on the accepted events of the whole frames in what was read.
+    // one-shot meaning of the text's program on the accepted events of the whole frames in what was read.
     ensures prompt { (file : List ℕ) (budget : ℕ) (v : WrittenVersion) → Asks words.now (run file budget v)
-        → OfFile (S.holds shelf.old) file (λ text. Adds (L.log link.old) (L.log link.new) (λ moves. (moves ≡ []) ⊎ ((P : Meaning) × IsMeant (frames_of v) P × IsPrompt (due P) moves))) }
+        → OfFile (S.holds shelf.old) file (λ text. Adds (L.log link.old) (L.log link.new) (RunsPromptly text budget (frames_of v))) }
     // At most 2^40 bytes are read, and one more.
     ensures limit { (file : List ℕ) (budget : ℕ) (v : WrittenVersion) → Asks words.now (run file budget v) → OfFile (S.holds shelf.old) file (λ _. Adds (L.log link.old) (L.log link.new) IsWithinLimit) }
     // The status is that of an end, and the end is shown by the bytes, the counts and the note.
     ensures answer { (end : End) × IsStatus end result (N.faults notes.old) (N.faults notes.new)
-        × ((file : List ℕ) (budget : ℕ) (v : WrittenVersion) → Asks words.now (run file budget v) → OfFile (S.holds shelf.old) file (λ text. Adds (L.log link.old) (L.log link.new) (RunsText (IsMeant (frames_of v)) (MayRefuse text) end)))
+        × ((file : List ℕ) (budget : ℕ) (v : WrittenVersion) → Asks words.now (run file budget v) → OfFile (S.holds shelf.old) file (λ text. Adds (L.log link.old) (L.log link.new) (RunsMoves text budget (frames_of v) end)))
         × ((v : WrittenVersion) → Asks words.now (frames v) → Adds (L.log link.old) (L.log link.new) (Converts (frames_of_lines (frames_of v)) end))
         × (Asks words.now text → Adds (L.log link.old) (L.log link.new) (MakesLines end))
         × ((file : List ℕ) → Asks words.now (print file) → OfFile (S.holds shelf.old) file (λ text. Adds (L.log link.old) (L.log link.new) (PrintsText text end)))
@@ -70,12 +69,19 @@ pub fn delta<S: Shelf, L: Link, N: Sink>(
     // Where the count of the shelf, or of the link's reads or writes, rose, the status is 7 or 8.
     ensures still { (result ≡ 7) ⊎ (result ≡ 8) ⊎ ((S.faults shelf.new ≡ S.faults shelf.old)
         × (L.read_faults link.new ≡ L.read_faults link.old) × (L.write_faults link.new ≡ L.write_faults link.old)) }
-    // Over an input that is good in whole, with no fault counted: done or open with all written, or want of memory,
-    // or the program was refused.
+    // An accepted text over an input that is good in whole, with no event that makes too many calls or one at
+    // too great a level, and no fault counted: done or open with all written, or want of memory.
     ensures complete { (file : List ℕ) (budget : ℕ) (v : WrittenVersion) → Asks words.now (run file budget v) → OfFile (S.holds shelf.old) file (λ text.
         IsStill (S.faults shelf.old) (S.faults shelf.new) → IsStill (L.read_faults link.old) (L.read_faults link.new)
         → IsStill (L.write_faults link.old) (L.write_faults link.new) → IsStill (N.faults notes.old) (N.faults notes.new)
-        → (result ≡ 8) ⊎ ((result ≡ 3) × MayRefuse text) ⊎ ((P : Meaning) × IsMeant (frames_of v) P × IsComplete P (L.left link.old) (L.log link.old) (L.log link.new) result)) }
+        → RunsWell text budget (frames_of v) (L.left link.old) (L.log link.old) (L.log link.new) result) }
+    // A text that is refused, with no fault counted: status 3, or want of memory.
+    ensures refused { (file : List ℕ) (budget : ℕ) (v : WrittenVersion) → Asks words.now (run file budget v) → OfFile (S.holds shelf.old) file (λ text.
+        IsStill (S.faults shelf.old) (S.faults shelf.new) → IsStill (N.faults notes.old) (N.faults notes.new) → RefusesUnwritable text (frames_of v) result) }
+    // An accepted text whose run ended with 0, 4 or 6: the status is that of the whole input, and what is due for it was
+    // written, whatever the pieces that it came in and the budget.
+    ensures settled { (file : List ℕ) (budget : ℕ) (v : WrittenVersion) → Asks words.now (run file budget v) → OfFile (S.holds shelf.old) file (λ text.
+        SettlesWell text (frames_of v) (L.left link.old) (L.log link.old) (L.log link.new) result) }
     // Over lines with nothing wrong, with no fault counted: done with all frames written, or want of memory.
     ensures frames_complete { (v : WrittenVersion) → Asks words.now (frames v)
         → IsStill (L.read_faults link.old) (L.read_faults link.new) → IsStill (L.write_faults link.old) (L.write_faults link.new) → IsStill (N.faults notes.old) (N.faults notes.new)
@@ -118,5 +124,7 @@ pub fn delta<S: Shelf, L: Link, N: Sink>(
     // What the shelf holds stays.
     ensures held { S.holds shelf.new ≡ S.holds shelf.old }
 {
-    run_words::<FirstMachine, S, L, N>(alloc, words, shelf, link, notes)
+    let end = run_command::<M, S, L>(alloc, words, shelf, link);
+    let said = note(notes, end);
+    answer(end, said)
 }
