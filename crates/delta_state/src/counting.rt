@@ -53,10 +53,11 @@ fn words_len(held: &[(Name, Prefix)]) -> u64
     events
 }
 
-// The number of events in the canonical word of a prefix.
+/// The number of events in the canonical word of a prefix, or the greatest number of 64 bits where that is
+/// less.
 #[cycle(word_len)]
 #[tactic(auto, using(stream_prefix::proofs::Rows::rows, crate::proofs::Counts::counts))]
-fn word_len(p: &Prefix) -> u64
+pub fn word_len(p: &Prefix) -> u64
     ensures { result ≡ capped (length (canon (prefix_of p.now))) }
 {
     match p {

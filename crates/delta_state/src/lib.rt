@@ -8,7 +8,7 @@ mod machine;
 mod place;
 mod state;
 
-pub use counting::{count_states, held_events};
+pub use counting::{count_states, held_events, word_len};
 pub use machine::{Machine, StepRefusal};
 pub use place::Place;
 pub use state::{Argument, Held, Later, State};

@@ -1,0 +1,53 @@
+-- The first run is that of main's body on the names at the start, with all the depth there is.
+use Rattle.std.proofs.Common.{◌≡◌, ◌<◌, ℕ, List, map, sym, ap, ap₂, ◌∙◌, subst, []}
+use Rattle.stream_type.specs.StreamType.{type_of}
+use Rattle.stream_prefix.specs.StreamPrefix.{emp}
+use Rattle.core_term.specs.CoreTerm.{core_of}
+use Rattle.core_term.specs.Run.{Run}
+use Rattle.core_term.specs.Meaning.{run_at, no_past}
+use Rattle.delta_state.specs.declared.machine.StepRefusal.TheVariants.{Budget, Deep}
+use Rattle.delta_state.specs.StateTree.{HeldName}
+use Rattle.delta_state.specs.StateMeaning.{types_held, prefixes_held}
+use Rattle.delta_state.specs.Stands.{input_type}
+use Rattle.delta_state.specs.Rest.{rest_at}
+use Rattle.main_steps.specs.Laws.{first_run_on}
+use Rattle.delta_step.specs.declared.marked.Entry.{Entry}
+use Rattle.delta_step.specs.Marked.{entry_in}
+use Rattle.delta_step.specs.AwaitedTree.{whole_of, entries_on}
+use Rattle.delta_step.specs.Steps.{funs_in}
+use Rattle.delta_step.proofs.StandingTrees.{horizon_is}
+use Rattle.delta_step.proofs.machine.first_run.Goals as goal
+
+pub returns-in-Ok-clause-run : goal.returns-in-Ok-clause-run
+returns-in-Ok-clause-run c =
+    let d = core_of c.args.core.now in
+    let same : map entry_in c.deref.result.now ≡ entries_on (whole_of d.main.params) (emp (input_type d)) =
+    ap (λ (l : List Entry). map entry_in l) c.deref.ensures.value ∙ (c.in_ok-entries.ensures ∙ ap₂ entries_on c.requires.awaited (c.in_ok-nothing.ensures ∙ ap emp c.requires.input)) in
+    c.in-Ok.ensures.run ∙ ap₂ (λ (k : ℕ) (es : List HeldName). run_at (funs_in c.args.core.now) k d.main.body (types_held es) d.main.result (prefixes_held es) no_past) (sym horizon_is) same
+
+pub returns-in-Ok-clause-rest : goal.returns-in-Ok-clause-rest
+returns-in-Ok-clause-rest c =
+    let d = core_of c.args.core.now in
+    let same : map entry_in c.deref.result.now ≡ entries_on (whole_of d.main.params) (emp (input_type d)) =
+    ap (λ (l : List Entry). map entry_in l) c.deref.ensures.value ∙ (c.in_ok-entries.ensures ∙ ap₂ entries_on c.requires.awaited (c.in_ok-nothing.ensures ∙ ap emp c.requires.input)) in
+    c.in-Ok.ensures.rest ∙ ap₂ (λ (k : ℕ) (es : List HeldName). rest_at (funs_in c.args.core.now) k d.main.body (types_held es) d.main.result (prefixes_held es) []) (sym horizon_is) same
+
+pub returns-clause-costly : goal.returns-clause-costly
+returns-clause-costly c n q =
+    let d = core_of c.args.core.now in
+    let same : map entry_in c.deref.result.now ≡ entries_on (whole_of d.main.params) (emp (input_type d)) =
+    ap (λ (l : List Entry). map entry_in l) c.deref.ensures.value ∙ (c.in_ok-entries.ensures ∙ ap₂ entries_on c.requires.awaited (c.in_ok-nothing.ensures ∙ ap emp c.requires.input)) in
+    let same_run = ap₂ (λ (k : ℕ) (es : List HeldName). run_at (funs_in c.args.core.now) k d.main.body (types_held es) d.main.result (prefixes_held es) no_past) (sym horizon_is) same in
+    let is : c.refusal.result ≡ Budget n = cc in
+    let told = c.refusal.ensures.budget n is in
+    (told.0, subst (λ (r : Run). c.args.budget < r.calls) same_run (c.in-Err.ensures.spent told.1))
+
+pub returns-clause-deep : goal.returns-clause-deep
+returns-clause-deep c n q =
+    let d = core_of c.args.core.now in
+    let same : map entry_in c.deref.result.now ≡ entries_on (whole_of d.main.params) (emp (input_type d)) =
+    ap (λ (l : List Entry). map entry_in l) c.deref.ensures.value ∙ (c.in_ok-entries.ensures ∙ ap₂ entries_on c.requires.awaited (c.in_ok-nothing.ensures ∙ ap emp c.requires.input)) in
+    let same_run = ap₂ (λ (k : ℕ) (es : List HeldName). run_at (funs_in c.args.core.now) k d.main.body (types_held es) d.main.result (prefixes_held es) no_past) (sym horizon_is) same in
+    let is : c.refusal.result ≡ Deep n = cc in
+    let told = c.refusal.ensures.deep n is in
+    (told.0, subst (λ (r : Run). 1001 < r.level) same_run (c.in-Err.ensures.deep told.1))

@@ -1,0 +1,43 @@
+-- What the plain machine is to the contracts of machines, and what it is for it to stand for its program.
+use Rattle.std.specs.Prelude.{ℕ, ◌≡◌, ◌≤◌, List, refl}
+use Rattle.stream_type.specs.StreamType.{StreamType, type_of}
+use Rattle.event_word.specs.StreamEvent.{StreamEvent}
+use Rattle.core_term.specs.CoreTerm.{CoreProgram, core_of}
+use Rattle.delta_state.specs.StateTree.{StateTree}
+use Rattle.delta_state.specs.PlainState.{without_marks}
+use Rattle.delta_state.specs.PlaceTree.{place_at}
+use Rattle.delta_state.specs.MachineView.{MachineView, StandsAfter, input_of}
+use Rattle.main_steps.specs.Keeping.{Keeps}
+use Rattle.delta_step.specs.Marked.{state_in}
+use Rattle.delta_step.specs.AwaitedTree.{AwaitedTree, awaited_in, left_of, place_in}
+use Rattle.delta_step.specs.declared.machine.Tree.{Tree}
+
+-- its program, its state without marks, its place, and what it counts
+abbrev pub view_of : Tree → MachineView
+view_of m = record { program = core_of m.core.value; budget = m.budget; state = without_marks (state_in m.state.value); place = place_in (awaited_in m.awaited.value); events = m.events; spent = m.spent }
+
+-- after the word, a machine of the program c with this state, awaiting so much, with this left of the types of its
+-- input and its output, keeps what it has to
+pub record KeepsAll (c : CoreProgram) (budget : ℕ) (s : StateTree) (a : AwaitedTree) (input output : StreamType) (events spent : ℕ) (word : List StreamEvent) : Type 0 where
+  pub keeps : Keeps c s (input_of c word) input output events word
+  pub awaits : a ≡ left_of c.main.params (input_of c word)
+  pub is_place : place_in a ≡ place_at c.main.params (input_of c word)
+  pub in_budget : spent ≤ budget
+  pub in_limit : budget ≤ 1000000
+
+-- it stands for its program after the word
+abbrev pub TreeStands : Tree → List StreamEvent → Type 0
+TreeStands m word = KeepsAll (core_of m.core.value) m.budget (state_in m.state.value) (awaited_in m.awaited.value) (type_of m.input.value) (type_of m.output.value) m.events m.spent word
+
+-- and so as machines have to
+abbrev pub tree_stands_after : (m : Tree) (word : List StreamEvent) → TreeStands m word → StandsAfter (view_of m) word
+tree_stands_after m word s = record {
+  is_word = s.keeps.is_word;
+  marked = state_in m.state.value;
+  is_state = refl;
+  stands_for = s.keeps.stands_for;
+  is_place = s.is_place;
+  is_count = s.keeps.is_count;
+  in_budget = s.in_budget;
+  in_limit = s.in_limit;
+}
