@@ -1,7 +1,6 @@
 //! Whole runs over a shelf, a link and a sink in memory.
 
-use crate::outside::{are_written, pieces, words};
-use delta_run::delta;
+use crate::outside::{are_written, outcome, pieces, words};
 use port::{MemLink, MemShelf, MemSink};
 use std::alloc::Global;
 use std::test::Fail;
@@ -89,7 +88,7 @@ fn holds(alloc: Global, row: &Row) -> Result<bool, Fail> {
     let mut shelf = shelf_of(alloc, row.text)?;
     let mut link = link_of(alloc, row)?;
     let mut notes = MemSink::new(alloc, row.fail_notes.to_vec(alloc)?);
-    let status = delta(alloc, &given, &mut shelf, &mut link, &mut notes);
+    let status = outcome(alloc, &given, &mut shelf, &mut link, &mut notes);
     let told = notes.bytes() == row.note && status == row.status;
     Ok(are_written(alloc, &link, row.output)? && told)
 }
@@ -254,7 +253,7 @@ const FAULTS: &[Row] = &[
     },
     Row {
         text: b"main(x : Int, y : 1) : Int || Int = (y, x)\n",
-        note: b"delta: program refused\n",
+        note: b"delta: program refused: Mismatch at 37\n",
         status: 3,
         ..NONE
     },
@@ -274,6 +273,26 @@ const FAULTS: &[Row] = &[
         ..ROW
     },
     Row {
+        text: DOUBLE,
+        input: THREE,
+        piece: 17,
+        fail_reads: &[1],
+        output: b"DEV1\0\x15\x01\x03\x11\0\0\0\0\0\0\0\x06\0\x14",
+        note: b"delta: outside fault: input\n",
+        status: 7,
+        ..ROW
+    },
+    Row {
+        text: DOUBLE,
+        input: THREE,
+        most: 4,
+        fail_writes: &[2],
+        output: b"DEV1\0\x15\x01\x03",
+        note: b"delta: outside fault: output\n",
+        status: 7,
+        ..ROW
+    },
+    Row {
         input: b"DEV1",
         fail_notes: &[0],
         status: 7,
@@ -286,6 +305,10 @@ fn faults_are_told(rt: HostRuntime) -> Result<(), Fail> {
     assert_eq!(rt; first_wrong(rt.alloc(), FAULTS)?, None);
     Ok(())
 }
+
+const IN_TURN: &[u8] = b"main(x : Int; y : Int) : Int . Int = (x; y)";
+
+const IN_TURN_FRAMES: &[u8] = b"DEV2\x01\xc0\x11\0\0\0\0\0\0\0\x01\0\x14\0\x11\0\0\0\0\0\0\0\x02";
 
 const LONG: Row = Row {
     text: SWAP,
@@ -302,6 +325,34 @@ const LONG_FRAMES: &[Row] = &[
     Row {
         words: "run --v2 --budget=5 -- program",
         ..LONG
+    },
+    Row {
+        words: "run program --v2",
+        text: IN_TURN,
+        input: IN_TURN_FRAMES,
+        output: IN_TURN_FRAMES,
+        ..ROW
+    },
+    Row {
+        text: IN_TURN,
+        input: b"DEV2\x01\xc1",
+        note: b"delta: input refused: BadStep at 5\n",
+        status: 4,
+        ..ROW
+    },
+    Row {
+        text: IN_TURN,
+        input: b"DEV2\x01\0",
+        note: b"delta: input refused: BadStep at 5\n",
+        status: 4,
+        ..ROW
+    },
+    Row {
+        text: IN_TURN,
+        input: b"DEV2\x40",
+        note: b"delta: input refused: LongPath at 4\n",
+        status: 4,
+        ..ROW
     },
 ];
 
@@ -488,6 +539,17 @@ const WIDE_OUTPUTS: &[Row] = &[
         text: b"main() : Int******************************** = nil",
         output: b"",
         note: b"delta: program refused: WideOutput at 0\n",
+        status: 3,
+        ..WIDE
+    },
+    Row {
+        words: "run program --v2",
+        ..WIDE
+    },
+    Row {
+        words: "run program",
+        output: b"",
+        note: b"delta: program refused: WideOutput at 53\n",
         status: 3,
         ..WIDE
     },

@@ -1,8 +1,7 @@
 //! Programs evaluated on inputs and their fronts. Inputs and outputs are event lines; each output was
 //! worked out by hand.
 
-use crate::outside::{link, words, written};
-use delta_run::delta;
+use crate::outside::{link, outcome, words, written};
 use port::{MemShelf, MemSink};
 use std::alloc::Global;
 use std::test::Fail;
@@ -57,7 +56,7 @@ fn run(alloc: Global, line: &str, text: &str, input: &[u8]) -> Result<(u8, Vec<u
     let mut shelf = shelf_of(alloc, text)?;
     let mut link = link(alloc, input, 4096, 4096)?;
     let mut notes = MemSink::new(alloc, Vec::new(alloc));
-    let status = delta(alloc, &given, &mut shelf, &mut link, &mut notes);
+    let status = outcome(alloc, &given, &mut shelf, &mut link, &mut notes);
     Ok((status, written(alloc, &link)?))
 }
 

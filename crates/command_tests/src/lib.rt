@@ -10,6 +10,8 @@ mod examples;
 #[cfg(test)]
 mod outside;
 #[cfg(test)]
+mod runs;
+#[cfg(test)]
 mod sources;
 #[cfg(test)]
 mod words;

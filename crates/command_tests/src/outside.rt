@@ -1,6 +1,8 @@
 //! What a command is given, and what it writes.
 
-use port::{Link, MemLink, Move};
+use delta_run::delta;
+use delta_step::Tree;
+use port::{Link, MemLink, MemShelf, MemSink, Move};
 use std::alloc::Global;
 use std::test::Fail;
 
@@ -45,4 +47,15 @@ pub fn written(alloc: Global, link: &MemLink) -> Result<Vec<u8>, Fail> {
 pub fn are_written(alloc: Global, link: &MemLink, output: &[u8]) -> Result<bool, Fail> {
     let bytes = written(alloc, link)?;
     Ok(bytes.as_slice() == output)
+}
+
+/// The status of a command line, with programs run on the plain machine.
+pub fn outcome(
+    alloc: Global,
+    words: &[String],
+    shelf: &mut MemShelf,
+    link: &mut MemLink,
+    notes: &mut MemSink,
+) -> u8 {
+    delta::<Tree, _, _, _>(alloc, words, shelf, link, notes)
 }

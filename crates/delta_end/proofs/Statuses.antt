@@ -4,7 +4,7 @@ use Rattle.port.specs.declared.fault.IoFault.{IoFault}
 use Rattle.port.specs.declared.fault.IoFault.TheVariants.{Memory as NoMemory, Failed}
 use Rattle.port.specs.Faults.{HasCause, Rose}
 use Rattle.delta_end.specs.declared.end.End.{End}
-use Rattle.delta_end.specs.declared.end.End.TheVariants.{Done, Usage, Refused, Input, Budget, Open, FileFailed, ReadFailed, WriteFailed, Memory, Long}
+use Rattle.delta_end.specs.declared.end.End.TheVariants.{Done, Usage, Refused, Input, Budget, Deep, Open, FileFailed, ReadFailed, WriteFailed, Memory, Long}
 use Rattle.delta_end.specs.End.{FileCause, ReadCause, WriteCause, IsOfLoop, status_of, status_without_note}
 use Rattle.delta_end.specs.Status.{AnswerOf, IsStatus, IsStill}
 use Rattle.delta_end.specs.Note.{Says}
@@ -16,6 +16,7 @@ file_stands Usage before now loop same = absurd loop
 file_stands (Refused why) before now loop same = absurd loop
 file_stands (Input fault) before now loop same = same
 file_stands (Budget at) before now loop same = same
+file_stands (Deep at) before now loop same = same
 file_stands Open before now loop same = same
 file_stands FileFailed before now loop same = absurd loop
 file_stands ReadFailed before now loop same = same
@@ -34,6 +35,7 @@ outside_rose Usage file0 file1 read0 read1 write0 write1 is file read write = ab
 outside_rose (Refused why) file0 file1 read0 read1 write0 write1 is file read write = absurd (omega arith)
 outside_rose (Input fault) file0 file1 read0 read1 write0 write1 is file read write = absurd (omega arith)
 outside_rose (Budget at) file0 file1 read0 read1 write0 write1 is file read write = absurd (omega arith)
+outside_rose (Deep at) file0 file1 read0 read1 write0 write1 is file read write = absurd (omega arith)
 outside_rose Open file0 file1 read0 read1 write0 write1 is file read write = absurd (omega arith)
 outside_rose Memory file0 file1 read0 read1 write0 write1 is file read write = absurd (omega arith)
 outside_rose Long file0 file1 read0 read1 write0 write1 is file read write = absurd (omega arith)
@@ -46,6 +48,7 @@ outside_still Usage file0 file1 read0 read1 write0 write1 file read write = inr 
 outside_still (Refused why) file0 file1 read0 read1 write0 write1 file read write = inr (file, read, write)
 outside_still (Input fault) file0 file1 read0 read1 write0 write1 file read write = inr (file, read, write)
 outside_still (Budget at) file0 file1 read0 read1 write0 write1 file read write = inr (file, read, write)
+outside_still (Deep at) file0 file1 read0 read1 write0 write1 file read write = inr (file, read, write)
 outside_still Open file0 file1 read0 read1 write0 write1 file read write = inr (file, read, write)
 outside_still FileFailed file0 file1 read0 read1 write0 write1 file read write = inl refl
 outside_still ReadFailed file0 file1 read0 read1 write0 write1 file read write = inl refl
@@ -66,6 +69,7 @@ seven_stays Usage seven = seven
 seven_stays (Refused why) seven = seven
 seven_stays (Input fault) seven = seven
 seven_stays (Budget at) seven = seven
+seven_stays (Deep at) seven = seven
 seven_stays Open seven = refl
 seven_stays FileFailed seven = seven
 seven_stays ReadFailed seven = seven
@@ -170,6 +174,7 @@ two_is_usage end status note0 note1 (inl is) two = by_end end (sym is.1 ∙ two)
     by_end (Refused why) two = absurd (omega arith)
     by_end (Input fault) two = absurd (omega arith)
     by_end (Budget at) two = absurd (omega arith)
+    by_end (Deep at) two = absurd (omega arith)
     by_end Open two = absurd (omega arith)
     by_end FileFailed two = absurd (omega arith)
     by_end ReadFailed two = absurd (omega arith)
@@ -184,6 +189,7 @@ two_is_usage end status note0 note1 (inr (inl sink)) two = by_end end (sym sink.
     by_end (Refused why) two = absurd (omega arith)
     by_end (Input fault) two = absurd (omega arith)
     by_end (Budget at) two = absurd (omega arith)
+    by_end (Deep at) two = absurd (omega arith)
     by_end Open two = absurd (omega arith)
     by_end FileFailed two = absurd (omega arith)
     by_end ReadFailed two = absurd (omega arith)

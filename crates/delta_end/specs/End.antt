@@ -2,7 +2,7 @@
 use Rattle.std.specs.Prelude.{◌≡◌, ℕ, ⊤}
 use Rattle.port.specs.Faults.{Rose}
 use Rattle.delta_end.specs.declared.end.End.{End}
-use Rattle.delta_end.specs.declared.end.End.TheVariants.{Done, Usage, Refused, Input, Budget, Open, FileFailed, ReadFailed, WriteFailed, Memory, Long}
+use Rattle.delta_end.specs.declared.end.End.TheVariants.{Done, Usage, Refused, Input, Budget, Deep, Open, FileFailed, ReadFailed, WriteFailed, Memory, Long}
 
 -- the exit status
 abbrev pub status_of : End → ℕ
@@ -11,6 +11,7 @@ status_of Usage = 2
 status_of (Refused why) = 3
 status_of (Input fault) = 4
 status_of (Budget at) = 5
+status_of (Deep at) = 5
 status_of Open = 6
 status_of FileFailed = 7
 status_of ReadFailed = 7
@@ -38,10 +39,9 @@ abbrev pub WriteCause : End → ℕ → ℕ → Type 0
 WriteCause WriteFailed before now = Rose before now
 WriteCause end before now = now ≡ before
 
--- an end that the loop can come to, once the program runs; no program that it runs makes calls yet
+-- an end that the loop can come to, once the program was made
 abbrev pub IsOfLoop : End → Type 0
 IsOfLoop Usage = ⊥
 IsOfLoop (Refused why) = ⊥
-IsOfLoop (Budget at) = ⊥
 IsOfLoop FileFailed = ⊥
 IsOfLoop end = ⊤

@@ -8,11 +8,11 @@ use Rattle.event_frame.specs.declared.fault.FrameFault.TheVariants.{BadMagic, Lo
 use Rattle.event_text.specs.declared.fault.LineFault.{LineFault}
 use Rattle.event_text.specs.declared.fault.LineFault.TheVariants.{BadWord, BigNumber as BigNumberOfLine, LongPath as LongPathOfLine, NoLeaf, Extra}
 use Rattle.delta_end.specs.declared.refusal.RefusalName.{RefusalName}
-use Rattle.delta_end.specs.declared.refusal.RefusalName.TheVariants.{LongText, BadUtf8, BadChar, BigNumber, Deep, Expected, Twice, Many, NoMain, Unbound, NoFunction, NoType, TooTall, TooWide, Mismatch, OutOfOrder, Jumpy, WaitNull, Arity, History, NotStream, WideOutput}
+use Rattle.delta_end.specs.declared.refusal.RefusalName.TheVariants.{LongText, BadUtf8, BadChar, BigNumber, Deep as DeepMarks, Expected, Twice, Many, NoMain, Unbound, NoFunction, NoType, TooTall, TooWide, Mismatch, OutOfOrder, Jumpy, WaitNull, Arity, History, NotStream, WideOutput}
 use Rattle.delta_end.specs.declared.end.InputFault.{InputFault}
 use Rattle.delta_end.specs.declared.end.InputFault.TheVariants.{Frame, Event, Line, LongLine}
 use Rattle.delta_end.specs.declared.end.End.{End}
-use Rattle.delta_end.specs.declared.end.End.TheVariants.{Done, Usage, Refused, Input, Budget, Open, FileFailed, ReadFailed, WriteFailed, Memory, Long}
+use Rattle.delta_end.specs.declared.end.End.TheVariants.{Done, Usage, Refused, Input, Budget, Deep, Open, FileFailed, ReadFailed, WriteFailed, Memory, Long}
 
 -- the name of a fault of frames
 abbrev pub frame_name : FrameFault → List ℕ
@@ -61,7 +61,7 @@ refusal_name LongText = codes "LongText"
 refusal_name BadUtf8 = codes "BadUtf8"
 refusal_name BadChar = codes "BadChar"
 refusal_name BigNumber = codes "BigNumber"
-refusal_name Deep = codes "Deep"
+refusal_name DeepMarks = codes "Deep"
 refusal_name Expected = codes "Expected"
 refusal_name Twice = codes "Twice"
 refusal_name Many = codes "Many"
@@ -92,6 +92,7 @@ note_of (Refused None) = codes "delta: program refused\n"
 note_of (Refused (Some why)) = refusal_note (codes "delta: program refused: ") (refusal_name why.name) why.at
 note_of (Input fault) = refusal_note (codes "delta: input refused: ") (name_of fault) (place_of fault)
 note_of (Budget at) = refusal_note (codes "delta: stopped: ") (codes "Budget") at
+note_of (Deep at) = refusal_note (codes "delta: stopped: ") (codes "Deep") at
 note_of Open = codes "delta: input open\n"
 note_of FileFailed = codes "delta: outside fault: file\n"
 note_of ReadFailed = codes "delta: outside fault: input\n"

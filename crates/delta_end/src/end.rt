@@ -32,9 +32,11 @@ pub enum End {
     Refused(Option<Refusal>),
     /// The input is refused.
     Input(InputFault),
-    /// The program makes more calls than its budget allows. The number is the place of the frame whose
-    /// event was in hand, and 0 where none was.
+    /// The program makes more calls than its budget allows: for one event, at its start, or in an
+    /// evaluation. The number is the place of the frame whose event was in hand, and 0 where none was.
     Budget(u64),
+    /// The program makes a call at too great a level. The number is that of `Budget`.
+    Deep(u64),
     /// The input ended between two frames, and its type awaits more.
     Open,
     /// The program's file couldn't be read.
@@ -59,7 +61,7 @@ impl End {
             End::Usage => 2,
             End::Refused(_) => 3,
             End::Input(_) => 4,
-            End::Budget(_) => 5,
+            End::Budget(_) | End::Deep(_) => 5,
             End::Open => 6,
             End::FileFailed | End::ReadFailed | End::WriteFailed => 7,
             End::Memory => 8,

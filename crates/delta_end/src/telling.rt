@@ -132,6 +132,7 @@ pub fn note<N: Sink>(sink: &mut N, end: End) -> Result<(), IoFault>
         End::Refused(Some(why)) => say_why(sink, why),
         End::Input(fault) => say_fault(sink, fault),
         End::Budget(at) => say_refusal(sink, b"delta: stopped: ", b"Budget", at),
+        End::Deep(at) => say_refusal(sink, b"delta: stopped: ", b"Deep", at),
         End::Open => say(sink, b"delta: input open\n"),
         End::FileFailed => say(sink, b"delta: outside fault: file\n"),
         End::ReadFailed => say(sink, b"delta: outside fault: input\n"),

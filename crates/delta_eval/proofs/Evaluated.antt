@@ -24,7 +24,7 @@ use Rattle.delta_meaning.proofs.WholePrograms.{core_keeps_meaning}
 use Rattle.delta_meaning.proofs.KeptTypes.{elaborated_has_types}
 use Rattle.delta_elab.specs.Accepted.{IsAccepted}
 use Rattle.delta_end.specs.declared.end.End.{End}
-use Rattle.delta_end.specs.declared.end.End.TheVariants.{Done, Usage, Refused, Input, Budget, Open, FileFailed, ReadFailed, WriteFailed, Memory, Long}
+use Rattle.delta_end.specs.declared.end.End.TheVariants.{Done, Usage, Refused, Input, Budget, Deep, Open, FileFailed, ReadFailed, WriteFailed, Memory, Long}
 use Rattle.delta_loop.specs.Output.{due, accepted}
 use Rattle.delta_loop.specs.History.{History, Writes}
 use Rattle.delta_loop.specs.Return.{Begins}
@@ -34,7 +34,8 @@ use Rattle.delta_loop.proofs.Lefts.{loses_nothing}
 use Rattle.delta_eval.specs.Gathering.{gathering, Gathers}
 use Rattle.delta_eval.specs.Evaluating.{input_of, meaning, calls_on, evaluation, left, ends_well, end_of, IsWhole, MayEnd, Evaluates}
 use Rattle.delta_eval.specs.declared.gathering.Gathering.{Gathering}
-use Rattle.delta_eval.proofs.Gathered.{due_none, is_word, accepts_all}
+use Rattle.delta_loop.proofs.Unstopped.{no_costly, no_deep}
+use Rattle.delta_eval.proofs.Gathered.{due_none, is_word, accepts_all, makes_no_calls}
 
 -- what an accepted program says is a prefix of its result's type
 pub says_prefix : (p : ProgramTree) (c : CoreProgram) → IsAccepted p c → (q : StreamPrefix) → IsPrefix (as_type c.main.params) q → IsPrefix c.main.result (mean p q)
@@ -114,7 +115,8 @@ module _ (p : ProgramTree) (budget : ℕ) (v : Version) (old mid : Option (List 
   ends_unwell Long unwell m to = as_evaluation Long Long to.ran (to.ran.at.may.0, to.ran.at.may.1, to.ran.at.may.2 ∙ due_none s (take (2 ^ 40) to.ran.input))
   ends_unwell Usage unwell m to = absurd to.ran.at.may
   ends_unwell (Refused why) unwell m to = absurd to.ran.at.may
-  ends_unwell (Budget at) unwell m to = absurd to.ran.at.may
+  ends_unwell (Budget at) unwell m to = absurd (no_costly (gathering s) (makes_no_calls s) to.ran.input to.ran.at.written at to.ran.at.may)
+  ends_unwell (Deep at) unwell m to = absurd (no_deep (gathering s) (makes_no_calls s) to.ran.input to.ran.at.written at to.ran.at.may)
   ends_unwell FileFailed unwell m to = absurd to.ran.at.may
 
   -- a run whose input ended well: the input, and what is left of its type
@@ -145,7 +147,8 @@ module _ (p : ProgramTree) (budget : ℕ) (v : Version) (old mid : Option (List 
       }
   well_of Usage well ran = absurd ran.at.may
   well_of (Refused why) well ran = absurd ran.at.may
-  well_of (Budget at) well ran = absurd ran.at.may
+  well_of (Budget at) well ran = absurd (no_costly (gathering s) (makes_no_calls s) ran.input ran.at.written at ran.at.may)
+  well_of (Deep at) well ran = absurd (no_deep (gathering s) (makes_no_calls s) ran.input ran.at.written at ran.at.may)
   well_of FileFailed well ran = absurd ran.at.may
   well_of (Input fault) well ran = absurd (let none : ⊥ = cc well in none)
   well_of ReadFailed well ran = absurd (let none : ⊥ = cc well in none)
@@ -159,7 +162,8 @@ module _ (p : ProgramTree) (budget : ℕ) (v : Version) (old mid : Option (List 
     stands Open well to = to.state tt
     stands Usage well to = absurd to.ran.at.may
     stands (Refused why) well to = absurd to.ran.at.may
-    stands (Budget at) well to = absurd to.ran.at.may
+    stands (Budget at) well to = absurd (no_costly (gathering s) (makes_no_calls s) to.ran.input to.ran.at.written at to.ran.at.may)
+    stands (Deep at) well to = absurd (no_deep (gathering s) (makes_no_calls s) to.ran.input to.ran.at.written at to.ran.at.may)
     stands FileFailed well to = absurd to.ran.at.may
     stands (Input fault) well to = absurd (let none : ⊥ = cc well in none)
     stands ReadFailed well to = absurd (let none : ⊥ = cc well in none)

@@ -1,5 +1,5 @@
 -- What a run that gathers an input finds and writes.
-use Rattle.std.proofs.Common.{◌≡◌, ◌∙◌, ℕ, List, [], ◌∷◌, ◌++◌, Bool, Option, Some, None, refl, sym, ap, subst}
+use Rattle.std.proofs.Common.{◌≡◌, ◌∙◌, ℕ, List, [], ◌∷◌, ◌++◌, Bool, true, Option, Some, None, refl, sym, ap, subst}
 use Rattle.stream_type.specs.StreamType.{StreamType, type_of, null_of}
 use Rattle.event_word.specs.StreamEvent.{StreamEvent}
 use Rattle.event_word.specs.declared.fault.EventFault.{EventFault}
@@ -11,11 +11,15 @@ use Rattle.event_word.proofs.Words.{after_word-push, after_word-pre, word_push}
 use Rattle.event_frame.specs.Reading.{whole}
 use Rattle.delta_end.specs.declared.end.InputFault.{InputFault}
 use Rattle.delta_end.specs.declared.end.InputFault.TheVariants.{Event}
-use Rattle.delta_loop.specs.Meaning.{Meaning}
+use Rattle.delta_loop.specs.Meaning.{Meaning, MakesNoCalls}
 use Rattle.delta_loop.specs.Finding.{fault_or, place_in, event_finding, finding}
 use Rattle.delta_loop.specs.Output.{answers_after, due, accepted, accepted_after, up_to_fault}
 use Rattle.delta_eval.specs.Gathering.{gathering, Gathers}
 use Rattle.delta_eval.specs.declared.gathering.Gathering.{Gathering}
+
+-- no call is made
+pub makes_no_calls : (s : StreamType) → MakesNoCalls (gathering s)
+makes_no_calls s = record { calls = λ word. refl; level = λ word. refl }
 
 -- nothing is written
 answers_none : (s : StreamType) (before word : List StreamEvent) → answers_after (gathering s) before word ≡ []
@@ -70,3 +74,6 @@ answers_nothing now P word x is = ap (λ (Q : Meaning). Q.answer word x) is.mean
 
 pub finishes_here : (now : Gathering) (P : Meaning) (word : List StreamEvent) → Gathers now P word → P.finishes word ≡ null_of (type_of now.rest)
 finishes_here now P word is = ap (λ (Q : Meaning). Q.finishes word) is.means ∙ ap null_of (sym is.rest)
+
+pub whole_here : (now : Gathering) (P : Meaning) (word : List StreamEvent) → Gathers now P word → P.is_whole word ≡ true
+whole_here now P word is = ap (λ (Q : Meaning). Q.is_whole word) is.means

@@ -18,7 +18,7 @@ use Rattle.delta_meaning.specs.SourceMeaning.{mean, calls_of}
 use Rattle.delta_meaning.specs.declared.refusal.EvalRefusal.{EvalRefusal}
 use Rattle.delta_meaning.specs.declared.refusal.EvalRefusal.TheVariants as refusals
 use Rattle.delta_end.specs.declared.end.End.{End}
-use Rattle.delta_end.specs.declared.end.End.TheVariants.{Done, Usage, Refused, Input, Budget, Open, FileFailed, ReadFailed, WriteFailed, Memory, Long}
+use Rattle.delta_end.specs.declared.end.End.TheVariants.{Done, Usage, Refused, Input, Budget, Deep, Open, FileFailed, ReadFailed, WriteFailed, Memory, Long}
 use Rattle.delta_loop.specs.Finding.{finding}
 use Rattle.delta_loop.specs.History.{History, IsUntouched}
 use Rattle.delta_loop.specs.Return.{Begins}
@@ -65,6 +65,7 @@ MayEnd p budget v input ended written Done = IsWithinBudget p budget input ended
 MayEnd p budget v input ended written Open = IsWithinBudget p budget input ended × (null_of (left p input) ≡ false) × (written ≡ evaluation p v (whole input))
 MayEnd p budget v input ended written (Input fault) = (finding (gathering (input_of p)) input ended ≡ Some fault) × (written ≡ [])
 MayEnd p budget v input ended written (Budget at) = IsWhole p input ended × (budget < calls_on p (whole input)) × (written ≡ []) × (at ≡ 0)
+MayEnd p budget v input ended written (Deep at) = ⊥
 MayEnd p budget v input ended written ReadFailed = written ≡ []
 MayEnd p budget v input ended written WriteFailed = WritesFront p budget v input ended written
 MayEnd p budget v input ended written Memory = WritesFront p budget v input ended written

@@ -1,5 +1,5 @@
 -- A good input has no fault, and neither has a part of it; so a run over it ends well.
-use Rattle.std.proofs.Common.{◌≡◌, ◌⊎◌, inl, inr, ℕ, List, [], ◌++◌, Bool, true, false, Option, Some, None, length, ◌∙◌, ap, sym, refl, subst, arith, length-append, Result, Ok, Err}
+use Rattle.std.proofs.Common.{◌≡◌, ◌⊎◌, inl, inr, ℕ, List, [], ◌∷◌, ◌++◌, append_assoc, Bool, true, false, Option, Some, None, length, ◌∙◌, ap, sym, refl, subst, arith, length-append, Result, Ok, Err}
 use Rattle.port.specs.declared.link.Move.{Move}
 use Rattle.port.specs.declared.fault.IoFault.{IoFault}
 use Rattle.port.specs.declared.fault.IoFault.TheVariants.{Memory as NoMemory, Failed}
@@ -10,14 +10,14 @@ use Rattle.event_frame.specs.Reading.{whole, ending, Ending, Whole, Inside, Bad,
 use Rattle.event_frame.proofs.FrameLaws.{frames_are_read}
 use Rattle.event_frame.proofs.MoreBytes.{more_bytes}
 use Rattle.delta_end.specs.declared.end.End.{End}
-use Rattle.delta_end.specs.declared.end.End.TheVariants.{Done, Usage, Refused, Input, Budget, Open, FileFailed, ReadFailed, WriteFailed, Memory, Long}
-use Rattle.delta_loop.specs.Meaning.{Meaning}
+use Rattle.delta_end.specs.declared.end.End.TheVariants.{Done, Usage, Refused, Input, Budget, Deep, Open, FileFailed, ReadFailed, WriteFailed, Memory, Long}
+use Rattle.delta_loop.specs.Meaning.{Meaning, StartsCostly, StartsDeep, IsCostly, IsDeep}
 use Rattle.delta_loop.specs.Output.{accepted, output, due}
 use Rattle.delta_loop.specs.Finding.{finding, byte_finding}
-use Rattle.delta_loop.specs.Return.{Begins}
+use Rattle.delta_loop.specs.Return.{Begins, StopsFirst, StopsAt}
 use Rattle.delta_loop.specs.Loop.{Ran}
 use Rattle.delta_end.specs.End.{ReadCause, WriteCause, IsOfLoop, status_of}
-use Rattle.delta_loop.specs.Answer.{Adds, IsGood, WroteAll}
+use Rattle.delta_loop.specs.Answer.{Adds, IsGood, IsCheap, WroteAll}
 use Rattle.delta_end.specs.Status.{AnswerOf, IsStill}
 use Rattle.delta_loop.proofs.Outputs.{accepted_front}
 use Rattle.delta_loop.proofs.Findings.{finding_all}
@@ -54,13 +54,33 @@ module _ (P : Meaning) (v : Version) (all : List ℕ) (word : List StreamEvent) 
         by_end Inside true is used_up = let clash : Inside ≡ Whole = sym is ∙ ap ending (sym (used_up refl)) ∙ ending_good in cc
         by_end (Bad fault) ended is used_up = let clash : Bad fault ≡ Whole = sym ((more_bytes input rest).1 fault is).1 ∙ ap ending (sym split) ∙ ending_good in cc
 
+    -- an event of its front is one of the word
+    pub event_in : (before : List StreamEvent) (x : StreamEvent) (more : List StreamEvent) → whole input ≡ before ++ x ∷ more → (after : List StreamEvent) × (word ≡ before ++ x ∷ after)
+    event_in before x more is =
+        let begins = part_begins in
+        (more ++ begins.0, begins.1 ∙ ap (λ (w : List StreamEvent). w ++ begins.0) is ∙ append_assoc before (x ∷ more) begins.0)
+
+-- a good input whose word is cheap doesn't stop the program
+module _ (P : Meaning) (v : Version) (all : List ℕ) (word : List StreamEvent) (good : IsGood P v all word) (cheap : IsCheap P word) (input rest : List ℕ) (split : all ≡ input ++ rest) (written : List ℕ) (at : ℕ) where
+  pub not_costly : StopsFirst P (StartsCostly P) input written at ⊎ StopsAt P (IsCostly P) input written at → ⊥
+  not_costly (inl stop) = omega (arith, stop.why, cheap.start_calls)
+  not_costly (inr stop) =
+      let there = event_in P v all word good input rest split stop.word stop.event stop.more stop.came in
+      omega (arith, stop.why, cheap.calls stop.word there.0 stop.event there.1)
+
+  pub not_deep : StopsFirst P (StartsDeep P) input written at ⊎ StopsAt P (IsDeep P) input written at → ⊥
+  not_deep (inl stop) = omega (arith, stop.why, cheap.start_level)
+  not_deep (inr stop) =
+      let there = event_in P v all word good input rest split stop.word stop.event stop.more stop.came in
+      omega (arith, stop.why, cheap.level stop.word there.0 stop.event there.1)
+
 -- how a run over a good input ends: with all written, or for want of memory
 pub data EndsWell (old new : Option (List Move)) (Q : List Move → Type 0) : End → Type 0 where
   is_done : Adds old new Q → EndsWell old new Q Done
   is_open : Adds old new Q → EndsWell old new Q Open
   is_wanting : EndsWell old new Q Memory
 
-module _ (P : Meaning) (v : Version) (all : List ℕ) (word : List StreamEvent) (good : IsGood P v all word) (old new : Option (List Move)) (left0 left1 : Option (List ℕ)) (tells : left0 ≡ Some all) where
+module _ (P : Meaning) (v : Version) (all : List ℕ) (word : List StreamEvent) (good : IsGood P v all word) (cheap : IsCheap P word) (old new : Option (List Move)) (left0 left1 : Option (List ℕ)) (tells : left0 ≡ Some all) where
   -- what was due was written, where the input ended
   pub wrote_all : (end : End) (ran : Ran P old new left0 left1 end) → ran.ended ≡ true → ran.at.written ≡ due P ran.input → Adds old new (WroteAll P word)
   wrote_all end ran ended written told is =
@@ -74,7 +94,8 @@ module _ (P : Meaning) (v : Version) (all : List ℕ) (word : List StreamEvent) 
   good_end Memory loop ran read0 read1 write0 write1 read_still write_still read write = is_wanting
   good_end Usage loop ran read0 read1 write0 write1 read_still write_still read write = absurd loop
   good_end (Refused why) loop ran read0 read1 write0 write1 read_still write_still read write = absurd loop
-  good_end (Budget at) loop ran read0 read1 write0 write1 read_still write_still read write = absurd loop
+  good_end (Budget at) loop ran read0 read1 write0 write1 read_still write_still read write = absurd (not_costly P v all word good cheap ran.input (ran.taken all tells).0 (ran.taken all tells).2 ran.at.written at ran.at.may)
+  good_end (Deep at) loop ran read0 read1 write0 write1 read_still write_still read write = absurd (not_deep P v all word good cheap ran.input (ran.taken all tells).0 (ran.taken all tells).2 ran.at.written at ran.at.may)
   good_end FileFailed loop ran read0 read1 write0 write1 read_still write_still read write = absurd loop
   good_end ReadFailed loop ran read0 read1 write0 write1 read_still write_still read write = absurd (not_rose read0 read1 read read_still)
   good_end WriteFailed loop ran read0 read1 write0 write1 read_still write_still read write = absurd (not_rose write0 write1 write write_still)

@@ -21,7 +21,7 @@ whether_one [] = false
 whether_one (x ∷ word) = true
 
 abbrev copy : Meaning
-copy = record { version = Some V1; fault = one_event; first = []; answer = λ word x. frame V1 x; finishes = whether_one }
+copy = record { version = Some V1; fault = one_event; first = []; answer = λ word x. frame V1 x; finishes = whether_one; is_whole = λ word. true; calls = λ word. 0; level = λ word. 0; budget = 0 }
 
 -- before any byte and after a header alone, the header is due
 due_for_nothing : due copy [] ≡ header V1

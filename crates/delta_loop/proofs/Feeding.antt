@@ -1,16 +1,16 @@
 -- One event, from what stood before it to what stands after it.
-use Rattle.std.proofs.Common.{◌≡◌, ℕ, List, [], ◌∷◌, ◌++◌, false, Option, Some, None, ◌∙◌, ap, sym, subst, append_assoc, append-nil}
+use Rattle.std.proofs.Common.{◌≡◌, inr, ℕ, refl, List, [], ◌∷◌, ◌++◌, false, Option, Some, None, ◌∙◌, ap, sym, subst, append_assoc, append-nil}
 use Rattle.port.specs.declared.link.Move.{Move}
 use Rattle.event_word.specs.StreamEvent.{StreamEvent}
 use Rattle.event_word.specs.declared.fault.EventFault.{EventFault}
 use Rattle.event_frame.specs.Reading.{whole}
 use Rattle.delta_end.specs.declared.end.InputFault.TheVariants.{Event}
-use Rattle.delta_end.specs.declared.end.End.TheVariants.{Input, WriteFailed, Memory}
-use Rattle.delta_loop.specs.Meaning.{Meaning, Stands}
+use Rattle.delta_end.specs.declared.end.End.TheVariants.{Input, Budget, Deep, WriteFailed, Memory}
+use Rattle.delta_loop.specs.Meaning.{Meaning, IsCostly, IsDeep}
 use Rattle.delta_loop.specs.Output.{accepted, output, due}
 use Rattle.delta_loop.specs.Finding.{place_in}
 use Rattle.delta_loop.specs.History.{History, Writes}
-use Rattle.delta_loop.specs.Return.{Begins}
+use Rattle.delta_loop.specs.Return.{Begins, StopsAt}
 use Rattle.delta_loop.specs.Loop.{Serves, Ended}
 use Rattle.delta_loop.proofs.Outputs.{output_more, accepted_more, accepted_stop, accepted_begins, output_begins}
 use Rattle.delta_loop.proofs.Findings.{finding_refused}
@@ -80,7 +80,23 @@ module _ {M : Type 0} (stands : M → Meaning → List StreamEvent → Type 0) (
     may = written_part_more x more bytes sent rest is may answer split;
   }
 
--- a machine that stands for a program after a word stands for some program
-pub still_stands : {M : Type 0} (stands : M → Meaning → List StreamEvent → Type 0) (m n : M) (word : StreamEvent) → Stands stands m
-    → ((P : Meaning) (before : List StreamEvent) → stands m P before → stands n P (before ++ word ∷ [])) → Stands stands n
-still_stands stands m n x before steps = record { program = before.program; word = before.word ++ x ∷ []; state = steps before.program before.word before.state }
+-- an event that stops the program, at the place of its frame
+module _ {M : Type 0} (stands : M → Meaning → List StreamEvent → Type 0) (P : Meaning) (start old : Option (List Move)) (m : M) (input : List ℕ) (word : List StreamEvent) (before : Serves stands P start old m input word)
+    (place : ℕ) (x : StreamEvent) (more : List StreamEvent) (is : whole input ≡ word ++ x ∷ more) (at : place ≡ place_in input word) (may : P.fault word x ≡ None) where
+  stops : (why : List StreamEvent → StreamEvent → Type 0) → why word x → StopsAt P why input (output P word) place
+  stops why stopped = record {
+    word = word;
+    event = x;
+    more = more;
+    came = is;
+    accepts = accepted_more P word x before.accepts may;
+    place = at;
+    before = refl;
+    why = stopped;
+  }
+
+  pub ended_costly : IsCostly P word x → Ended P start old input false (Budget place)
+  ended_costly costly = record { written = output P word; history = before.history; may = inr (stops (IsCostly P) costly) }
+
+  pub ended_deep : IsDeep P word x → Ended P start old input false (Deep place)
+  ended_deep deep = record { written = output P word; history = before.history; may = inr (stops (IsDeep P) deep) }

@@ -3,7 +3,7 @@ use Rattle.std.proofs.Common.{◌≡◌, ℕ, List, [], Bool, Option, Some, ◌�
 use Rattle.port.specs.declared.link.Move.{Move}
 use Rattle.port.specs.Moves.{bytes_read, bytes_written}
 use Rattle.delta_end.specs.declared.end.End.{End}
-use Rattle.delta_end.specs.declared.end.End.TheVariants.{Done, Usage, Refused, Input, Budget, Open, FileFailed, ReadFailed, WriteFailed, Memory, Long}
+use Rattle.delta_end.specs.declared.end.End.TheVariants.{Done, Usage, Refused, Input, Budget, Deep, Open, FileFailed, ReadFailed, WriteFailed, Memory, Long}
 use Rattle.delta_loop.specs.Meaning.{Meaning}
 use Rattle.delta_loop.specs.Output.{due}
 use Rattle.delta_loop.specs.Prompt.{has_ended, IsPrompt}
@@ -41,7 +41,8 @@ module _ (P : Meaning) (old new : Option (List Move)) (left0 left1 : Option (Lis
   returned (Refused why) loop ran = absurd loop
   returned (Input fault) loop ran = ran_may_end (Input fault) ran
   returned Open loop ran = ran_may_end Open ran
-  returned (Budget at) loop ran = absurd loop
+  returned (Budget at) loop ran = ran_may_end (Budget at) ran
+  returned (Deep at) loop ran = ran_may_end (Deep at) ran
   returned FileFailed loop ran = absurd loop
   returned ReadFailed loop ran = ran_may_end ReadFailed ran
   returned WriteFailed loop ran = ran_may_end WriteFailed ran

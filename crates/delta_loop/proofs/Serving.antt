@@ -53,12 +53,13 @@ module _ (P : Meaning) (input : List ℕ) (word : List StreamEvent) (accepts : a
   ends_cut fault is = (finding_all P input word true accepts all ∙ found_at_end (ending input) (length input) fault is, due_all P input word accepts all)
 
   -- the input ended between frames, and may end there
-  pub ends_done : fault_of (ending input) (length input) ≡ None → P.finishes word ≡ true → MayEnd P input true (output P word) Done
-  ends_done is finishes = (
+  pub ends_done : fault_of (ending input) (length input) ≡ None → P.finishes word ≡ true → P.is_whole word ≡ true → MayEnd P input true (output P word) Done
+  ends_done is finishes is_whole = (
     refl,
     finding_all P input word true accepts all ∙ none_at_end (ending input) (length input) is,
     ap P.finishes (ap (accepted P) all ∙ accepts) ∙ finishes,
     due_all P input word accepts all,
+    ap P.is_whole (ap (accepted P) all ∙ accepts) ∙ is_whole,
   )
 
   -- or may not

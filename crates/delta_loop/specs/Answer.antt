@@ -1,5 +1,5 @@
 -- What a run answers, and what stands behind it.
-use Rattle.std.specs.Prelude.{◌≡◌, ◌⊎◌, ℕ, ◌+◌, ◌^◌, ◌≤◌, List, [], ◌++◌, Option, Some, length}
+use Rattle.std.specs.Prelude.{◌≡◌, ◌⊎◌, ℕ, ◌+◌, ◌^◌, ◌≤◌, List, [], ◌∷◌, ◌++◌, Option, Some, length}
 use Rattle.port.specs.declared.link.Move.{Move}
 use Rattle.port.specs.Moves.{bytes_read, bytes_written}
 use Rattle.event_word.specs.StreamEvent.{StreamEvent}
@@ -34,12 +34,19 @@ pub record IsGood (P : Meaning) (v : Version) (all : List ℕ) (word : List Stre
   pub short : length all ≤ 2 ^ 40
   pub admitted : accepted P word ≡ word
 
+-- neither before any event nor at one of the word does the program make more calls than it may, or one at a level above 1,000
+pub record IsCheap (P : Meaning) (word : List StreamEvent) : Type 0 where
+  pub start_calls : P.calls [] ≤ P.budget
+  pub start_level : P.level [] ≤ 1000
+  pub calls : (before after : List StreamEvent) (x : StreamEvent) → word ≡ before ++ x ∷ after → P.calls (before ++ x ∷ []) ≤ P.calls before + P.budget
+  pub level : (before after : List StreamEvent) (x : StreamEvent) → word ≡ before ++ x ∷ after → P.level (before ++ x ∷ []) ≤ 1000
+
 -- the output of the word was written, and nothing else
 abbrev pub WroteAll : Meaning → List StreamEvent → List Move → Type 0
 WroteAll P word moves = bytes_written moves ≡ output P word
 
--- over an input that is good in whole, the run is done or open with all of the output written, or memory ran out
+-- over an input that is good in whole, with no event that stops the program, the run is done or open with all of the output written, or memory ran out
 abbrev pub IsComplete : Meaning → Option (List ℕ) → Option (List Move) → Option (List Move) → ℕ → Type 0
 IsComplete P left old new status =
-    (v : Version) (all : List ℕ) (word : List StreamEvent) → left ≡ Some all → IsGood P v all word
+    (v : Version) (all : List ℕ) (word : List StreamEvent) → left ≡ Some all → IsGood P v all word → IsCheap P word
     → (status ≡ 8) ⊎ (((status ≡ 0) ⊎ (status ≡ 6)) × Adds old new (WroteAll P word))

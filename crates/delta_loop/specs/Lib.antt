@@ -1,5 +1,6 @@
 -- What the contracts cite.
 pub mod Meaning
+pub mod Stopping
 pub mod Output
 pub mod Finding
 pub mod Prompt

@@ -22,6 +22,14 @@ given_to r = r.taken + length r.kept
 abbrev pub room_of : FrameReader → ℕ
 room_of r = length r.kept + r.spare
 
+-- a machine stands for some program after the events that the reader has answered
+pub record IsLive {M : Type 0} (stands : M → Meaning → List StreamEvent → Type 0) (machine : M) (reader : FrameReader) : Type 0 where
+  pub program : Meaning
+  pub word : List StreamEvent
+  pub state : stands machine program word
+  pub input : List ℕ
+  pub reads : Reads reader input word
+
 -- a reader that was given nothing, with room for all that a run keeps
 pub record IsFresh (r : FrameReader) : Type 0 where
   pub reads : Reads r [] []

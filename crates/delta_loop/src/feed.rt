@@ -1,12 +1,12 @@
 //! Takes the whole frames that came, and writes the answer to each.
 
-ghost use Rattle.std.specs.Prelude.{◌≡◌, ◌++◌, ◌≤◌, [], ◌∷◌, List, ℕ, Option, false, length, OnOk, IfErr, MatchResult};
+ghost use Rattle.std.specs.Prelude.{◌≡◌, ◌++◌, ◌≤◌, ◌^◌, [], ◌∷◌, List, ℕ, Option, false, length, OnOk, IfErr, MatchResult};
 ghost use Rattle.port.specs.declared.link.Move.{Move};
 ghost use Rattle.event_word.specs.StreamEvent.{StreamEvent};
 ghost use Rattle.event_frame.specs.Reading.{whole};
 ghost use Rattle.delta_end.specs.End.{IsOfLoop, ReadCause, WriteCause};
 ghost use Rattle.delta_loop.specs.Finding.{place_in};
-ghost use Rattle.delta_loop.specs.Loop.{Serves, Feeds, Settles, Ended, given_to, room_of};
+ghost use Rattle.delta_loop.specs.Loop.{Serves, Feeds, Settles, Ended, IsLive, given_to, room_of};
 ghost use Rattle.delta_loop.specs.Meaning.{Meaning, Stands};
 
 use crate::sending::send;
@@ -29,7 +29,7 @@ pub fn feed_one<M: Stepper, L: Link>(
     event: Event,
 ) -> Result<(), End>
     requires { Stands M.stands machine.old }
-    ensures live { OnOk result (Stands M.stands machine.new) }
+    ensures stepped { OnOk result ((P : Meaning) (word : List StreamEvent) → M.stands machine.old P word → M.stands machine.new P (word ++ event ∷ [])) }
     ensures ok { OnOk result ((P : Meaning) (start : Option (List Move)) (input : List ℕ) (word : List StreamEvent)
         → Serves M.stands P start (L.log link.old) machine.old input word → Serves M.stands P start (L.log link.new) machine.new input (word ++ event ∷ [])) }
     ensures err { IfErr result (λ end. (P : Meaning) (start : Option (List Move)) (input : List ℕ) (word more : List StreamEvent)
@@ -48,6 +48,8 @@ pub fn feed_one<M: Stepper, L: Link>(
         },
         Err(StepFault::Memory) => Err(End::Memory),
         Err(StepFault::Refused(fault)) => Err(End::Input(InputFault::Event(fault, place))),
+        Err(StepFault::Budget) => Err(End::Budget(place)),
+        Err(StepFault::Deep) => Err(End::Deep(place)),
     }
 }
 
@@ -59,8 +61,9 @@ pub fn feed_whole<M: Stepper, L: Link>(
     reader: &mut Reader,
     link: &mut L,
 ) -> Result<(), End>
-    requires { Stands M.stands machine.old }
-    ensures live { OnOk result (Stands M.stands machine.new) }
+    requires live { IsLive M.stands machine.old reader.old }
+    requires bound { given_to reader.old ≤ 2 ^ 41 }
+    ensures live { OnOk result (IsLive M.stands machine.new reader.new) }
     ensures ok { OnOk result ((P : Meaning) (start : Option (List Move)) (input : List ℕ)
         → Feeds M.stands P start (L.log link.old) machine.old reader.old input → Settles M.stands P start (L.log link.new) machine.new reader.new input) }
     ensures err { IfErr result (λ end. (P : Meaning) (start : Option (List Move)) (input : List ℕ)

@@ -9,8 +9,10 @@ mod pull;
 mod sending;
 mod serve;
 mod stepper;
+mod stopping;
 
 pub use framing::canonical_frames;
 pub use program_run::{run_machine, run_program};
 pub use sending::send;
 pub use stepper::{StepFault, Stepper};
+pub use stopping::{Stop, stop_first};

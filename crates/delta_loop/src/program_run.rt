@@ -7,7 +7,7 @@ ghost use Rattle.delta_loop.specs.Answer.{Adds, AtReturn, IsComplete, IsWithinLi
 ghost use Rattle.delta_end.specs.Status.{AnswerOf, IsStatus, IsStill};
 ghost use Rattle.delta_end.specs.End.{IsOfLoop, ReadCause, WriteCause};
 ghost use Rattle.delta_loop.specs.Loop.{RanTo};
-ghost use Rattle.delta_loop.specs.Meaning.{Meaning, Stands, HasBegun};
+ghost use Rattle.delta_loop.specs.Meaning.{Meaning, Begun, HasBegun};
 ghost use Rattle.delta_end.specs.Note.{note_of, Says};
 ghost use Rattle.delta_loop.specs.Output.{due};
 ghost use Rattle.delta_loop.specs.Prompt.{IsPrompt};
@@ -34,7 +34,7 @@ pub fn run_machine<M: Stepper, L: Link>(
     first: &[u8],
     link: &mut L,
 ) -> End
-    requires { Stands M.stands machine.old }
+    requires { Begun M.stands machine.old }
     ensures ran { (P : Meaning) → HasBegun M.stands P machine.old version first.now → RanTo M.stands P (L.log link.old) (L.log link.new) (L.left link.old) (L.left link.new) machine.new result }
     ensures end { IsOfLoop result }
     ensures read { ReadCause result (L.read_faults link.old) (L.read_faults link.new) }
@@ -53,7 +53,7 @@ pub fn run_machine<M: Stepper, L: Link>(
 }
 
 /// Runs a program that was read over a link, and answers the exit status: 0 where the input ended and
-/// the program may end there, 4 where the input is refused, 6 where the input ended and the program awaits
+/// the program may end there, 4 where the input is refused, 5 where the program is stopped, 6 where the input ended and the program awaits
 /// more, 7 at a fault outside, 8 for want of memory, and 9 for more than 2^40 input bytes. The note is
 /// the last thing that is written. The machine stands for the program before any event, and `first` are the
 /// bytes that come before the first read, behind a header of the version, if there is one.
@@ -65,7 +65,7 @@ pub fn run_program<M: Stepper, L: Link, N: Sink>(
     link: &mut L,
     notes: &mut N,
 ) -> u8
-    requires { Stands M.stands machine }
+    requires { Begun M.stands machine }
     // Before each read, what was written is what is due for what was read.
     ensures prompt { (P : Meaning) → HasBegun M.stands P machine version first.now → Adds (L.log link.old) (L.log link.new) (IsPrompt (due P)) }
     // At most 2^40 bytes are read, and one more.

@@ -8,7 +8,7 @@ ghost use Rattle.event_frame.specs.Reading.{whole, ending, Bad};
 ghost use Rattle.event_frame.specs.Reads.{Reads};
 ghost use Rattle.delta_end.specs.End.{IsOfLoop, ReadCause, WriteCause};
 ghost use Rattle.delta_loop.specs.Loop.{Serves, Goes, RanTo, IsFresh};
-ghost use Rattle.delta_loop.specs.Meaning.{Meaning, Stands};
+ghost use Rattle.delta_loop.specs.Meaning.{Meaning, Begun};
 ghost use Rattle.delta_loop.specs.Output.{accepted, output};
 ghost use Rattle.delta_loop.specs.Return.{MayEnd};
 
@@ -70,7 +70,7 @@ pub fn serve<M: Stepper, L: Link>(
     reader: &mut Reader,
     link: &mut L,
 ) -> End
-    requires live { Stands M.stands machine.old }
+    requires live { Begun M.stands machine.old }
     requires fresh { IsFresh reader.old }
     ensures ran { (P : Meaning) (start : Option (List Move)) → Serves M.stands P start (L.log link.old) machine.old [] []
         → RanTo M.stands P start (L.log link.new) (L.left link.old) (L.left link.new) machine.new result }

@@ -1,9 +1,9 @@
 //! A program that runs event by event, as the loop sees it.
 
-ghost use Rattle.std.specs.Prelude.{◌≡◌, ◌++◌, [], ◌∷◌, List, ℕ, None, Some, IfOk, IsErrOf};
+ghost use Rattle.std.specs.Prelude.{◌≡◌, ◌++◌, [], ◌∷◌, List, ℕ, None, Some, true, IfOk, IsErrOf};
 ghost use Rattle.event_word.specs.StreamEvent.{StreamEvent};
 ghost use Rattle.delta_loop.specs.declared.stepper.StepFault.TheVariants.{Memory as OutOfMemory};
-ghost use Rattle.delta_loop.specs.Meaning.{Meaning, Stands};
+ghost use Rattle.delta_loop.specs.Meaning.{Meaning, Stands, IsCostly, IsDeep};
 
 use event_word::{Event, EventFault};
 use std::alloc::Global;
@@ -16,6 +16,10 @@ pub enum StepFault {
     Memory,
     /// The event isn't admitted.
     Refused(EventFault),
+    /// The event alone makes more calls than the program may make.
+    Budget,
+    /// The event makes a call at a level above 1,000.
+    Deep,
 }
 
 impl From<Memory> for StepFault {
@@ -32,14 +36,20 @@ pub trait Stepper: Sized + Drop {
     ghost stands: { Self → Meaning → List StreamEvent → Type 0 };
 
     /// Takes an event, and answers the bytes that answer it. After a fault the program doesn't go on.
+    /// Fewer than 2^42 events have come.
     fn step(&mut self, alloc: Global, event: Event) -> Result<Vec<u8>, StepFault>
         requires { Stands stands self.old }
         ensures ok { IfOk result (λ bytes. (P : Meaning) (word : List StreamEvent) → stands self.old P word
             → (P.fault word event ≡ None) × stands self.new P (word ++ event ∷ []) × (bytes.items ≡ P.answer word event)) }
         ensures refused { (fault : EventFault) → IsErrOf result (StepFault.Refused fault) → (P : Meaning) (word : List StreamEvent) → stands self.old P word
-            → P.fault word event ≡ Some fault };
+            → P.fault word event ≡ Some fault }
+        ensures costly { IsErrOf result StepFault.Budget → (P : Meaning) (word : List StreamEvent) → stands self.old P word
+            → (P.fault word event ≡ None) × IsCostly P word event }
+        ensures deep { IsErrOf result StepFault.Deep → (P : Meaning) (word : List StreamEvent) → stands self.old P word
+            → (P.fault word event ≡ None) × IsDeep P word event };
 
-    /// Whether the input may end here.
+    /// Whether the input may end here. Where it may, what was answered is whole.
     fn is_finished(&self) -> bool
-        ensures { (P : Meaning) (word : List StreamEvent) → stands self.now P word → result ≡ P.finishes word };
+        ensures finished { (P : Meaning) (word : List StreamEvent) → stands self.now P word → result ≡ P.finishes word }
+        ensures whole { (P : Meaning) (word : List StreamEvent) → stands self.now P word → result ≡ true → P.is_whole word ≡ true };
 }

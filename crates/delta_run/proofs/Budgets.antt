@@ -1,4 +1,4 @@
--- The budget of an evaluation is small.
+-- The budgets of runs and of evaluations are small.
 use Rattle.std.proofs.Common.{◌≡◌, ℕ, ◌≤◌, ◌<◌, ◌^◌, Bool, true, false, ◌&&◌, List, [], ◌∷◌, Option, Some, None, refl, subst, arith, if◌then◌else◌}
 use Rattle.std.specs.Prelude.{IfSome, option_and_then, option_map, nat_le, string_bytes, map}
 use Rattle.std.specs.Str.Parse.{digits_value}
@@ -11,41 +11,39 @@ use Rattle.delta_words.specs.Commands.{command_of, takes_of}
 use Rattle.delta_words.specs.CommandLine.{WrittenLine, line_of}
 use Rattle.delta_words.specs.CommandTask.{CommandTask, run, eval, check, print, text, frames, gen, budget_of, file_of, version_of, file_and_budget, text_or_frames, start_and_items, task_of_line, task_of_command, task_of}
 
--- an evaluation has a budget of at most 10,000
+-- a run has a budget of at most 1,000,000, an evaluation one of at most 10,000
 abbrev IsSmall : Option CommandTask → Type 0
 IsSmall (Some (eval file budget v)) = budget ≤ 10000
+IsSmall (Some (run file budget v)) = budget ≤ 1000000
 IsSmall o = Unit {0}
 
-within : (d : ℕ) (a b : Bool) → nat_le d 10000 ≡ b → IfSome (let o : Option ℕ = if a && b then Some d else None in o) (λ n. n ≤ 10000)
-within d true true h = leb-true d 10000 h
-within d true false h = tt
-within d false b h = tt
+within : (limit d : ℕ) (a b : Bool) → nat_le d limit ≡ b → IfSome (let o : Option ℕ = if a && b then Some d else None in o) (λ n. n ≤ limit)
+within limit d true true h = leb-true d limit h
+within limit d true false h = tt
+within limit d false b h = tt
 
-budget_is_small : (o : Option (List ℕ)) → IfSome (budget_of 10000 1000 o) (λ n. n ≤ 10000)
-budget_is_small None = omega arith
-budget_is_small (Some value) = within (digits_value 10 value) (has_digits 13 value) (nat_le (digits_value 10 value) 10000) refl
+budget_is_small : (limit usual : ℕ) → usual ≤ limit → (o : Option (List ℕ)) → IfSome (budget_of limit usual o) (λ n. n ≤ limit)
+budget_is_small limit usual less None = less
+budget_is_small limit usual less (Some value) = within limit (digits_value 10 value) (has_digits 13 value) (nat_le (digits_value 10 value) limit) refl
 
-with_budget : (file : List ℕ) (v : Version) (o : Option ℕ) → IfSome o (λ n. n ≤ 10000) → IsSmall (option_map (λ budget. eval file budget v) o)
-with_budget file v None h = tt
-with_budget file v (Some n) h = h
+with_budget : (make : List ℕ → ℕ → Version → CommandTask) (limit : ℕ) → ((file : List ℕ) (n : ℕ) (v : Version) → n ≤ limit → IsSmall (Some (make file n v)))
+    → (file : List ℕ) (v : Version) (o : Option ℕ) → IfSome o (λ n. n ≤ limit) → IsSmall (option_map (λ budget. make file budget v) o)
+with_budget make limit small file v None h = tt
+with_budget make limit small file v (Some n) h = small file n v h
+
+with_file : (make : List ℕ → ℕ → Version → CommandTask) (limit usual : ℕ) → usual ≤ limit → ((file : List ℕ) (n : ℕ) (v : Version) → n ≤ limit → IsSmall (Some (make file n v)))
+    → (line : WrittenLine) → IsSmall (file_and_budget make limit usual line)
+with_file make limit usual less small line = go (file_of line.operands)
+  where
+    go : (o : Option (List ℕ)) → IsSmall (option_and_then (λ file. option_map (λ budget. make file budget (version_of line.v2)) (budget_of limit usual line.budget)) o)
+    go None = tt
+    go (Some file) = with_budget make limit small file (version_of line.v2) (budget_of limit usual line.budget) (budget_is_small limit usual less line.budget)
 
 evals : (line : WrittenLine) → IsSmall (file_and_budget eval 10000 1000 line)
-evals line = go (file_of line.operands)
-  where
-    go : (o : Option (List ℕ)) → IsSmall (option_and_then (λ file. option_map (λ budget. eval file budget (version_of line.v2)) (budget_of 10000 1000 line.budget)) o)
-    go None = tt
-    go (Some file) = with_budget file (version_of line.v2) (budget_of 10000 1000 line.budget) (budget_is_small line.budget)
+evals line = with_file eval 10000 1000 (omega arith) (λ file n v h. h) line
 
 runs : (line : WrittenLine) → IsSmall (file_and_budget run 1000000 1000000 line)
-runs line = go (file_of line.operands)
-  where
-    inside : (file : List ℕ) (o : Option ℕ) → IsSmall (option_map (λ budget. run file budget (version_of line.v2)) o)
-    inside file None = tt
-    inside file (Some n) = tt
-
-    go : (o : Option (List ℕ)) → IsSmall (option_and_then (λ file. option_map (λ budget. run file budget (version_of line.v2)) (budget_of 1000000 1000000 line.budget)) o)
-    go None = tt
-    go (Some file) = inside file (budget_of 1000000 1000000 line.budget)
+runs line = with_file run 1000000 1000000 (omega arith) (λ file n v h. h) line
 
 checks : (o : Option (List ℕ)) → IsSmall (option_map check o)
 checks None = tt
@@ -100,3 +98,6 @@ of_words (word ∷ words) = go (command_of word)
 pub eval_is_small : (words : List (List ℕ)) (file : List ℕ) (budget : ℕ) (v : Version) → task_of words ≡ Some (eval file budget v) → budget < 2 ^ 62
 eval_is_small words file budget v e =
     let small : budget ≤ 10000 = subst IsSmall e (of_words words) in omega (arith, small)
+
+pub run_is_small : (words : List (List ℕ)) (file : List ℕ) (budget : ℕ) (v : Version) → task_of words ≡ Some (run file budget v) → budget ≤ 1000000
+run_is_small words file budget v e = subst IsSmall e (of_words words)

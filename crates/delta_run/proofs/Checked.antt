@@ -3,7 +3,7 @@ use Rattle.std.proofs.Common.{◌≡◌, inl, ℕ, List, None, Some, Result, ref
 use Rattle.port.specs.declared.fault.IoFault.{IoFault}
 use Rattle.port.specs.Faults.{HasCause}
 use Rattle.delta_end.specs.declared.end.End.{End}
-use Rattle.delta_end.specs.declared.end.End.TheVariants.{Done, Usage, Refused, Input, Budget, Open, FileFailed, ReadFailed, WriteFailed, Memory, Long}
+use Rattle.delta_end.specs.declared.end.End.TheVariants.{Done, Usage, Refused, Input, Budget, Deep, Open, FileFailed, ReadFailed, WriteFailed, Memory, Long}
 use Rattle.delta_end.specs.End.{FileCause, ReadCause, WriteCause}
 use Rattle.delta_end.specs.Status.{AnswerOf, IsStill}
 use Rattle.delta_end.proofs.Statuses.{not_rose, answered, answered_eight}
@@ -19,6 +19,7 @@ checks_read text Memory n is = refl
 checks_read text Usage n is = absurd is
 checks_read text (Input fault) n is = absurd is
 checks_read text (Budget at) n is = absurd is
+checks_read text (Deep at) n is = absurd is
 checks_read text Open n is = absurd is
 checks_read text FileFailed n is = absurd is
 checks_read text ReadFailed n is = absurd is
@@ -32,6 +33,7 @@ checks_write text Memory n is = refl
 checks_write text Usage n is = absurd is
 checks_write text (Input fault) n is = absurd is
 checks_write text (Budget at) n is = absurd is
+checks_write text (Deep at) n is = absurd is
 checks_write text Open n is = absurd is
 checks_write text FileFailed n is = absurd is
 checks_write text ReadFailed n is = absurd is
@@ -45,6 +47,7 @@ checks_file text Memory n is = refl
 checks_file text Usage n is = absurd is
 checks_file text (Input fault) n is = absurd is
 checks_file text (Budget at) n is = absurd is
+checks_file text (Deep at) n is = absurd is
 checks_file text Open n is = absurd is
 checks_file text FileFailed n is = absurd is
 checks_file text ReadFailed n is = absurd is
@@ -59,6 +62,7 @@ checks_usage text (Refused why) is same = cc
 checks_usage text Memory is same = cc
 checks_usage text (Input fault) is same = cc
 checks_usage text (Budget at) is same = cc
+checks_usage text (Deep at) is same = cc
 checks_usage text Open is same = cc
 checks_usage text FileFailed is same = cc
 checks_usage text ReadFailed is same = cc
@@ -73,6 +77,7 @@ checks_text text Usage is = is
 checks_text text (Refused why) is = is
 checks_text text (Input fault) is = is
 checks_text text (Budget at) is = is
+checks_text text (Deep at) is = is
 checks_text text Open is = is
 checks_text text ReadFailed is = is
 checks_text text WriteFailed is = is
@@ -93,6 +98,7 @@ module _ (text : List ℕ) (file0 file1 note0 note1 : ℕ) (file_still : IsStill
   passes_accepted Usage checks file is p c a = absurd checks
   passes_accepted (Input fault) checks file is p c a = absurd checks
   passes_accepted (Budget at) checks file is p c a = absurd checks
+  passes_accepted (Deep at) checks file is p c a = absurd checks
   passes_accepted Open checks file is p c a = absurd checks
   passes_accepted ReadFailed checks file is p c a = absurd checks
   passes_accepted WriteFailed checks file is p c a = absurd checks
@@ -108,6 +114,7 @@ module _ (text : List ℕ) (file0 file1 note0 note1 : ℕ) (file_still : IsStill
   refuses_unaccepted Usage checks file is why r = absurd checks
   refuses_unaccepted (Input fault) checks file is why r = absurd checks
   refuses_unaccepted (Budget at) checks file is why r = absurd checks
+  refuses_unaccepted (Deep at) checks file is why r = absurd checks
   refuses_unaccepted Open checks file is why r = absurd checks
   refuses_unaccepted ReadFailed checks file is why r = absurd checks
   refuses_unaccepted WriteFailed checks file is why r = absurd checks

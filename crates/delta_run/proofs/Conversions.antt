@@ -6,7 +6,7 @@ use Rattle.port.specs.Moves.{bytes_read, bytes_written}
 use Rattle.port.specs.Faults.{HasCause}
 use Rattle.event_frame.specs.declared.version.Version.{Version}
 use Rattle.delta_end.specs.declared.end.End.{End}
-use Rattle.delta_end.specs.declared.end.End.TheVariants.{Done, Usage, Refused, Input, Budget, Open, FileFailed, ReadFailed, WriteFailed, Memory, Long}
+use Rattle.delta_end.specs.declared.end.End.TheVariants.{Done, Usage, Refused, Input, Budget, Deep, Open, FileFailed, ReadFailed, WriteFailed, Memory, Long}
 use Rattle.delta_end.specs.End.{FileCause, ReadCause, WriteCause}
 use Rattle.delta_end.specs.Status.{AnswerOf, IsStill}
 use Rattle.delta_end.proofs.Statuses.{not_rose, answered, answered_eight, with_status}
@@ -28,6 +28,7 @@ module _ (C : Conversion) (old new : Option (List Move)) (left0 left1 : Option (
   never_usage (Input fault) ran is = cc
   never_usage Open ran is = cc
   never_usage (Budget at) ran is = cc
+  never_usage (Deep at) ran is = cc
   never_usage FileFailed ran is = cc
   never_usage ReadFailed ran is = cc
   never_usage WriteFailed ran is = cc
@@ -37,6 +38,7 @@ module _ (C : Conversion) (old new : Option (List Move)) (left0 left1 : Option (
   -- no file was read
   pub no_file : (count : ℕ) (end : End) → Ran C old new left0 left1 end → FileCause end count count
   no_file count (Budget at) ran = refl
+  no_file count (Deep at) ran = refl
   no_file count FileFailed ran = absurd ran.at.may
   no_file count Usage ran = refl
   no_file count Done ran = refl
@@ -108,6 +110,7 @@ module _ (v : Version) (all : List ℕ) (short : length all ≤ 2 ^ 40) (good : 
   converted_well (Refused why) ran read write is = absurd ran.at.may
   converted_well Open ran read write is = absurd ran.at.may
   converted_well (Budget at) ran read write is = absurd ran.at.may
+  converted_well (Deep at) ran read write is = absurd ran.at.may
   converted_well FileFailed ran read write is = absurd ran.at.may
 
   pub either_well : (end : End) → Made (frames_of_lines v) old new left0 left1 end → ReadCause end read0 read1 → WriteCause end write0 write1 → AnswerOf end said status

@@ -10,7 +10,7 @@ use Rattle.event_frame.specs.Reading.{whole}
 use Rattle.delta_tree.specs.SyntaxTree.{ProgramTree}
 use Rattle.core_term.specs.CoreTerm.{CoreProgram}
 use Rattle.delta_end.specs.declared.end.End.{End}
-use Rattle.delta_end.specs.declared.end.End.TheVariants.{Done, Usage, Refused, Input, Budget, Open, FileFailed, ReadFailed, WriteFailed, Memory, Long}
+use Rattle.delta_end.specs.declared.end.End.TheVariants.{Done, Usage, Refused, Input, Budget, Deep, Open, FileFailed, ReadFailed, WriteFailed, Memory, Long}
 use Rattle.delta_end.specs.End.{FileCause, ReadCause, WriteCause}
 use Rattle.delta_end.specs.Status.{AnswerOf, IsStill}
 use Rattle.delta_end.proofs.Statuses.{not_rose, answered, answered_eight, with_status}
@@ -55,6 +55,7 @@ module _ (text : List ℕ) (budget : ℕ) (v : Version) (old new : Option (List 
   evals_text Usage ran = moves_of Usage ran
   evals_text (Input fault) ran = moves_of (Input fault) ran
   evals_text (Budget at) ran = moves_of (Budget at) ran
+  evals_text (Deep at) ran = moves_of (Deep at) ran
   evals_text Open ran = moves_of Open ran
   evals_text ReadFailed ran = moves_of ReadFailed ran
   evals_text WriteFailed ran = moves_of WriteFailed ran
@@ -69,6 +70,7 @@ module _ (text : List ℕ) (budget : ℕ) (v : Version) (old new : Option (List 
   evals_usage Done ran same = cc
   evals_usage (Input fault) ran same = cc
   evals_usage (Budget at) ran same = cc
+  evals_usage (Deep at) ran same = cc
   evals_usage Open ran same = cc
   evals_usage ReadFailed ran same = cc
   evals_usage WriteFailed ran same = cc
@@ -82,6 +84,7 @@ module _ (text : List ℕ) (budget : ℕ) (v : Version) (old new : Option (List 
   evals_file (Refused why) n ran = refl
   evals_file (Input fault) n ran = refl
   evals_file (Budget at) n ran = refl
+  evals_file (Deep at) n ran = refl
   evals_file Open n ran = refl
   evals_file ReadFailed n ran = refl
   evals_file WriteFailed n ran = refl
@@ -95,6 +98,7 @@ module _ (text : List ℕ) (budget : ℕ) (v : Version) (old new : Option (List 
   evaluated_text (Refused why) ran = ran
   evaluated_text (Input fault) ran = ran
   evaluated_text (Budget at) ran = ran
+  evaluated_text (Deep at) ran = ran
   evaluated_text Open ran = ran
   evaluated_text ReadFailed ran = ran
   evaluated_text WriteFailed ran = ran
@@ -115,6 +119,7 @@ module _ (text : List ℕ) (budget : ℕ) (v : Version) (old new : Option (List 
     refuses_unwritable Usage ran file is why r = absurd (writing_is_judged.not_refused text v ran.program ran.core why ran.accepted r)
     refuses_unwritable (Input fault) ran file is why r = absurd (writing_is_judged.not_refused text v ran.program ran.core why ran.accepted r)
     refuses_unwritable (Budget at) ran file is why r = absurd (writing_is_judged.not_refused text v ran.program ran.core why ran.accepted r)
+    refuses_unwritable (Deep at) ran file is why r = absurd (writing_is_judged.not_refused text v ran.program ran.core why ran.accepted r)
     refuses_unwritable Open ran file is why r = absurd (writing_is_judged.not_refused text v ran.program ran.core why ran.accepted r)
     refuses_unwritable ReadFailed ran file is why r = absurd (writing_is_judged.not_refused text v ran.program ran.core why ran.accepted r)
     refuses_unwritable WriteFailed ran file is why r = absurd (writing_is_judged.not_refused text v ran.program ran.core why ran.accepted r)
@@ -165,6 +170,7 @@ module _ (text : List ℕ) (budget : ℕ) (v : Version) (old new : Option (List 
           let e = of_this (Input fault) ran in absurd (let clash : None ≡ Some fault = sym (no_fault (Input fault) e) ∙ e.may.0 in let none : ⊥ = cc in none)
       evals_well (Budget at) ran within file read write is =
           let e = of_this (Budget at) ran in absurd (omega (arith, within, e.may.1, ap (calls_on p) (the_word (Budget at) e e.may.0.at_end)))
+      evals_well (Deep at) ran within file read write is = absurd ran.evaluates.may
       evals_well Memory ran within file read write is = inl (wanting is)
       evals_well (Refused None) ran within file read write is = absurd ran
       evals_well (Refused (Some why)) ran within file read write is = absurd (writing_is_judged.not_refused text v p c why accepted ran.0)
@@ -180,6 +186,7 @@ module _ (text : List ℕ) (budget : ℕ) (v : Version) (old new : Option (List 
       stops_well (Budget at) ran more file read write is =
           let e = of_this (Budget at) ran in
           with_status (λ told tells_log. (e.history.moves, e.history.logged told tells_log, e.history.written ∙ e.may.2)) (answered (Budget at) said status note0 note1 is cause note_still)
+      stops_well (Deep at) ran more file read write is = absurd ran.evaluates.may
       stops_well Done ran more file read write is =
           let e = of_this Done ran in absurd (omega (arith, more, e.may.0.within, ap (calls_on p) (the_word Done e e.may.0.is_whole.at_end)))
       stops_well Open ran more file read write is =

@@ -5,7 +5,7 @@ use Rattle.port.specs.declared.fault.IoFault.{IoFault}
 use Rattle.port.specs.Faults.{HasCause}
 use Rattle.event_word.specs.StreamEvent.{StreamEvent}
 use Rattle.delta_end.specs.declared.end.End.{End}
-use Rattle.delta_end.specs.declared.end.End.TheVariants.{Done, Usage, Refused, Input, Budget, Open, FileFailed, ReadFailed, WriteFailed, Memory, Long}
+use Rattle.delta_end.specs.declared.end.End.TheVariants.{Done, Usage, Refused, Input, Budget, Deep, Open, FileFailed, ReadFailed, WriteFailed, Memory, Long}
 use Rattle.delta_end.specs.End.{ReadCause, WriteCause, IsOfLoop}
 use Rattle.delta_end.specs.Status.{AnswerOf, IsStill}
 use Rattle.delta_end.proofs.Statuses.{answered, answered_eight, with_status}
@@ -15,6 +15,7 @@ use Rattle.delta_loop.specs.Answer.{Adds, WroteAll}
 use Rattle.delta_loop.proofs.Returning.{adds_none, ran_may_end}
 use Rattle.delta_loop.proofs.Opening.{prompt_none}
 use Rattle.delta_loop.proofs.Completeness.{EndsWell, is_done, is_open, is_wanting, good_end}
+use Rattle.delta_loop.proofs.Unstopped.{none_is_cheap}
 use Rattle.delta_text.specs.Lines.{lines_of_frames}
 use Rattle.delta_text.proofs.Lined.{output_is_lines}
 use Rattle.delta_loop.specs.History.{IsUntouched}
@@ -46,7 +47,8 @@ module _ (old new : Option (List Move)) (left0 left1 : Option (List ℕ)) where
   of_loop (Refused why) ran = absurd ran.at.may
   of_loop (Input fault) ran = tt
   of_loop Open ran = tt
-  of_loop (Budget at) ran = absurd ran.at.may
+  of_loop (Budget at) ran = tt
+  of_loop (Deep at) ran = tt
   of_loop FileFailed ran = absurd ran.at.may
   of_loop ReadFailed ran = tt
   of_loop WriteFailed ran = tt
@@ -73,4 +75,4 @@ module _ (old new : Option (List Move)) (left0 left1 : Option (List ℕ)) where
     lines_well end (inl none) read write is v all word tells good = inl (wanting (subst (λ (e : End). AnswerOf e said status) none.0 is))
     lines_well end (inr ran) read write is v all word tells good =
         by_end word end
-        (good_end lines_of_frames v all word good old new left0 left1 tells end (of_loop end ran) ran read0 read1 write0 write1 read_still write_still read write) ran is
+        (good_end lines_of_frames v all word good (none_is_cheap lines_of_frames (record { calls = λ w. refl; level = λ w. refl }) word) old new left0 left1 tells end (of_loop end ran) ran read0 read1 write0 write1 read_still write_still read write) ran is

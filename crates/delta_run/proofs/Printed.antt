@@ -6,7 +6,7 @@ use Rattle.port.specs.Faults.{HasCause}
 use Rattle.port.specs.Moves.{bytes_written}
 use Rattle.delta_tree.specs.SyntaxTree.{ProgramTree}
 use Rattle.delta_end.specs.declared.end.End.{End}
-use Rattle.delta_end.specs.declared.end.End.TheVariants.{Done, Usage, Refused, Input, Budget, Open, FileFailed, ReadFailed, WriteFailed, Memory, Long}
+use Rattle.delta_end.specs.declared.end.End.TheVariants.{Done, Usage, Refused, Input, Budget, Deep, Open, FileFailed, ReadFailed, WriteFailed, Memory, Long}
 use Rattle.delta_end.specs.End.{FileCause, WriteCause}
 use Rattle.delta_end.specs.Status.{AnswerOf, IsStill}
 use Rattle.delta_end.proofs.Statuses.{not_rose, answered, answered_eight, with_status}
@@ -34,6 +34,7 @@ module _ (text : List ℕ) (old new : Option (List Move)) where
   prints_text (Refused why) ran = written (Refused why) ran.0 ran.1 ran.2
   prints_text (Input fault) ran = written (Input fault) ran.0 ran.1 ran.2
   prints_text (Budget at) ran = written (Budget at) ran.0 ran.1 ran.2
+  prints_text (Deep at) ran = written (Deep at) ran.0 ran.1 ran.2
   prints_text Open ran = written Open ran.0 ran.1 ran.2
   prints_text ReadFailed ran = written ReadFailed ran.0 ran.1 ran.2
   prints_text WriteFailed ran = written WriteFailed ran.0 ran.1 ran.2
@@ -61,6 +62,7 @@ module _ (text : List ℕ) (old new : Option (List Move)) where
     printed_well Usage ran file write is p is_its = absurd ran.2
     printed_well (Input fault) ran file write is p is_its = absurd ran.2
     printed_well (Budget at) ran file write is p is_its = absurd ran.2
+    printed_well (Deep at) ran file write is p is_its = absurd ran.2
     printed_well Open ran file write is p is_its = absurd ran.2
     printed_well ReadFailed ran file write is p is_its = absurd ran.2
     printed_well Long ran file write is p is_its = absurd ran.2
@@ -75,6 +77,7 @@ module _ (text : List ℕ) (old new : Option (List Move)) where
     refused_well Usage ran file write is why refuses = absurd ran.2
     refused_well (Input fault) ran file write is why refuses = absurd ran.2
     refused_well (Budget at) ran file write is why refuses = absurd ran.2
+    refused_well (Deep at) ran file write is why refuses = absurd ran.2
     refused_well Open ran file write is why refuses = absurd ran.2
     refused_well ReadFailed ran file write is why refuses = absurd ran.2
     refused_well Long ran file write is why refuses = absurd ran.2

@@ -1,14 +1,17 @@
 -- What the contracts cite.
 pub mod CommandLine
 pub mod Text
+pub mod Settled
 pub mod Converted
-pub mod FirstProgram
-pub mod Left
-pub mod FirstMeaning
-pub mod Environment
-pub mod FirstMachine
-pub mod FirstLaws
 pub mod Lined
 pub mod Printed
 pub mod Checked
 pub mod Evaluated
+pub mod Outside
+pub mod Ends
+pub mod Runs
+pub mod Evals
+pub mod Checks
+pub mod Prints
+pub mod Lines
+pub mod Owes

@@ -14,7 +14,7 @@ whole_line x = line_of x ++ 10 ∷ []
 abbrev pub lines : List StreamEvent → List ℕ
 lines word = flat_map whole_line word
 
--- each event may come, after any word, and is answered by its line; there is no header, and the input may end anywhere
+-- each event may come, after any word, and is answered by its line; there is no header, the input may end anywhere, and no call is made
 abbrev pub lines_of_frames : Meaning
 lines_of_frames = record {
   version = None;
@@ -22,6 +22,10 @@ lines_of_frames = record {
   first = [];
   answer = λ word x. whole_line x;
   finishes = λ word. true;
+  is_whole = λ word. true;
+  calls = λ word. 0;
+  level = λ word. 0;
+  budget = 0;
 }
 
 -- what is written for a word are its lines

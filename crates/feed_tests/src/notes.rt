@@ -26,11 +26,12 @@ fn are_told(alloc: Global, rows: &[(End, &[u8], u8)]) -> bool {
 
 #[test]
 fn tells_each_end(rt: HostRuntime) {
-    let rows: [(End, &[u8], u8); 10] = [
+    let rows: [(End, &[u8], u8); 11] = [
         (End::Done, b"", 0),
         (End::Usage, b"delta: usage\n", 2),
         (End::Refused(None), b"delta: program refused\n", 3),
         (End::Budget(0), b"delta: stopped: Budget at 0\n", 5),
+        (End::Deep(17), b"delta: stopped: Deep at 17\n", 5),
         (End::Open, b"delta: input open\n", 6),
         (End::FileFailed, b"delta: outside fault: file\n", 7),
         (End::ReadFailed, b"delta: outside fault: input\n", 7),

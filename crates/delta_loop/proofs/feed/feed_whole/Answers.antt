@@ -1,5 +1,6 @@
-use Rattle.std.proofs.Common.{ℕ, max, [], ◌∷◌, ◌++◌, ◌∙◌, ap, Ok}
+use Rattle.std.proofs.Common.{ℕ, arith, max, [], ◌∷◌, ◌++◌, ◌∙◌, ap, Ok}
 use Rattle.delta_loop.proofs.Findings.{ended_bad, event_place}
+use Rattle.delta_loop.proofs.Counts.{live_takes, live_stays, live_stands, took}
 use Rattle.delta_loop.proofs.feed.feed_whole.Goals as goal
 
 pub returns-in-Err-clause-err : goal.returns-in-Err-clause-err
@@ -17,13 +18,19 @@ returns-in-Ok-None-clause-ok g c P start input before =
     let nothing = c.next.ensures.none is input now.word reads in
     record { word = now.word; serves = now.serves; reads = reads; all = nothing.0; sound = nothing.1 }
 
+pub feed_one-requires : goal.feed_one-requires
+feed_one-requires g c = live_stands g.M.Stepper.stands _ _ c.frames.invariant.1 (omega (arith, c.frames.invariant.2, c.requires.bound))
+
+pub returns-in-Ok-None-clause-live : goal.returns-in-Ok-None-clause-live
+returns-in-Ok-None-clause-live g c = live_stays g.M.Stepper.stands _ _ _ c.frames.invariant.1 (rw c.in-Ok-None.field-0-is at c.in-Ok-None.ensures.stays)
+
 pub frames-preserved : goal.frames-preserved
 frames-preserved g c = (
   λ P start input before.
       let now = c.frames.invariant.0 P start input before in
       let event = rw c.in-Ok-Some.field-0-is at c.in-Ok-Some.ensures.event in
       record { word = now.word ++ c.in-Ok-Some.event ∷ []; serves = c.in-Ok.ensures.ok P start input now.word now.serves; reads = (event input now.word now.reads).0 },
-  c.in-Ok.ensures.live,
+  live_takes g.M.Stepper.stands _ _ _ _ c.in-Ok-Some.event c.frames.invariant.1 c.in-Ok.ensures.stepped (took (rw c.in-Ok-Some.field-0-is at c.in-Ok-Some.ensures.event)),
   c.next.ensures.pushed ∙ c.frames.invariant.2,
   c.next.ensures.room ∙ c.frames.invariant.3,
   c.feed_one.ensures.left ∙ c.frames.invariant.4,

@@ -29,7 +29,7 @@ returns-clause-still g c =
     status_still_in_link _ _ _ _ _ _ _ _ c.run_machine-end.ensures.end (status_is _ _ _ _ _ c.answer.ensures c.note-said.ensures.cause) c.run_machine-end.ensures.read c.run_machine-end.ensures.write
 
 pub returns-clause-complete : goal.returns-clause-complete
-returns-clause-complete g c P begun read write note v all word tells good =
+returns-clause-complete g c P begun read write note v all word tells good cheap =
     good_status _ _ _ _ _ _ _ _ c.answer.ensures c.note-said.ensures.cause note
-    (good_end P v all word good _ _ _ _ tells c.run_machine-end.result c.run_machine-end.ensures.end (c.run_machine-end.ensures.ran P begun).ran _ _ _ _ read write
+    (good_end P v all word good cheap _ _ _ _ tells c.run_machine-end.result c.run_machine-end.ensures.end (c.run_machine-end.ensures.ran P begun).ran _ _ _ _ read write
     c.run_machine-end.ensures.read c.run_machine-end.ensures.write)

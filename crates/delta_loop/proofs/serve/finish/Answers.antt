@@ -1,4 +1,4 @@
-use Rattle.std.proofs.Common.{sym}
+use Rattle.std.proofs.Common.{sym, refl}
 use Rattle.delta_loop.proofs.Serving.{ends_cut, ends_done, ends_open}
 use Rattle.delta_loop.proofs.serve.finish.Goals as goal
 
@@ -7,8 +7,8 @@ returns-in-Err-clause-end g c P input word accepts state reads all sound = ends_
 
 pub returns-then-is_finished-clause-end : goal.returns-then-is_finished-clause-end
 returns-then-is_finished-clause-end g c P input word accepts state reads all sound =
-    ends_done P input word accepts all (c.in-Ok.ensures input word reads) (sym (c.if-is_finished.ensures P word state))
+    ends_done P input word accepts all (c.in-Ok.ensures input word reads) (sym (c.if-is_finished.ensures.finished P word state)) (c.if-is_finished.ensures.whole P word state refl)
 
 pub returns-else-is_finished-clause-end : goal.returns-else-is_finished-clause-end
 returns-else-is_finished-clause-end g c P input word accepts state reads all sound =
-    ends_open P input word accepts all (c.in-Ok.ensures input word reads) (sym (c.if-is_finished.ensures P word state))
+    ends_open P input word accepts all (c.in-Ok.ensures input word reads) (sym (c.if-is_finished.ensures.finished P word state))

@@ -1,6 +1,7 @@
 use Rattle.std.proofs.Common.{◌≡◌, ◌+◌, ◌<◌, ◌≤◌, ◌^◌, ℕ, length, take, drop, ◌∙◌, subst, arith, length-take, length-append, length-drop}
 use Rattle.delta_loop.specs.Loop.{Goes}
 use Rattle.delta_loop.proofs.Serving.{feeds_more, goes_more, ended_in_piece, ran_to_end, ended_in_pull}
+use Rattle.delta_loop.proofs.Counts.{live_gets}
 use Rattle.delta_loop.proofs.serve.serve.Goals as goal
 
 pub returns-in-Ok-eq0-clause-ran : goal.returns-in-Ok-eq0-clause-ran
@@ -14,6 +15,9 @@ pub returns-in-Err-clause-ran : goal.returns-in-Err-clause-ran
 returns-in-Err-clause-ran g c P start before =
     let now = c.pieces.invariant.0 P start before in
     ended_in_pull g.M.Stepper.stands P start _ _ _ _ _ _ now _ _ _ (omega (arith, c.pieces.invariant.5)) c.in-Err.ensures.ended
+
+pub feed_whole-requires-clause-live : goal.feed_whole-requires-clause-live
+feed_whole-requires-clause-live g c = live_gets g.M.Stepper.stands _ _ _ _ c.pieces.invariant.1 c.in-Ok.ensures.pulled.reads
 
 pub pieces-preserved : goal.pieces-preserved
 pieces-preserved g c =

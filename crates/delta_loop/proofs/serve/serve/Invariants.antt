@@ -1,14 +1,14 @@
 use Rattle.std.proofs.Common.{◌≡◌, ◌-◌, ◌^◌, ◌≤◌, [], List, Option, length}
 use Rattle.port.specs.declared.link.Move.{Move}
-use Rattle.delta_loop.specs.Meaning.{Meaning, Stands}
-use Rattle.delta_loop.specs.Loop.{Serves, Goes, given_to, room_of}
+use Rattle.delta_loop.specs.Meaning.{Meaning}
+use Rattle.delta_loop.specs.Loop.{Serves, Goes, IsLive, given_to, room_of}
 use Rattle.delta_loop.proofs.serve.serve.Given as goal
 
 abbrev pub invariant-pieces : goal.invariant-pieces
 invariant-pieces g l =
     ((P : Meaning) (start : Option (List Move)) → Serves g.M.Stepper.stands P start (g.L.Link.log l.fn.link) l.fn.machine [] []
     → Goes g.M.Stepper.stands P start (g.L.Link.log l.link) (g.L.Link.left l.fn.link) (g.L.Link.left l.link) l.machine l.reader l.total)
-    × Stands g.M.Stepper.stands l.machine
+    × IsLive g.M.Stepper.stands l.machine l.reader
     × (given_to l.reader ≡ l.total)
     × (length l.reader.kept ≤ 40)
     × (4137 ≤ room_of l.reader)

@@ -1,0 +1,499 @@
+//! Programs run event by event. Inputs and outputs are event lines; each output was worked out by hand.
+
+use crate::outside::{link, outcome, words, written};
+use port::{MemLink, MemShelf, MemSink, Move};
+use std::alloc::Global;
+use std::test::Fail;
+
+const ONE: &str = "main(x : Int) : Int = x";
+
+const SWAP: &str = "main(x : Int, y : Int) : Int || Int = (y, x)";
+
+const IN_TURN: &str = "main(x : Int; y : Int) : Int . Int = (x; y)";
+
+const DOUBLE: &str =
+    "fun twice(xs : Int*) : Int* = case xs of { nil => nil | y :: ys => wait y in ({y * 2} :: twice(ys)) }
+main(xs : Int*) : Int* = twice(xs)";
+
+const COPY: &str =
+    "fun copy(xs : Int*) : Int* = case xs of { nil => nil | y :: ys => y :: copy(ys) }
+main(xs : Int*) : Int* = copy(xs)";
+
+const SUMS: &str =
+    "fun sums{n : Int}(xs : Int*) : Int* = case xs of { nil => nil | y :: ys => wait y in ({n + y} :: sums{n + y}(ys)) }
+main(xs : Int*) : Int* = sums{0}(xs)";
+
+const ALARM: &str = "fun watch(xs : Int*) : Int* || 1* =
+  case xs of {
+    nil => (nil, nil)
+  | y :: ys => wait y in
+      let (good, alarms) = watch(ys) in
+      ({y} :: good, if 100 < y then (() :: alarms) else alarms)
+  }
+main(xs : Int*) : Int* || 1* = watch(xs)";
+
+const TOTAL: &str = "main(xs : Int*) : Int = wait xs in {fold xs from 0 with a, y . a + y}";
+
+const CHOICE: &str =
+    "main(z : 1 + 1, y : Int) : Int + Int = case z of { inl a => inl y | inr b => inr y }";
+
+const FIRST: &str = "main(xs : Int*) : Int + 1 = case xs of { nil => inr () | y :: ys => inl y }";
+
+const LOOP: &str = "fun loop(x : Int) : Int = loop(x)
+main(x : Int) : Int = loop(x)";
+
+const DOWN: &str = "fun down{n : Int}(u : 1) : Int = if n < 1 then {7} else down{n - 1}(u)
+main(x : Int) : Int = wait x in down{x}(())";
+
+const AFTER_NOTHING: &str = "main(x : eps; y : Int) : Int = y";
+
+const THREE: &str = "item\nF int 3\ncut\nend\n";
+
+const SIX: &str = "item\nF int 6\ncut\nend\n";
+
+/// What a run is given, and what must come of it.
+#[derive(Clone, Copy)]
+struct Row {
+    /// The words, parted by spaces.
+    words: &'static str,
+    /// The text of the file `program`.
+    text: &'static str,
+    /// The lines of the events that come.
+    input: &'static str,
+    /// The lines of the events that are put out; nothing where not even the header is.
+    output: Option<&'static str>,
+    note: &'static str,
+    status: u8,
+}
+
+const ROW: Row = Row {
+    words: "run program",
+    text: ONE,
+    input: "int 7\n",
+    output: Some("int 7\n"),
+    note: "",
+    status: 0,
+};
+
+// A shelf that holds a text as the file `program`.
+fn shelf_of(alloc: Global, text: &str) -> Result<MemShelf, Fail> {
+    let name = String::from_str(alloc, "program")?;
+    let mut files = Vec::new(alloc);
+    files.push((name, text.as_bytes().to_vec(alloc)?))?;
+    Ok(MemShelf::new(alloc, files, Vec::new(alloc)))
+}
+
+// The frames of lines.
+fn frames_of(alloc: Global, lines: &str) -> Result<Vec<u8>, Fail> {
+    let given = words(alloc, "text --frames")?;
+    let mut shelf = shelf_of(alloc, "")?;
+    let mut link = link(alloc, lines.as_bytes(), 4096, 4096)?;
+    let mut notes = MemSink::new(alloc, Vec::new(alloc));
+    let _status = outcome(alloc, &given, &mut shelf, &mut link, &mut notes);
+    written(alloc, &link)
+}
+
+// The bytes that a row's run must write.
+fn due(alloc: Global, row: &Row) -> Result<Vec<u8>, Fail> {
+    match row.output {
+        Some(lines) => frames_of(alloc, lines),
+        None => Ok(Vec::new(alloc)),
+    }
+}
+
+// Whether a row's run, on pieces of such a size, writes and answers what it must.
+fn holds(alloc: Global, row: &Row, piece: usize) -> Result<bool, Fail> {
+    let given = words(alloc, row.words)?;
+    let frames = frames_of(alloc, row.input)?;
+    let mut shelf = shelf_of(alloc, row.text)?;
+    let mut link = link(alloc, &frames, piece, 4096)?;
+    let mut notes = MemSink::new(alloc, Vec::new(alloc));
+    let status = outcome(alloc, &given, &mut shelf, &mut link, &mut notes);
+    let told = notes.bytes() == row.note.as_bytes() && status == row.status;
+    let bytes = written(alloc, &link)?;
+    Ok(told && bytes.as_slice() == due(alloc, row)?.as_slice())
+}
+
+// The number of rows before the first that doesn't hold, in one piece or byte by byte, or none.
+fn first_wrong(alloc: Global, rows: &[Row]) -> Result<Option<usize>, Fail> {
+    for k in 0..rows.len() {
+        if !(holds(alloc, &rows[k], 4096)? && holds(alloc, &rows[k], 1)?) {
+            return Ok(Some(k));
+        }
+    }
+    Ok(None)
+}
+
+const EVENT_BY_EVENT: &[Row] = &[
+    ROW,
+    Row {
+        text: SWAP,
+        input: "L int 1\nR int 2\n",
+        output: Some("R int 1\nL int 2\n"),
+        ..ROW
+    },
+    Row {
+        text: SWAP,
+        input: "R int 2\nL int 1\n",
+        output: Some("L int 2\nR int 1\n"),
+        ..ROW
+    },
+    Row {
+        text: IN_TURN,
+        input: "F int 1\ncut\nint 2\n",
+        output: Some("F int 1\ncut\nint 2\n"),
+        ..ROW
+    },
+    Row {
+        text: CHOICE,
+        input: "R int 5\nL inl\nL one\n",
+        output: Some("inl\nint 5\n"),
+        ..ROW
+    },
+    Row {
+        text: "main(x : Int) : Int || Int = (x, x)",
+        input: "int 4\n",
+        output: Some("L int 4\nR int 4\n"),
+        ..ROW
+    },
+    Row {
+        text: "main() : 1 = ()",
+        input: "",
+        output: Some("one\n"),
+        ..ROW
+    },
+    Row {
+        text: AFTER_NOTHING,
+        input: "cut\nint 5\n",
+        output: Some("int 5\n"),
+        ..ROW
+    },
+    Row {
+        text: "main(x : 1; y : 1) : 1 . 1 = let z = (() : 1) in (z; x)",
+        input: "F one\ncut\none\n",
+        output: Some("F one\ncut\none\n"),
+        ..ROW
+    },
+    Row {
+        text: "main(x : Int, y : Int) : Int = let (a, b) = ((y, x) : Int || Int) in b",
+        input: "L int 4\nR int 5\n",
+        output: Some("int 4\n"),
+        ..ROW
+    },
+    Row {
+        text: "type N = Int\nmain(x : N) : N = let x = x in x",
+        input: "int 4\n",
+        output: Some("int 4\n"),
+        ..ROW
+    },
+    Row {
+        text: "main() : Int = if 1 < 2 then {7} else {8}",
+        input: "",
+        output: Some("int 7\n"),
+        ..ROW
+    },
+    Row {
+        text: "main(x : Int, y : Int) : Int || Int = let z = x in (z, y)",
+        input: "R int 5\nL int 4\n",
+        output: Some("R int 5\nL int 4\n"),
+        ..ROW
+    },
+];
+
+#[test]
+fn programs_answer_events(rt: HostRuntime) -> Result<(), Fail> {
+    assert_eq!(rt; first_wrong(rt.alloc(), EVENT_BY_EVENT)?, None);
+    Ok(())
+}
+
+const FEEDS: &[Row] = &[
+    Row {
+        text: DOUBLE,
+        input: THREE,
+        output: Some(SIX),
+        ..ROW
+    },
+    Row {
+        text: DOUBLE,
+        input: "end\n",
+        output: Some("end\n"),
+        ..ROW
+    },
+    Row {
+        text: COPY,
+        input: THREE,
+        output: Some(THREE),
+        ..ROW
+    },
+    Row {
+        text: SUMS,
+        input: "item\nF int 2\ncut\nitem\nF int 3\ncut\nend\n",
+        output: Some("item\nF int 2\ncut\nitem\nF int 5\ncut\nend\n"),
+        ..ROW
+    },
+    Row {
+        text: TOTAL,
+        input: "item\nF int 9223372036854775807\ncut\nitem\nF int 1\ncut\nend\n",
+        output: Some("int 9223372036854775807\n"),
+        ..ROW
+    },
+    Row {
+        text: FIRST,
+        input: THREE,
+        output: Some("inl\nint 3\n"),
+        ..ROW
+    },
+    Row {
+        text: FIRST,
+        input: "end\n",
+        output: Some("inr\none\n"),
+        ..ROW
+    },
+    Row {
+        text: ALARM,
+        input: "item\nF int 7\ncut\nitem\nF int 200\ncut\nend\n",
+        output: Some(
+            "L item\nL F int 7\nL cut\nL item\nL F int 200\nL cut\nR item\nR F one\nR cut\nL end\nR end\n",
+        ),
+        ..ROW
+    },
+];
+
+#[test]
+fn programs_run_over_feeds(rt: HostRuntime) -> Result<(), Fail> {
+    assert_eq!(rt; first_wrong(rt.alloc(), FEEDS)?, None);
+    Ok(())
+}
+
+const STOPPED: Row = Row {
+    output: Some(""),
+    status: 5,
+    ..ROW
+};
+
+const BUDGETS: &[Row] = &[
+    Row {
+        words: "run program --budget 3",
+        text: LOOP,
+        note: "delta: stopped: Budget at 0\n",
+        ..STOPPED
+    },
+    Row {
+        words: "run program --budget 1",
+        text: DOUBLE,
+        input: THREE,
+        output: Some(SIX),
+        ..ROW
+    },
+    Row {
+        words: "run program --budget 0",
+        text: DOUBLE,
+        input: THREE,
+        note: "delta: stopped: Budget at 0\n",
+        ..STOPPED
+    },
+    Row {
+        words: "run program --budget 1",
+        text: COPY,
+        input: THREE,
+        output: Some(THREE),
+        ..ROW
+    },
+    Row {
+        words: "run program --budget 100",
+        text: DOWN,
+        input: "int 100\n",
+        note: "delta: stopped: Budget at 4\n",
+        ..STOPPED
+    },
+    Row {
+        words: "run program --budget 101",
+        text: DOWN,
+        input: "int 100\n",
+        ..ROW
+    },
+];
+
+#[test]
+fn budgets_are_renewed(rt: HostRuntime) -> Result<(), Fail> {
+    assert_eq!(rt; first_wrong(rt.alloc(), BUDGETS)?, None);
+    Ok(())
+}
+
+const OPEN: Row = Row {
+    note: "delta: input open\n",
+    status: 6,
+    ..ROW
+};
+
+const ENDS: &[Row] = &[
+    Row {
+        input: "",
+        output: Some(""),
+        ..OPEN
+    },
+    Row {
+        text: DOUBLE,
+        input: "item\nF int 3\n",
+        output: Some("item\nF int 6\ncut\n"),
+        ..OPEN
+    },
+    Row {
+        text: IN_TURN,
+        input: "cut\n",
+        output: Some(""),
+        note: "delta: input refused: EarlyCut at 4\n",
+        status: 4,
+        ..ROW
+    },
+    Row {
+        input: "L int 4\n",
+        output: Some(""),
+        note: "delta: input refused: WrongStep at 4\n",
+        status: 4,
+        ..ROW
+    },
+    Row {
+        input: "int 7\nint 7\n",
+        note: "delta: input refused: Ended at 14\n",
+        status: 4,
+        ..ROW
+    },
+    Row {
+        text: AFTER_NOTHING,
+        input: "int 5\n",
+        output: Some(""),
+        note: "delta: input refused: WrongLeaf at 4\n",
+        status: 4,
+        ..ROW
+    },
+];
+
+#[test]
+fn inputs_end_early_or_wrongly(rt: HostRuntime) -> Result<(), Fail> {
+    assert_eq!(rt; first_wrong(rt.alloc(), ENDS)?, None);
+    Ok(())
+}
+
+const REFUSED: Row = Row {
+    output: None,
+    status: 3,
+    ..ROW
+};
+
+const REFUSALS: &[Row] = &[
+    Row {
+        text: "main(x : Int, y : Int) : Int . Int = (x; y)",
+        note: "delta: program refused: OutOfOrder at 37\n",
+        ..REFUSED
+    },
+    Row {
+        text: "fun f(a : 1; b : 1) : 1 = a\nmain(x : 1; y : 1) : 1 = f(x, ())",
+        note: "delta: program refused: Jumpy at 53\n",
+        ..REFUSED
+    },
+    Row {
+        text: "main(x : eps, y : Int) : Int = wait x in y",
+        note: "delta: program refused: WaitNull at 31\n",
+        ..REFUSED
+    },
+    Row {
+        text: "main() : Int******************************** = nil",
+        note: "delta: program refused: WideOutput at 0\n",
+        ..REFUSED
+    },
+    Row {
+        text: "main(x : Int) : Int = twice(x)",
+        note: "delta: program refused: NoFunction at 22\n",
+        ..REFUSED
+    },
+];
+
+#[test]
+fn texts_are_refused(rt: HostRuntime) -> Result<(), Fail> {
+    assert_eq!(rt; first_wrong(rt.alloc(), REFUSALS)?, None);
+    Ok(())
+}
+
+// The lines that are put out before the read with this number.
+fn lines_before(alloc: Global, turns: &[(&str, &str)], reads: usize) -> Result<String, Fail> {
+    let mut lines = String::new(alloc);
+    for k in 0..turns.len() {
+        if k <= reads {
+            lines.push_str(turns[k].1)?;
+        }
+    }
+    Ok(lines)
+}
+
+// The pieces of an input: the header, and the frames of each turn's lines.
+fn pieces_of(alloc: Global, turns: &[(&str, &str)]) -> Result<Vec<Vec<u8>>, Fail> {
+    let mut pieces: Vec<Vec<u8>> = Vec::new(alloc);
+    for (lines, _) in turns {
+        let frames = frames_of(alloc, lines)?;
+        let header = if pieces.is_empty() {
+            0
+        } else {
+            frames.len().min(4)
+        };
+        pieces.push(frames[header..].to_vec(alloc)?)?;
+    }
+    Ok(pieces)
+}
+
+// Whether all that is due for what was read was written before each further read.
+fn is_prompt(alloc: Global, turns: &[(&str, &str)], link: &MemLink) -> Result<bool, Fail> {
+    let mut bytes: Vec<u8> = Vec::new(alloc);
+    let mut reads: usize = 0;
+    let mut all = true;
+    for step in link.log() {
+        match step {
+            Move::Out(piece) => bytes.extend_from_slice(piece.as_slice())?,
+            Move::In(_) => {
+                if reads > 0 {
+                    let lines = lines_before(alloc, turns, reads - 1)?;
+                    let frames = frames_of(alloc, &lines)?;
+                    all = all && bytes.as_slice() == frames.as_slice();
+                }
+                reads = reads.saturating_add(1);
+            }
+        }
+    }
+    Ok(all && reads > turns.len())
+}
+
+// Whether a program over a feed that is held open answers each turn's lines by those beside them.
+fn answers(alloc: Global, text: &str, turns: &[(&str, &str)]) -> Result<bool, Fail> {
+    let given = words(alloc, "run program")?;
+    let mut shelf = shelf_of(alloc, text)?;
+    let mut link = MemLink::new(
+        alloc,
+        pieces_of(alloc, turns)?,
+        Vec::new(alloc),
+        Vec::new(alloc),
+        4096,
+    );
+    let mut notes = MemSink::new(alloc, Vec::new(alloc));
+    let _status = outcome(alloc, &given, &mut shelf, &mut link, &mut notes);
+    is_prompt(alloc, turns, &link)
+}
+
+#[test]
+fn each_event_is_answered_before_the_next(rt: HostRuntime) -> Result<(), Fail> {
+    let doubled = [
+        ("", ""),
+        ("item\n", ""),
+        ("F int 3\n", "item\nF int 6\ncut\n"),
+        ("cut\n", ""),
+        ("end\n", "end\n"),
+    ];
+    assert!(rt; answers(rt.alloc(), DOUBLE, &doubled)?);
+    let chosen = [
+        ("", ""),
+        ("R int 5\n", ""),
+        ("L inl\n", "inl\nint 5\n"),
+        ("L one\n", ""),
+    ];
+    assert!(rt; answers(rt.alloc(), CHOICE, &chosen)?);
+    Ok(())
+}

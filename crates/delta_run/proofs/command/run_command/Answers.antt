@@ -1,0 +1,70 @@
+use Rattle.std.proofs.Common.{◌∙◌, List, ℕ, Some, map, string_bytes, ap, sym, subst, refl}
+use Rattle.event_frame.specs.declared.version.Version.{Version}
+use Rattle.delta_words.specs.CommandTask.{asked}
+use Rattle.delta_run.specs.CommandLine.{frames_of}
+use Rattle.delta_run.specs.Text.{OfFile, RanText}
+use Rattle.delta_run.specs.Printed.{PrintedText}
+use Rattle.delta_run.specs.Checked.{ChecksText}
+use Rattle.delta_run.specs.Evaluated.{EvaluatedText}
+use Rattle.delta_run.proofs.Budgets.{run_is_small, eval_is_small}
+use Rattle.delta_run.proofs.CommandLines.{same_run, same_check, same_eval, same_print}
+use Rattle.delta_run.proofs.command.run_command.Goals as goal
+
+pub returns-in-Ok-Run-clause-command : goal.returns-in-Ok-Run-clause-command
+returns-in-Ok-Run-clause-command g c nothing = absurd (nothing _ (c.in-Ok-Run.ensures.ok ∙ ap (λ t. Some (asked t)) c.in-Ok-Run.field-0-is) refl)
+
+pub run_file-requires : goal.run_file-requires
+run_file-requires g c = run_is_small (map string_bytes c.args.words.now) _ _ _ (c.in-Ok-Run.ensures.ok ∙ ap (λ t. Some (asked t)) c.in-Ok-Run.field-0-is)
+
+pub returns-in-Ok-Run-clause-ran : goal.returns-in-Ok-Run-clause-ran
+returns-in-Ok-Run-clause-ran g c file budget v is =
+    let same = same_run _ _ _ _ _ _ (sym (c.in-Ok-Run.ensures.ok ∙ ap (λ t. Some (asked t)) c.in-Ok-Run.field-0-is) ∙ is) in
+    let in_version = subst (λ (w : Version). OfFile (g.S.Shelf.holds c.args.shelf.now) c.deref.result.now (λ text. RanText text c.in-Ok-Run.budget w
+    (g.L.Link.log c.args.link.now) (g.L.Link.log c.run_file.new.link) (g.L.Link.left c.args.link.now) (g.L.Link.left c.run_file.new.link) c.run_file.result))
+    (c.frame_version.ensures ∙ ap frames_of same.2) c.run_file.ensures.ran in
+    let with_budget = subst (λ (b : ℕ). OfFile (g.S.Shelf.holds c.args.shelf.now) c.deref.result.now (λ text. RanText text b (frames_of v)
+    (g.L.Link.log c.args.link.now) (g.L.Link.log c.run_file.new.link) (g.L.Link.left c.args.link.now) (g.L.Link.left c.run_file.new.link) c.run_file.result)) same.1 in_version in
+    subst (λ (name : List ℕ). OfFile (g.S.Shelf.holds c.args.shelf.now) name (λ text. RanText text budget (frames_of v)
+    (g.L.Link.log c.args.link.now) (g.L.Link.log c.run_file.new.link) (g.L.Link.left c.args.link.now) (g.L.Link.left c.run_file.new.link) c.run_file.result))
+    (c.deref.ensures ∙ same.0) with_budget
+
+pub returns-in-Ok-Frames-clause-command : goal.returns-in-Ok-Frames-clause-command
+returns-in-Ok-Frames-clause-command g c nothing = absurd (nothing _ (c.in-Ok-Frames.ensures.ok ∙ ap (λ t. Some (asked t)) c.in-Ok-Frames.field-0-is) refl)
+
+pub returns-in-Ok-Text-clause-command : goal.returns-in-Ok-Text-clause-command
+returns-in-Ok-Text-clause-command g c nothing = absurd (nothing _ (c.in-Ok-Text.ensures.ok ∙ ap (λ t. Some (asked t)) c.in-Ok-Text.field-0-is) refl)
+
+pub returns-in-Ok-Print-clause-command : goal.returns-in-Ok-Print-clause-command
+returns-in-Ok-Print-clause-command g c nothing = absurd (nothing _ (c.in-Ok-Print.ensures.ok ∙ ap (λ t. Some (asked t)) c.in-Ok-Print.field-0-is) refl)
+
+pub returns-in-Ok-Print-clause-printed : goal.returns-in-Ok-Print-clause-printed
+returns-in-Ok-Print-clause-printed g c file is =
+    let same = same_print _ _ (sym (c.in-Ok-Print.ensures.ok ∙ ap (λ t. Some (asked t)) c.in-Ok-Print.field-0-is) ∙ is) in
+    subst (λ (name : List ℕ). OfFile (g.S.Shelf.holds c.args.shelf.now) name (λ text. PrintedText text (g.L.Link.log c.args.link.now) (g.L.Link.log c.print_file.new.link) c.print_file.result))
+    (c.deref-in-Ok-Print.ensures ∙ same) c.print_file.ensures.printed
+
+pub returns-in-Ok-Check-clause-command : goal.returns-in-Ok-Check-clause-command
+returns-in-Ok-Check-clause-command g c nothing = absurd (nothing _ (c.in-Ok-Check.ensures.ok ∙ ap (λ t. Some (asked t)) c.in-Ok-Check.field-0-is) refl)
+
+pub returns-in-Ok-Check-clause-checked : goal.returns-in-Ok-Check-clause-checked
+returns-in-Ok-Check-clause-checked g c file is =
+    let same = same_check _ _ (sym (c.in-Ok-Check.ensures.ok ∙ ap (λ t. Some (asked t)) c.in-Ok-Check.field-0-is) ∙ is) in
+    subst (λ (name : List ℕ). OfFile (g.S.Shelf.holds c.args.shelf.now) name (λ text. ChecksText text c.check_file.result)) (c.deref-in-Ok-Check.ensures ∙ same) c.check_file.ensures.checked
+
+pub returns-in-Ok-Eval-clause-command : goal.returns-in-Ok-Eval-clause-command
+returns-in-Ok-Eval-clause-command g c nothing = absurd (nothing _ (c.in-Ok-Eval.ensures.ok ∙ ap (λ t. Some (asked t)) c.in-Ok-Eval.field-0-is) refl)
+
+pub eval_file-requires : goal.eval_file-requires
+eval_file-requires g c = eval_is_small (map string_bytes c.args.words.now) _ _ _ (c.in-Ok-Eval.ensures.ok ∙ ap (λ t. Some (asked t)) c.in-Ok-Eval.field-0-is)
+
+pub returns-in-Ok-Eval-clause-evaluated : goal.returns-in-Ok-Eval-clause-evaluated
+returns-in-Ok-Eval-clause-evaluated g c file budget v is =
+    let same = same_eval _ _ _ _ _ _ (sym (c.in-Ok-Eval.ensures.ok ∙ ap (λ t. Some (asked t)) c.in-Ok-Eval.field-0-is) ∙ is) in
+    let in_version = subst (λ (w : Version). OfFile (g.S.Shelf.holds c.args.shelf.now) c.deref-in-Ok-Eval.result.now (λ text. EvaluatedText text c.in-Ok-Eval.budget w
+    (g.L.Link.log c.args.link.now) (g.L.Link.log c.eval_file.new.link) (g.L.Link.left c.args.link.now) (g.L.Link.left c.eval_file.new.link) c.eval_file.result))
+    (c.frame_version-in-Ok-Eval.ensures ∙ ap frames_of same.2) c.eval_file.ensures.evaluated in
+    let with_budget = subst (λ (b : ℕ). OfFile (g.S.Shelf.holds c.args.shelf.now) c.deref-in-Ok-Eval.result.now (λ text. EvaluatedText text b (frames_of v)
+    (g.L.Link.log c.args.link.now) (g.L.Link.log c.eval_file.new.link) (g.L.Link.left c.args.link.now) (g.L.Link.left c.eval_file.new.link) c.eval_file.result)) same.1 in_version in
+    subst (λ (name : List ℕ). OfFile (g.S.Shelf.holds c.args.shelf.now) name (λ text. EvaluatedText text budget (frames_of v)
+    (g.L.Link.log c.args.link.now) (g.L.Link.log c.eval_file.new.link) (g.L.Link.left c.args.link.now) (g.L.Link.left c.eval_file.new.link) c.eval_file.result))
+    (c.deref-in-Ok-Eval.ensures ∙ same.0) with_budget

@@ -1,5 +1,0 @@
-use Rattle.std.proofs.Common.{length}
-use Rattle.delta_run.proofs.evaluation.+look.Given as goal
-
-abbrev pub decreases-look : goal.decreases-look
-decreases-look l = length l.env.now

@@ -1,0 +1,38 @@
+-- What a run that ended with 0, 4 or 6 owes to its whole input: its status and its bytes, whatever the pieces and the budget.
+use Rattle.std.specs.Prelude.{◌≡◌, ◌⊎◌, ℕ, List, Bool, true, false, Option, Some, None}
+use Rattle.port.specs.declared.link.Move.{Move}
+use Rattle.port.specs.Moves.{bytes_written}
+use Rattle.event_frame.specs.declared.version.Version.{Version}
+use Rattle.event_frame.specs.Reading.{whole}
+use Rattle.delta_tree.specs.SyntaxTree.{ProgramTree}
+use Rattle.core_term.specs.CoreTerm.{CoreProgram}
+use Rattle.delta_end.specs.declared.end.InputFault.{InputFault}
+use Rattle.delta_accept.specs.Acceptance.{IsWritable}
+use Rattle.delta_loop.specs.Meaning.{Meaning}
+use Rattle.delta_loop.specs.Finding.{finding}
+use Rattle.delta_loop.specs.Output.{accepted, due}
+use Rattle.delta_loop.specs.Answer.{Adds}
+use Rattle.delta_output.specs.OneShot.{meaning_of}
+use Rattle.delta_spoken.specs.TreeOneShot.{one_shot_of}
+
+-- the input was refused, or it ended where it may end, or where more is awaited
+abbrev pub IsOverInput : ℕ → Type 0
+IsOverInput status = (status ≡ 0) ⊎ (status ≡ 4) ⊎ (status ≡ 6)
+
+-- the status by what is wrong with the input, and by whether it may end here
+abbrev pub status_by : Option InputFault → Bool → ℕ
+status_by (Some fault) finishes = 4
+status_by None true = 0
+status_by None false = 6
+
+abbrev pub status_over : Meaning → List ℕ → ℕ
+status_over P all = status_by (finding P all true) (P.finishes (accepted P (whole all)))
+
+-- a run over this whole input that ended with such a status: the status is that of the input, and what was written is due for it
+abbrev pub IsSettled : Meaning → List ℕ → Option (List Move) → Option (List Move) → ℕ → Type 0
+IsSettled P all old new status = IsOverInput status → (status ≡ status_over P all) × Adds old new (λ moves. bytes_written moves ≡ due P all)
+
+-- so it is for an accepted text, with any budget in place of the run's
+abbrev pub SettlesWell : List ℕ → Version → Option (List ℕ) → Option (List Move) → Option (List Move) → ℕ → Type 0
+SettlesWell text v left old new status =
+    (p : ProgramTree) (c : CoreProgram) → IsWritable text v p c → (all : List ℕ) → left ≡ Some all → (budget : ℕ) → IsSettled (meaning_of v budget (one_shot_of p)) all old new status

@@ -1,0 +1,162 @@
+//! Does what a command line asks for.
+
+ghost use Rattle.std.specs.Prelude.{◌≡◌, ◌≢◌, ◌⊎◌, ◌<◌, ◌≤◌, ◌^◌, [], List, ℕ, Some, None, true, length};
+ghost use Rattle.delta_end.specs.declared.end.End.{End};
+ghost use Rattle.delta_words.specs.declared.task.Version.{Version as WrittenVersion};
+ghost use Rattle.delta_words.specs.CommandTask.{run, eval, check, print, text, frames};
+ghost use Rattle.delta_text.specs.Conversion.{frames_of_lines, Ran as Converted};
+ghost use Rattle.delta_text.specs.Lines.{lines_of_frames};
+ghost use Rattle.delta_loop.specs.Loop.{Ran as Lined};
+ghost use Rattle.delta_run.specs.Printed.{PrintedText};
+ghost use Rattle.delta_run.specs.Checked.{ChecksText};
+ghost use Rattle.delta_run.specs.Evaluated.{EvaluatedText};
+ghost use Rattle.delta_run.specs.CommandLine.{Asks, AskNothing, frames_of};
+ghost use Rattle.delta_end.specs.End.{FileCause, ReadCause, WriteCause};
+ghost use Rattle.delta_loop.specs.History.{IsUntouched};
+ghost use Rattle.delta_run.specs.Text.{OfFile, RanText};
+
+use delta_end::End;
+use delta_eval::eval_source;
+use delta_source::{check_source, print_source};
+use delta_state::Machine;
+use delta_stream::run_source;
+use delta_text::{write_frames, write_lines};
+use delta_words::{Task, WordsFault, read_words};
+use event_frame::Version;
+use port::{IoFault, Link, Shelf};
+use std::alloc::Global;
+
+// Runs the program of a file over a link.
+fn run_file<M: Machine, S: Shelf, L: Link>(
+    alloc: Global,
+    file: &str,
+    budget: u64,
+    version: Version,
+    shelf: &mut S,
+    link: &mut L,
+) -> End
+    requires { budget ≤ 1000000 }
+    ensures ran { OfFile (S.holds shelf.old) file.now (λ text. RanText text budget version (L.log link.old) (L.log link.new) (L.left link.old) (L.left link.new) result) }
+    ensures runs { result ≢ End.Usage }
+    ensures held { S.holds shelf.new ≡ S.holds shelf.old }
+    ensures file { FileCause result (S.faults shelf.old) (S.faults shelf.new) }
+    ensures read { ReadCause result (L.read_faults link.old) (L.read_faults link.new) }
+    ensures write { WriteCause result (L.write_faults link.old) (L.write_faults link.new) }
+{
+    match shelf.read(file) {
+        Ok(text) => run_source::<M, L>(alloc, &text, budget, version, link),
+        Err(IoFault::Memory) => End::Memory,
+        Err(IoFault::Failed) => End::FileFailed,
+    }
+}
+
+// Prints the program of a file.
+fn print_file<S: Shelf, L: Link>(alloc: Global, file: &str, shelf: &mut S, link: &mut L) -> End
+    ensures printed { OfFile (S.holds shelf.old) file.now (λ text. PrintedText text (L.log link.old) (L.log link.new) result) }
+    ensures prints { result ≢ End.Usage }
+    ensures unread { L.left link.new ≡ L.left link.old }
+    ensures held { S.holds shelf.new ≡ S.holds shelf.old }
+    ensures file { FileCause result (S.faults shelf.old) (S.faults shelf.new) }
+    ensures read { ReadCause result (L.read_faults link.old) (L.read_faults link.new) }
+    ensures write { WriteCause result (L.write_faults link.old) (L.write_faults link.new) }
+{
+    match shelf.read(file) {
+        Ok(text) => print_source(alloc, &text, link),
+        Err(IoFault::Memory) => End::Memory,
+        Err(IoFault::Failed) => End::FileFailed,
+    }
+}
+
+// Checks the program of a file.
+fn check_file<S: Shelf>(alloc: Global, file: &str, shelf: &mut S) -> End
+    ensures checked { OfFile (S.holds shelf.old) file.now (λ text. ChecksText text result) }
+    ensures checks { result ≢ End.Usage }
+    ensures held { S.holds shelf.new ≡ S.holds shelf.old }
+    ensures file { FileCause result (S.faults shelf.old) (S.faults shelf.new) }
+    ensures read { (count : ℕ) → ReadCause result count count }
+    ensures write { (count : ℕ) → WriteCause result count count }
+{
+    match shelf.read(file) {
+        Ok(text) => check_source(alloc, &text),
+        Err(IoFault::Memory) => End::Memory,
+        Err(IoFault::Failed) => End::FileFailed,
+    }
+}
+
+// Evaluates the program of a file over a link.
+fn eval_file<S: Shelf, L: Link>(
+    alloc: Global,
+    file: &str,
+    budget: u64,
+    version: Version,
+    shelf: &mut S,
+    link: &mut L,
+) -> End
+    requires { budget < 2 ^ 62 }
+    ensures evaluated { OfFile (S.holds shelf.old) file.now (λ text. EvaluatedText text budget version (L.log link.old) (L.log link.new) (L.left link.old) (L.left link.new) result) }
+    ensures evaluates { result ≢ End.Usage }
+    ensures held { S.holds shelf.new ≡ S.holds shelf.old }
+    ensures file { FileCause result (S.faults shelf.old) (S.faults shelf.new) }
+    ensures read { ReadCause result (L.read_faults link.old) (L.read_faults link.new) }
+    ensures write { WriteCause result (L.write_faults link.old) (L.write_faults link.new) }
+{
+    match shelf.read(file) {
+        Ok(text) => eval_source(alloc, &text, budget, version, link),
+        Err(IoFault::Memory) => End::Memory,
+        Err(IoFault::Failed) => End::FileFailed,
+    }
+}
+
+// The version of frames that a command line asks for.
+fn frame_version(version: delta_words::Version) -> Version
+    ensures { result ≡ frames_of version }
+{
+    match version {
+        delta_words::Version::V1 => Version::V1,
+        delta_words::Version::V2 => Version::V2,
+    }
+}
+
+/// Does what the words ask for, up to its end.
+pub fn run_command<M: Machine, S: Shelf, L: Link>(
+    alloc: Global,
+    words: &[String],
+    shelf: &mut S,
+    link: &mut L,
+) -> End
+    ensures usage { result ≡ End.Usage → AskNothing words.now }
+    ensures command { AskNothing words.now → ((result ≡ End.Usage) ⊎ (result ≡ End.Memory)) × IsUntouched (L.log link.old) (L.log link.new) (L.left link.old) (L.left link.new) }
+    ensures ran { (file : List ℕ) (budget : ℕ) (v : WrittenVersion) → Asks words.now (run file budget v)
+        → OfFile (S.holds shelf.old) file (λ text. RanText text budget (frames_of v) (L.log link.old) (L.log link.new) (L.left link.old) (L.left link.new) result) }
+    ensures framed { (v : WrittenVersion) → Asks words.now (frames v)
+        → ((result ≡ End.Memory) × IsUntouched (L.log link.old) (L.log link.new) (L.left link.old) (L.left link.new))
+        ⊎ Converted (frames_of_lines (frames_of v)) (L.log link.old) (L.log link.new) (L.left link.old) (L.left link.new) result }
+    ensures lined { Asks words.now text → ((result ≡ End.Memory) × IsUntouched (L.log link.old) (L.log link.new) (L.left link.old) (L.left link.new))
+        ⊎ Lined lines_of_frames (L.log link.old) (L.log link.new) (L.left link.old) (L.left link.new) result }
+    ensures printed { (file : List ℕ) → Asks words.now (print file) → OfFile (S.holds shelf.old) file (λ text. PrintedText text (L.log link.old) (L.log link.new) result) }
+    ensures unread { (file : List ℕ) → Asks words.now (print file) → L.left link.new ≡ L.left link.old }
+    ensures checked { (file : List ℕ) → Asks words.now (check file) → OfFile (S.holds shelf.old) file (λ text. ChecksText text result) }
+    ensures checking { (file : List ℕ) → Asks words.now (check file) → IsUntouched (L.log link.old) (L.log link.new) (L.left link.old) (L.left link.new) }
+    ensures evaluated { (file : List ℕ) (budget : ℕ) (v : WrittenVersion) → Asks words.now (eval file budget v)
+        → OfFile (S.holds shelf.old) file (λ text. EvaluatedText text budget (frames_of v) (L.log link.old) (L.log link.new) (L.left link.old) (L.left link.new) result) }
+    ensures held { S.holds shelf.new ≡ S.holds shelf.old }
+    ensures file { FileCause result (S.faults shelf.old) (S.faults shelf.new) }
+    ensures read { ReadCause result (L.read_faults link.old) (L.read_faults link.new) }
+    ensures write { WriteCause result (L.write_faults link.old) (L.write_faults link.new) }
+{
+    match read_words(alloc, words) {
+        Ok(Task::Run(file, budget, version)) => {
+            run_file::<M, S, L>(alloc, &file, budget, frame_version(version), shelf, link)
+        }
+        Ok(Task::Frames(version)) => write_frames(alloc, frame_version(version), link),
+        Ok(Task::Text) => write_lines(alloc, link),
+        Ok(Task::Print(file)) => print_file(alloc, &file, shelf, link),
+        Ok(Task::Check(file)) => check_file(alloc, &file, shelf),
+        Ok(Task::Eval(file, budget, version)) => {
+            eval_file(alloc, &file, budget, frame_version(version), shelf, link)
+        }
+        Ok(Task::Gen(..)) => End::Usage,
+        Err(WordsFault::Usage) => End::Usage,
+        Err(WordsFault::Memory) => End::Memory,
+    }
+}
