@@ -1,0 +1,4 @@
+-- What the contracts cite.
+pub mod Rearranging
+pub mod Derivation
+pub mod Laws
