@@ -5,4 +5,5 @@ pub mod Serving
 pub mod Parts
 pub mod Derivations
 pub mod Programs
+pub mod Lines
 mod Examples

@@ -6,6 +6,7 @@ use Rattle.bunch.specs.BunchTree.{BunchTree, IsDistinct, leaf_names, stands_befo
 use Rattle.core_term.specs.CoreTerm.{CoreTerm, CoreBody, CoreProgram, fun_at}
 use Rattle.core_term.specs.FreeNames.{bound_names, is_distinct, IsBoundOnce, IsCore}
 use Rattle.core_term.specs.Typing.{Context, HasType, IsTypedBody, IsTypedCore}
+use Rattle.bunch_rules.specs.Written.{Line, IsWritten}
 use Rattle.bunch_rules.specs.Derivation.{Known, HasLeaf, Derives, IsDerivedBody, IsDerived}
 
 -- a context has the names of a bunch with their types, and the bunch's facts of order; it may have more of both
@@ -36,3 +37,11 @@ DerivedBodyIsTyped = (funs : List CoreBody) (texts : ℕ) (b : CoreBody) → Are
 -- a program whose bodies are derived is typed
 abbrev pub DerivedProgramIsTyped : Type 0
 DerivedProgramIsTyped = (c : CoreProgram) → IsCore c → IsDerived c → IsTypedCore c
+
+-- what lines write is a derivation
+abbrev pub WrittenIsDerived : Type 0
+WrittenIsDerived = (c : CoreProgram) (ls : List Line) → IsWritten c ls → IsDerived c
+
+-- so a program of which lines write a derivation is typed
+abbrev pub WrittenProgramIsTyped : Type 0
+WrittenProgramIsTyped = (c : CoreProgram) (ls : List Line) → IsCore c → IsWritten c ls → IsTypedCore c
