@@ -1,13 +1,13 @@
 -- What lines write is a derivation.
-use Rattle.std.proofs.Common.{ℕ, Bool, List, [], ◌∷◌}
+use Rattle.std.proofs.Common.{ℕ, Bool, List}
 use Rattle.std.specs.List.{All}
 use Rattle.std.proofs.lemmas.List.Elements.{All-nil, All-cons}
 use Rattle.stream_type.specs.StreamType.{StreamType}
 use Rattle.bunch.specs.BunchTree.{BunchTree}
 use Rattle.core_term.specs.CoreTerm.{CoreTerm, CoreTerms, CoreBody}
 use Rattle.core_term.specs.Inert.{is_inert_fun}
-use Rattle.bunch_rules.specs.Derivation.{Known, Derives, Passes, Shares, nothing_passed, shared, empty_shared, leaf_shared, comma_shared, semi_shared, IsDerivedBody, IsDerived, rearranged, var_rule, eps_rule, unit_rule, nil_rule, past_rule, par_rule, inl_rule, inr_rule, cat_rule, cons_rule, let_rule, let_par_rule, let_cat_rule, case_sum_rule, case_star_rule, wait_rule, call_rule}
-use Rattle.bunch_rules.specs.Written.{Line, Writes, WritesPassed, WritesShared, nothing_written, shared_lines, empty_lines, leaf_lines, comma_lines, semi_lines, WritesBody, WritesBodies, no_bodies, body_first, IsWritten, line_of_step, var_line, eps_line, unit_line, nil_line, past_line, par_line, inl_line, inr_line, cat_line, cons_line, let_line, let_par_line, let_cat_line, case_sum_line, case_star_line, wait_line, call_line}
+use Rattle.bunch_rules.specs.Derivation.{Known, Derives, Passes, Shares, nothing_passed, shared, empty_shared, leaf_shared, comma_shared, semi_shared, IsDerivedBody, rearranged, var_rule, eps_rule, unit_rule, nil_rule, past_rule, par_rule, inl_rule, inr_rule, cat_rule, cons_rule, let_rule, let_par_rule, let_cat_rule, case_sum_rule, case_star_rule, wait_rule, call_rule}
+use Rattle.bunch_rules.specs.Written.{Line, Writes, WritesPassed, WritesShared, nothing_written, shared_lines, empty_lines, leaf_lines, comma_lines, semi_lines, WritesBodies, no_bodies, body_first, line_of_step, var_line, eps_line, unit_line, nil_line, past_line, par_line, inl_line, inr_line, cat_line, cons_line, let_line, let_par_line, let_cat_line, case_sum_line, case_star_line, wait_line, call_line}
 use Rattle.bunch_rules.specs.Laws.{WrittenIsDerived, WrittenProgramIsTyped}
 use Rattle.bunch_rules.proofs.Programs.{derived_program_is_typed}
 
