@@ -1,0 +1,5 @@
+use Rattle.bunch_rules.proofs.Programs.{derived_body_is_typed}
+use Rattle.bunch_rules.proofs.laws.derived_body_is_typed.Goals as goal
+
+pub returns : goal.returns
+returns c = derived_body_is_typed

@@ -1,0 +1,5 @@
+-- What the contracts cite.
+pub mod Rearranging
+pub mod Derivation
+pub mod Written
+pub mod Laws
