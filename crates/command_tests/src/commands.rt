@@ -308,8 +308,7 @@ fn faults_are_told(rt: HostRuntime) -> Result<(), Fail> {
 
 const IN_TURN: &[u8] = b"main(x : Int; y : Int) : Int . Int = (x; y)";
 
-const IN_TURN_FRAMES: &[u8] =
-    b"DEV2\x01\xc0\x11\0\0\0\0\0\0\0\x01\0\x14\0\x11\0\0\0\0\0\0\0\x02";
+const IN_TURN_FRAMES: &[u8] = b"DEV2\x01\xc0\x11\0\0\0\0\0\0\0\x01\0\x14\0\x11\0\0\0\0\0\0\0\x02";
 
 const LONG: Row = Row {
     text: SWAP,

@@ -11,14 +11,16 @@ const SWAP: &str = "main(x : Int, y : Int) : Int || Int = (y, x)";
 
 const IN_TURN: &str = "main(x : Int; y : Int) : Int . Int = (x; y)";
 
-const DOUBLE: &str = "fun twice(xs : Int*) : Int* = case xs of { nil => nil | y :: ys => wait y in ({y * 2} :: twice(ys)) }
+const DOUBLE: &str =
+    "fun twice(xs : Int*) : Int* = case xs of { nil => nil | y :: ys => wait y in ({y * 2} :: twice(ys)) }
 main(xs : Int*) : Int* = twice(xs)";
 
 const COPY: &str =
     "fun copy(xs : Int*) : Int* = case xs of { nil => nil | y :: ys => y :: copy(ys) }
 main(xs : Int*) : Int* = copy(xs)";
 
-const SUMS: &str = "fun sums{n : Int}(xs : Int*) : Int* = case xs of { nil => nil | y :: ys => wait y in ({n + y} :: sums{n + y}(ys)) }
+const SUMS: &str =
+    "fun sums{n : Int}(xs : Int*) : Int* = case xs of { nil => nil | y :: ys => wait y in ({n + y} :: sums{n + y}(ys)) }
 main(xs : Int*) : Int* = sums{0}(xs)";
 
 const ALARM: &str = "fun watch(xs : Int*) : Int* || 1* =
@@ -35,8 +37,7 @@ const TOTAL: &str = "main(xs : Int*) : Int = wait xs in {fold xs from 0 with a, 
 const CHOICE: &str =
     "main(z : 1 + 1, y : Int) : Int + Int = case z of { inl a => inl y | inr b => inr y }";
 
-const FIRST: &str =
-    "main(xs : Int*) : Int + 1 = case xs of { nil => inr () | y :: ys => inl y }";
+const FIRST: &str = "main(xs : Int*) : Int + 1 = case xs of { nil => inr () | y :: ys => inl y }";
 
 const LOOP: &str = "fun loop(x : Int) : Int = loop(x)
 main(x : Int) : Int = loop(x)";
@@ -251,7 +252,9 @@ const FEEDS: &[Row] = &[
     Row {
         text: ALARM,
         input: "item\nF int 7\ncut\nitem\nF int 200\ncut\nend\n",
-        output: Some("L item\nL F int 7\nL cut\nL item\nL F int 200\nL cut\nR item\nR F one\nR cut\nL end\nR end\n"),
+        output: Some(
+            "L item\nL F int 7\nL cut\nL item\nL F int 200\nL cut\nR item\nR F one\nR cut\nL end\nR end\n",
+        ),
         ..ROW
     },
 ];
@@ -425,11 +428,15 @@ fn lines_before(alloc: Global, turns: &[(&str, &str)], reads: usize) -> Result<S
 
 // The pieces of an input: the header, and the frames of each turn's lines.
 fn pieces_of(alloc: Global, turns: &[(&str, &str)]) -> Result<Vec<Vec<u8>>, Fail> {
-    let mut pieces = Vec::new(alloc);
+    let mut pieces: Vec<Vec<u8>> = Vec::new(alloc);
     for (lines, _) in turns {
         let frames = frames_of(alloc, lines)?;
-        let from = if pieces.is_empty() { 0 } else { 4 };
-        pieces.push(frames.get(from..).unwrap_or(&[]).to_vec(alloc)?)?;
+        let header = if pieces.is_empty() {
+            0
+        } else {
+            frames.len().min(4)
+        };
+        pieces.push(frames[header..].to_vec(alloc)?)?;
     }
     Ok(pieces)
 }
@@ -437,7 +444,7 @@ fn pieces_of(alloc: Global, turns: &[(&str, &str)]) -> Result<Vec<Vec<u8>>, Fail
 // Whether all that is due for what was read was written before each further read.
 fn is_prompt(alloc: Global, turns: &[(&str, &str)], link: &MemLink) -> Result<bool, Fail> {
     let mut bytes: Vec<u8> = Vec::new(alloc);
-    let mut reads = 0;
+    let mut reads: usize = 0;
     let mut all = true;
     for step in link.log() {
         match step {
@@ -459,7 +466,13 @@ fn is_prompt(alloc: Global, turns: &[(&str, &str)], link: &MemLink) -> Result<bo
 fn answers(alloc: Global, text: &str, turns: &[(&str, &str)]) -> Result<bool, Fail> {
     let given = words(alloc, "run program")?;
     let mut shelf = shelf_of(alloc, text)?;
-    let mut link = MemLink::new(alloc, pieces_of(alloc, turns)?, Vec::new(alloc), Vec::new(alloc), 4096);
+    let mut link = MemLink::new(
+        alloc,
+        pieces_of(alloc, turns)?,
+        Vec::new(alloc),
+        Vec::new(alloc),
+        4096,
+    );
     let mut notes = MemSink::new(alloc, Vec::new(alloc));
     let _status = outcome(alloc, &given, &mut shelf, &mut link, &mut notes);
     is_prompt(alloc, turns, &link)
@@ -467,9 +480,20 @@ fn answers(alloc: Global, text: &str, turns: &[(&str, &str)]) -> Result<bool, Fa
 
 #[test]
 fn each_event_is_answered_before_the_next(rt: HostRuntime) -> Result<(), Fail> {
-    let doubled = [("", ""), ("item\n", ""), ("F int 3\n", "item\nF int 6\ncut\n"), ("cut\n", ""), ("end\n", "end\n")];
+    let doubled = [
+        ("", ""),
+        ("item\n", ""),
+        ("F int 3\n", "item\nF int 6\ncut\n"),
+        ("cut\n", ""),
+        ("end\n", "end\n"),
+    ];
     assert!(rt; answers(rt.alloc(), DOUBLE, &doubled)?);
-    let chosen = [("", ""), ("R int 5\n", ""), ("L inl\n", "inl\nint 5\n"), ("L one\n", "")];
+    let chosen = [
+        ("", ""),
+        ("R int 5\n", ""),
+        ("L inl\n", "inl\nint 5\n"),
+        ("L one\n", ""),
+    ];
     assert!(rt; answers(rt.alloc(), CHOICE, &chosen)?);
     Ok(())
 }

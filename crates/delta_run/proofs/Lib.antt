@@ -9,3 +9,4 @@ pub mod Printed
 pub mod Budgets
 pub mod Checked
 pub mod Evaluated
+pub mod Owing

@@ -16,7 +16,7 @@ use Rattle.delta_output.specs.OneShot.{meaning_of}
 use Rattle.delta_spoken.specs.TreeOneShot.{one_shot_of}
 use Rattle.delta_stream.specs.Running.{RanIts}
 use Rattle.delta_run.specs.Text.{RanText}
-use Rattle.delta_run.specs.Settled.{IsOverInput, IsSettled, SettlesWell}
+use Rattle.delta_run.specs.Settled.{IsOverInput, SettlesWell}
 use Rattle.delta_run.proofs.Settling.{none_other, run_settles, over_by_end, any_budget}
 
 module _ (text : List ℕ) (budget : ℕ) (v : Version) (old new : Option (List Move)) (left0 left1 : Option (List ℕ)) (status note0 note1 : ℕ) where

@@ -7,3 +7,11 @@ pub mod Lined
 pub mod Printed
 pub mod Checked
 pub mod Evaluated
+pub mod Outside
+pub mod Ends
+pub mod Runs
+pub mod Evals
+pub mod Checks
+pub mod Prints
+pub mod Lines
+pub mod Owes

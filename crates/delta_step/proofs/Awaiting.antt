@@ -1,20 +1,16 @@
 -- What is awaited after a prefix of a context's type, and the names that come behind it.
-use Rattle.std.proofs.Common.{◌≡◌, ◌∙◌, ℕ, List, [], ◌∷◌, ◌++◌, map, ap, ap₂, refl, sym}
-use Rattle.std.proofs.Common.{Bool, true, false}
-use Rattle.stream_type.specs.StreamType.{StreamType}
+use Rattle.std.proofs.Common.{◌≡◌, ◌∙◌, List, ◌∷◌, ◌++◌, map, ap, ap₂, refl, sym}
+use Rattle.std.proofs.Common.{true, false}
 use Rattle.stream_prefix.specs.StreamPrefix.{StreamPrefix, emp, der, join}
 use Rattle.stream_prefix.proofs.Derivations.{Derives, eps_has_emp, par_has_both, cat_has_fst, cat_has_both}
 use Rattle.stream_prefix.proofs.Joins.{der-emp, der-join}
 use Rattle.bunch.specs.BunchTree.{BunchTree, empty, leaf, comma, semi, as_type}
-use Rattle.core_term.specs.Environment.{left_at}
-use Rattle.core_term.specs.Agreement.{types_in}
-use Rattle.core_term.specs.Split.{split}
 use Rattle.delta_state.specs.StateTree.{HeldName, held_names}
 use Rattle.delta_state.specs.StateMeaning.{types_held}
 use Rattle.delta_state.specs.PlaceTree.{cuts_of, place_at}
 use Rattle.main_steps.specs.Splitting.{empty_entries, split_entries, over_entries, later_entries}
 use Rattle.main_steps.proofs.SplitLists.{over_lists}
-use Rattle.delta_step.specs.AwaitedTree.{AwaitedTree, stream_awaited, both_awaited, turns_awaited, whole_of, left_of, still_entries, entries_on, awaited_after, marks_of, place_in}
+use Rattle.delta_step.specs.AwaitedTree.{stream_awaited, both_awaited, turns_awaited, whole_of, left_of, still_entries, entries_on, awaited_after, marks_of, place_in}
 
 -- at the beginning: the whole, with nothing or with a prefix on it
 still_whole : (b : BunchTree) → still_entries (whole_of b) ≡ empty_entries b

@@ -1,7 +1,7 @@
 -- Where a part has a call at a level that is too great, so has the whole.
-use Rattle.std.proofs.Common.{◌≡◌, ℕ, ◌+◌, ◌-◌, ◌<◌, max, min, Bool, true, false, true≢false, ◌||◌, if◌then◌else◌, refl, sym, ap, subst, arith}
+use Rattle.std.proofs.Common.{◌≡◌, ℕ, ◌-◌, ◌<◌, max, Bool, true, false, true≢false, ◌||◌, sym, subst, arith}
 use Rattle.stream_prefix.specs.StreamPrefix.{is_maximal}
-use Rattle.core_term.specs.Run.{Run, Runs, deeper, par_run, cat_run, cat_run_at, let_run, frame_run, call_run}
+use Rattle.core_term.specs.Run.{Run, Runs, deeper, cat_run, cat_run_at, let_run, frame_run, call_run}
 use Rattle.delta_step.specs.Levels.{below}
 
 deeper_below : (still : Bool) (n m : ℕ) → below still n < m → n < deeper still m

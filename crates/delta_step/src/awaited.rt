@@ -61,6 +61,16 @@ pub fn entries(alloc: Global, a: &Awaited, d: &Prefix) -> Result<Vec<Entry>, Mem
     Ok(found)
 }
 
+/// Each name that is awaited, with its type and nothing on it: `still_entries` in `specs/AwaitedTree.antt`. Its
+/// only error is want of memory.
+pub fn still(alloc: Global, a: &Awaited) -> Result<Vec<Entry>, Memory>
+    ensures { IfOk result (λ v. map entry_in v.items ≡ still_entries (awaited_in a.now)) }
+{
+    let mut found = Vec::new(alloc);
+    add_still(alloc, a, &mut found)?;
+    Ok(found)
+}
+
 // Adds the names with their parts of what comes.
 fn add_entries(alloc: Global, a: &Awaited, d: &Prefix, found: &mut Vec<Entry>) -> Result<(), Memory>
     ensures { OnOk result (map entry_in found.new.items ≡ map entry_in found.old.items ++ entries_on (awaited_in a.now) (prefix_of d.now)) }

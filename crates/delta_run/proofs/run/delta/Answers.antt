@@ -1,14 +1,14 @@
-use Rattle.delta_end.proofs.Statuses.{status_is, status_rose, status_still, note_whole}
-use Rattle.delta_run.proofs.TextRuns.{text_prompt, text_within, text_return, text_complete, text_refused, two_or_eight}
-use Rattle.delta_run.proofs.SettledTexts.{text_settled}
-use Rattle.delta_end.proofs.Statuses.{two_is_usage}
+use Rattle.delta_end.proofs.Statuses.{two_is_usage, status_is, status_rose, status_still, note_whole}
 use Rattle.delta_text.specs.Conversion.{frames_of_lines}
 use Rattle.delta_run.specs.CommandLine.{frames_of}
+use Rattle.delta_run.proofs.TextRuns.{text_prompt, text_within, text_return, text_complete, text_refused, two_or_eight}
+use Rattle.delta_run.proofs.SettledTexts.{text_settled}
 use Rattle.delta_run.proofs.Conversions.{by_either, either_well}
 use Rattle.delta_run.proofs.Lined.{lined, lines_well}
 use Rattle.delta_run.proofs.Printed.{prints_text, printed_well, refused_well}
 use Rattle.delta_run.proofs.Checked.{passes_accepted, refuses_unaccepted}
 use Rattle.delta_run.proofs.Evaluated.{evals_text, evals_well, stops_well, refuses_unwritable}
+use Rattle.delta_run.proofs.Owing.{owes_by}
 use Rattle.delta_run.proofs.run.delta.Goals as goal
 
 pub returns-clause-usage : goal.returns-clause-usage
@@ -20,26 +20,73 @@ returns-clause-command g c never = two_or_eight _ _ _ _ (status_is _ _ _ _ _ c.a
 pub returns-clause-untouched : goal.returns-clause-untouched
 returns-clause-untouched g c never = (c.run_command-end.ensures.command never).1
 
-pub returns-clause-prompt : goal.returns-clause-prompt
-returns-clause-prompt g c file budget v is files tells = text_prompt _ budget (frames_of v) _ _ _ _ c.run_command-end.result (c.run_command-end.ensures.ran file budget v is files tells)
-
-pub returns-clause-limit : goal.returns-clause-limit
-returns-clause-limit g c file budget v is files tells = text_within _ budget (frames_of v) _ _ _ _ c.run_command-end.result (c.run_command-end.ensures.ran file budget v is files tells)
-
-pub returns-clause-answer : goal.returns-clause-answer
-returns-clause-answer g c = (
+pub returns-clause-owed : goal.returns-clause-owed
+returns-clause-owed g c = (
   c.run_command-end.result,
-  status_is _ _ _ _ _ c.answer.ensures c.note-said.ensures.cause,
-  λ file budget v is files tells. text_return _ budget (frames_of v) _ _ _ _ c.run_command-end.result (c.run_command-end.ensures.ran file budget v is files tells),
-  λ v is. by_either (frames_of_lines (frames_of v)) _ _ _ _ c.run_command-end.result (c.run_command-end.ensures.framed v is),
-  λ is. lined _ _ _ _ c.run_command-end.result (c.run_command-end.ensures.lined is),
-  λ file is files tells. prints_text _ _ _ c.run_command-end.result (c.run_command-end.ensures.printed file is files tells),
-  λ file is files tells. c.run_command-end.ensures.checked file is files tells,
-  λ file budget v is files tells. evals_text _ budget (frames_of v) _ _ _ _ c.run_command-end.result (c.run_command-end.ensures.evaluated file budget v is files tells),
-  c.run_command-end.ensures.file,
-  c.run_command-end.ensures.read,
-  c.run_command-end.ensures.write,
-  note_whole _ _ _ _ _ _ _ _ c.answer.ensures c.note-said.ensures.cause c.note-said.ensures.said,
+  record {
+    answered = status_is _ _ _ _ _ c.answer.ensures c.note-said.ensures.cause;
+    file = c.run_command-end.ensures.file;
+    read = c.run_command-end.ensures.read;
+    write = c.run_command-end.ensures.write;
+    note = note_whole _ _ _ _ _ _ _ _ c.answer.ensures c.note-said.ensures.cause c.note-said.ensures.said;
+  },
+  owes_by c.args.words.now _ _ c.run_command-end.result _
+      (λ file budget v is. record {
+        prompt = λ files tells. text_prompt _ budget (frames_of v) _ _ _ _ c.run_command-end.result (c.run_command-end.ensures.ran file budget v is files tells);
+        limit = λ files tells. text_within _ budget (frames_of v) _ _ _ _ c.run_command-end.result (c.run_command-end.ensures.ran file budget v is files tells);
+        ends = λ files tells. text_return _ budget (frames_of v) _ _ _ _ c.run_command-end.result (c.run_command-end.ensures.ran file budget v is files tells);
+        complete = λ files tells file_still read write note.
+            text_complete _ budget (frames_of v) _ _ _ _ _ _ _ _ file_still note _ _ c.note-said.ensures.cause _ _ _ _ read write c.run_command-end.result
+            (c.run_command-end.ensures.ran file budget v is files tells) c.run_command-end.ensures.file c.run_command-end.ensures.read c.run_command-end.ensures.write c.answer.ensures;
+        refused = λ files tells file_still note.
+            text_refused _ budget (frames_of v) _ _ _ _ _ _ _ _ file_still note _ _ c.note-said.ensures.cause c.run_command-end.result
+            (c.run_command-end.ensures.ran file budget v is files tells) c.run_command-end.ensures.file c.answer.ensures;
+        settled = λ files tells.
+            text_settled _ budget (frames_of v) _ _ _ _ _ _ _ c.run_command-end.result (c.run_command-end.ensures.ran file budget v is files tells)
+            (status_is _ _ _ _ _ c.answer.ensures c.note-said.ensures.cause);
+      })
+      (λ file budget v is. record {
+        ends = λ files tells. evals_text _ budget (frames_of v) _ _ _ _ c.run_command-end.result (c.run_command-end.ensures.evaluated file budget v is files tells);
+        complete = λ files tells file_still read write note p core accepted w all word tells_input good within.
+            evals_well _ budget (frames_of v) _ _ _ _ _ _ _ _ file_still note _ _ c.note-said.ensures.cause _ _ _ _ read write p core accepted w all word tells_input good c.run_command-end.result
+            (c.run_command-end.ensures.evaluated file budget v is files tells) within c.run_command-end.ensures.file c.run_command-end.ensures.read c.run_command-end.ensures.write c.answer.ensures;
+        stopped = λ files tells file_still read write note p core accepted w all word tells_input good more.
+            stops_well _ budget (frames_of v) _ _ _ _ _ _ _ _ file_still note _ _ c.note-said.ensures.cause _ _ _ _ read write p core accepted w all word tells_input good c.run_command-end.result
+            (c.run_command-end.ensures.evaluated file budget v is files tells) more c.run_command-end.ensures.file c.run_command-end.ensures.read c.run_command-end.ensures.write c.answer.ensures;
+        refused = λ files tells file_still note.
+            refuses_unwritable _ budget (frames_of v) _ _ _ _ _ _ _ _ file_still note _ _ c.note-said.ensures.cause c.run_command-end.result
+            (c.run_command-end.ensures.evaluated file budget v is files tells) c.run_command-end.ensures.file c.answer.ensures;
+      })
+      (λ file is. record {
+        untouched = c.run_command-end.ensures.checking file is;
+        ends = λ files tells. c.run_command-end.ensures.checked file is files tells;
+        complete = λ files tells file_still note.
+            passes_accepted _ _ _ _ _ file_still note _ _ c.note-said.ensures.cause c.run_command-end.result (c.run_command-end.ensures.checked file is files tells) c.run_command-end.ensures.file c.answer.ensures;
+        refused = λ files tells file_still note.
+            refuses_unaccepted _ _ _ _ _ file_still note _ _ c.note-said.ensures.cause c.run_command-end.result (c.run_command-end.ensures.checked file is files tells) c.run_command-end.ensures.file c.answer.ensures;
+      })
+      (λ file is. record {
+        unread = c.run_command-end.ensures.unread file is;
+        ends = λ files tells. prints_text _ _ _ c.run_command-end.result (c.run_command-end.ensures.printed file is files tells);
+        complete = λ files tells file_still write note.
+            printed_well _ _ _ _ _ _ _ _ _ file_still write note _ _ c.note-said.ensures.cause c.run_command-end.result (c.run_command-end.ensures.printed file is files tells)
+            c.run_command-end.ensures.file c.run_command-end.ensures.write c.answer.ensures;
+        refused = λ files tells file_still write note.
+            refused_well _ _ _ _ _ _ _ _ _ file_still write note _ _ c.note-said.ensures.cause c.run_command-end.result (c.run_command-end.ensures.printed file is files tells)
+            c.run_command-end.ensures.file c.run_command-end.ensures.write c.answer.ensures;
+      })
+      (λ is. record {
+        ends = lined _ _ _ _ c.run_command-end.result (c.run_command-end.ensures.lined is);
+        complete = λ read write note.
+            lines_well _ _ _ _ _ _ _ _ _ _ read write note _ _ c.note-said.ensures.cause c.run_command-end.result (c.run_command-end.ensures.lined is) c.run_command-end.ensures.read
+            c.run_command-end.ensures.write c.answer.ensures;
+      })
+      (λ v is. record {
+        ends = by_either (frames_of_lines (frames_of v)) _ _ _ _ c.run_command-end.result (c.run_command-end.ensures.framed v is);
+        complete = λ read write note all tells short good.
+            either_well (frames_of v) all short good _ _ _ _ tells _ _ _ _ _ _ read write note _ _ c.note-said.ensures.cause c.run_command-end.result (c.run_command-end.ensures.framed v is)
+            c.run_command-end.ensures.read c.run_command-end.ensures.write c.answer.ensures;
+      }),
 )
 
 pub returns-clause-outside : goal.returns-clause-outside
@@ -49,66 +96,3 @@ returns-clause-outside g c seven =
 pub returns-clause-still : goal.returns-clause-still
 returns-clause-still g c =
     status_still _ _ _ _ _ _ _ _ _ _ (status_is _ _ _ _ _ c.answer.ensures c.note-said.ensures.cause) c.run_command-end.ensures.file c.run_command-end.ensures.read c.run_command-end.ensures.write
-
-pub returns-clause-complete : goal.returns-clause-complete
-returns-clause-complete g c file budget v is files tells file_still read write note =
-    text_complete _ budget (frames_of v) _ _ _ _ _ _ _ _ file_still note _ _ c.note-said.ensures.cause _ _ _ _ read write c.run_command-end.result (c.run_command-end.ensures.ran file budget v is files tells)
-    c.run_command-end.ensures.file c.run_command-end.ensures.read c.run_command-end.ensures.write c.answer.ensures
-
-pub returns-clause-refused : goal.returns-clause-refused
-returns-clause-refused g c file budget v is files tells file_still note =
-    text_refused _ budget (frames_of v) _ _ _ _ _ _ _ _ file_still note _ _ c.note-said.ensures.cause c.run_command-end.result
-    (c.run_command-end.ensures.ran file budget v is files tells) c.run_command-end.ensures.file c.answer.ensures
-
-pub returns-clause-settled : goal.returns-clause-settled
-returns-clause-settled g c file budget v is files tells =
-    text_settled _ budget (frames_of v) _ _ _ _ _ _ _ c.run_command-end.result (c.run_command-end.ensures.ran file budget v is files tells) (status_is _ _ _ _ _ c.answer.ensures c.note-said.ensures.cause)
-
-pub returns-clause-frames_complete : goal.returns-clause-frames_complete
-returns-clause-frames_complete g c v is read write note all tells short good =
-    either_well (frames_of v) all short good _ _ _ _ tells _ _ _ _ _ _ read write note _ _ c.note-said.ensures.cause c.run_command-end.result (c.run_command-end.ensures.framed v is)
-    c.run_command-end.ensures.read c.run_command-end.ensures.write c.answer.ensures
-
-pub returns-clause-lines_complete : goal.returns-clause-lines_complete
-returns-clause-lines_complete g c is read write note =
-    lines_well _ _ _ _ _ _ _ _ _ _ read write note _ _ c.note-said.ensures.cause c.run_command-end.result (c.run_command-end.ensures.lined is) c.run_command-end.ensures.read
-    c.run_command-end.ensures.write c.answer.ensures
-
-pub returns-clause-print_complete : goal.returns-clause-print_complete
-returns-clause-print_complete g c file is files tells file_still write note =
-    printed_well _ _ _ _ _ _ _ _ _ file_still write note _ _ c.note-said.ensures.cause c.run_command-end.result (c.run_command-end.ensures.printed file is files tells)
-    c.run_command-end.ensures.file c.run_command-end.ensures.write c.answer.ensures
-
-pub returns-clause-print_refused : goal.returns-clause-print_refused
-returns-clause-print_refused g c file is files tells file_still write note =
-    refused_well _ _ _ _ _ _ _ _ _ file_still write note _ _ c.note-said.ensures.cause c.run_command-end.result (c.run_command-end.ensures.printed file is files tells)
-    c.run_command-end.ensures.file c.run_command-end.ensures.write c.answer.ensures
-
-pub returns-clause-print_unread : goal.returns-clause-print_unread
-returns-clause-print_unread g c file is = c.run_command-end.ensures.unread file is
-
-pub returns-clause-check_complete : goal.returns-clause-check_complete
-returns-clause-check_complete g c file is files tells file_still note =
-    passes_accepted _ _ _ _ _ file_still note _ _ c.note-said.ensures.cause c.run_command-end.result (c.run_command-end.ensures.checked file is files tells) c.run_command-end.ensures.file c.answer.ensures
-
-pub returns-clause-check_refused : goal.returns-clause-check_refused
-returns-clause-check_refused g c file is files tells file_still note =
-    refuses_unaccepted _ _ _ _ _ file_still note _ _ c.note-said.ensures.cause c.run_command-end.result (c.run_command-end.ensures.checked file is files tells) c.run_command-end.ensures.file c.answer.ensures
-
-pub returns-clause-check_untouched : goal.returns-clause-check_untouched
-returns-clause-check_untouched g c file is = c.run_command-end.ensures.checking file is
-
-pub returns-clause-eval_complete : goal.returns-clause-eval_complete
-returns-clause-eval_complete g c file budget v is files tells file_still read write note p core accepted w all word tells_input good within =
-    evals_well _ budget (frames_of v) _ _ _ _ _ _ _ _ file_still note _ _ c.note-said.ensures.cause _ _ _ _ read write p core accepted w all word tells_input good c.run_command-end.result
-    (c.run_command-end.ensures.evaluated file budget v is files tells) within c.run_command-end.ensures.file c.run_command-end.ensures.read c.run_command-end.ensures.write c.answer.ensures
-
-pub returns-clause-eval_stopped : goal.returns-clause-eval_stopped
-returns-clause-eval_stopped g c file budget v is files tells file_still read write note p core accepted w all word tells_input good more =
-    stops_well _ budget (frames_of v) _ _ _ _ _ _ _ _ file_still note _ _ c.note-said.ensures.cause _ _ _ _ read write p core accepted w all word tells_input good c.run_command-end.result
-    (c.run_command-end.ensures.evaluated file budget v is files tells) more c.run_command-end.ensures.file c.run_command-end.ensures.read c.run_command-end.ensures.write c.answer.ensures
-
-pub returns-clause-eval_refused : goal.returns-clause-eval_refused
-returns-clause-eval_refused g c file budget v is files tells file_still note =
-    refuses_unwritable _ budget (frames_of v) _ _ _ _ _ _ _ _ file_still note _ _ c.note-said.ensures.cause c.run_command-end.result
-    (c.run_command-end.ensures.evaluated file budget v is files tells) c.run_command-end.ensures.file c.answer.ensures

@@ -1,6 +1,5 @@
 -- The first run is that of main's body on the names at the start, with all the depth there is.
 use Rattle.std.proofs.Common.{◌≡◌, ◌<◌, ℕ, List, map, sym, ap, ap₂, ◌∙◌, subst, []}
-use Rattle.stream_type.specs.StreamType.{type_of}
 use Rattle.stream_prefix.specs.StreamPrefix.{emp}
 use Rattle.core_term.specs.CoreTerm.{core_of}
 use Rattle.core_term.specs.Run.{Run}
@@ -10,7 +9,6 @@ use Rattle.delta_state.specs.StateTree.{HeldName}
 use Rattle.delta_state.specs.StateMeaning.{types_held, prefixes_held}
 use Rattle.delta_state.specs.Stands.{input_type}
 use Rattle.delta_state.specs.Rest.{rest_at}
-use Rattle.main_steps.specs.Laws.{first_run_on}
 use Rattle.delta_step.specs.declared.marked.Entry.{Entry}
 use Rattle.delta_step.specs.Marked.{entry_in}
 use Rattle.delta_step.specs.AwaitedTree.{whole_of, entries_on}

@@ -1,5 +1,5 @@
 -- What the machine holds at its start is what it has to keep, and what it stops for is the program's.
-use Rattle.std.proofs.Common.{◌≡◌, ◌<◌, ℕ, Err, sym, ap, ◌∙◌, subst}
+use Rattle.std.proofs.Common.{◌≡◌, ◌<◌, Err, sym, ap, ◌∙◌, subst}
 use Rattle.stream_type.specs.StreamType.{type_of}
 use Rattle.stream_prefix.specs.declared.prefix.Prefix.{Prefix}
 use Rattle.stream_prefix.specs.StreamPrefix.{emp, der}

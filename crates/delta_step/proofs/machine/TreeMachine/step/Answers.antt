@@ -1,6 +1,6 @@
 -- What the machine holds after an event is what it has to keep, what it gives is the answer, and what it stops
 -- for is the program's.
-use Rattle.std.proofs.Common.{◌≡◌, ◌<◌, ℕ, suc, Err, sym, ap, ◌∙◌, subst, arith}
+use Rattle.std.proofs.Common.{◌≡◌, ◌<◌, suc, Err, ap, ◌∙◌, subst, arith}
 use Rattle.stream_type.specs.declared.ty.Ty.{Ty}
 use Rattle.stream_type.specs.StreamType.{type_of}
 use Rattle.stream_prefix.specs.declared.prefix.Prefix.{Prefix}
