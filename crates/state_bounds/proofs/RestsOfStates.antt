@@ -144,27 +144,27 @@ module _ (funs : List CoreBody) (all_typed : All (IsTypedBody funs) funs) (all_a
         let form : T z ≡ par (par_left (T z)) (par_right (T z)) = subst (λ t. T z ≡ par (par_left t) (par_right t)) same (g.extends.stream z _ g.typed.1) in
         let hz : Derives (par (par_left (T z)) (par_right (T z))) (d z) = subst (λ t. Derives t (d z)) form (s.at z) in
         let q = par_parts hz in
-        let T1 = put y (par_right (T z)) (put x (par_left (T z)) T) in
+        let inner = put y (par_right (T z)) (put x (par_left (T z)) T) in
         let d1 = put y (right_part (d z)) (put x (left_part (d z)) d) in
         let c1 = with_parts x (par_left (type_at c z)) y (par_right (type_at c z)) z c in
         let w = extends_name _ _ no_pasts y _ _ (place_like y z (place_like x z c.order)) (extends_name c T no_pasts x _ _ (place_like x z c.order) g.extends (ap par_left same)) (ap par_right same) in
-        let ga : IsReady funs n c1 T1 r a = record { extends = w; typed = g.typed.2; settled = g.settled; deep = g.deep } in
-        pair_bound funs numbers x y z (par_left (T z)) (der (left_part (d z)) (par_left (T z))) (par_right (T z)) (der (right_part (d z)) (par_right (T z))) (left_part (d z)) (right_part (d z)) (free_in_state a) T c.order d e (rest_of F a T1 r d1) (state_bound funs numbers a c1)
+        let ga : IsReady funs n c1 inner r a = record { extends = w; typed = g.typed.2; settled = g.settled; deep = g.deep } in
+        pair_bound funs numbers x y z (par_left (T z)) (der (left_part (d z)) (par_left (T z))) (par_right (T z)) (der (right_part (d z)) (par_right (T z))) (left_part (d z)) (right_part (d z)) (free_in_state a) T c.order d e (rest_of F a inner r d1) (state_bound funs numbers a c1)
         (leaves_type _ T c.order d e k z (holds-head z _) ∙ ap Some (ap (der (d z)) form ∙ par_der hz)) refl refl k
-        (λ e' k'. step_at_most a c1 T1 r ga d1 (streams_put_two x y (par_left (T z)) (par_right (T z)) _ _ T d q.0 q.1 s)
+        (λ e' k'. step_at_most a c1 inner r ga d1 (streams_put_two x y (par_left (T z)) (par_right (T z)) _ _ T d q.0 q.1 s)
         (pair_agrees T c.order d x y z (par_left (T z)) (par_right (T z)) (left_part (d z)) (right_part (d z)) agrees g.typed.0 (λ m. par_parts_whole hz m) (λ m. (ap left_part (m ∙ ap emp form), ap right_part (m ∙ ap emp form)))) le e' k')
     step_at_most (let_cat_state x y z a) c T r g d s agrees le e k =
         let same = type_in c T no_pasts g.extends z _ g.typed.1 in
         let form : T z ≡ cat (cat_first (T z)) (cat_second (T z)) = subst (λ t. T z ≡ cat (cat_first t) (cat_second t)) same (g.extends.stream z _ g.typed.1) in
         let hz : Derives (cat (cat_first (T z)) (cat_second (T z))) (d z) = subst (λ t. Derives t (d z)) form (s.at z) in
         let q = cat_parts hz in
-        let T1 = put y (cat_second (T z)) (put x (cat_first (T z)) T) in
+        let inner = put y (cat_second (T z)) (put x (cat_first (T z)) T) in
         let d1 = put y (second_part (cat_second (T z)) (d z)) (put x (first_part (d z)) d) in
         let c1 = with_fact x y (with_parts x (cat_first (type_at c z)) y (cat_second (type_at c z)) z c) in
         let w = extends_name _ _ no_pasts y _ _ (place_like y z (place_like x z c.order)) (extends_name c T no_pasts x _ _ (place_like x z c.order) g.extends (ap cat_first same)) (ap cat_second same) in
-        let ga : IsReady funs n c1 T1 r a = record { extends = record { stream = w.stream; historical = w.historical }; typed = g.typed.2; settled = g.settled; deep = g.deep } in
-        cut_bound funs numbers x y z (T z) (free_in_state a) T c.order d e (rest_of F a T1 r d1) (state_bound funs numbers a c1) g.typed.0.from_subject g.typed.0.from_second form refl hz k
-        (λ e' k'. step_at_most a c1 T1 r ga d1 (streams_put_two x y (cat_first (T z)) (cat_second (T z)) _ _ T d q.0 q.1 s)
+        let ga : IsReady funs n c1 inner r a = record { extends = record { stream = w.stream; historical = w.historical }; typed = g.typed.2; settled = g.settled; deep = g.deep } in
+        cut_bound funs numbers x y z (T z) (free_in_state a) T c.order d e (rest_of F a inner r d1) (state_bound funs numbers a c1) g.typed.0.from_subject g.typed.0.from_second form refl hz k
+        (λ e' k'. step_at_most a c1 inner r ga d1 (streams_put_two x y (cat_first (T z)) (cat_second (T z)) _ _ T d q.0 q.1 s)
         (row_agrees T c.order d x y z (cat_first (T z)) (cat_second (T z)) (first_part (d z)) (second_part (cat_second (T z)) (d z)) agrees g.typed.0.from_subject g.typed.0.from_second (λ m. cat_parts_whole hz m)
         (λ m. (ap first_part (m ∙ ap emp form), ap (second_part (cat_second (T z))) (m ∙ ap emp form))) (cat_order hz)) le e' k')
     step_at_most (sum_state z t held x l y m) c T r g d s agrees le e k =
@@ -210,26 +210,26 @@ module _ (funs : List CoreBody) (all_typed : All (IsTypedBody funs) funs) (all_a
         let items : star_items (B z) ≡ star (star_item (B z)) = ap star_items form in
         let hz : Derives (star (star_item (B z))) (p z) = subst (λ u. Derives u (p z)) form (at.streams.at z) in
         let kl = leaves_held c T free held g.extends hd d s e k in
-        let T1 = put ys (star_items (B z)) (put y (star_item (B z)) B) in
+        let inner = put ys (star_items (B z)) (put y (star_item (B z)) B) in
         let O1 = put_before y ys (place_like ys z (place_like y z O)) in
         let one = extends_name (with_past m.past c') B (known_types m.past) y _ _ (place_like y z (with_past m.past c').order) (extends_past m.past c' B w) (ap star_item same) in
         let two = extends_name _ _ (known_types m.past) ys _ _ (place_like ys z (place_like y z (with_past m.past c').order)) one (ap star_items same) in
         let runs : StreamPrefix → ℕ = λ o. (star_run r o (run_later F l B r p) (λ u v. run_later F m (put ys (star_items (B z)) (put y (star_item (B z)) B)) r (put ys v (put y u p)))).calls in
         let left = code_bound funs numbers l.term B O in
-        let right = code_bound funs numbers m.term T1 O1 in
+        let right = code_bound funs numbers m.term inner O1 in
         let room = case_room B O z free in
-        star_rest_bound funs numbers z y ys (B z) (free_names l.term) (free_names m.term) B O p e (star_state z t (held_more held d) l y ys m) (rest_later F l B r p) (λ u v. rest_later F m T1 r (put ys v (put y u p)))
+        star_rest_bound funs numbers z y ys (B z) (free_names l.term) (free_names m.term) B O p e (star_state z t (held_more held d) l y ys m) (rest_later F l B r p) (λ u v. rest_later F m inner r (put ys v (put y u p)))
         (greater room (greater left right)) K.item_apart.from_subject K.item_apart.from_second refl form (items ∙ sym form) refl hz kl
         (λ i. at_most_right _ room (greater left right) (at_most_left _ left right
         (code_at_most l (with_past l.past c') B O r K.end_typed.has_type (extends_past l.past c' B w) (past_order-same l.past c') K.end_typed.binds_apart (known_values l.past K.end_typed.has_values) (All-head (HasDepth n) l (m ∷ []) g.deep) p at.streams at.agrees (subst (λ o. runs o ≤ n) i le) e
         (gains_left (free_names l.term) _ _ e.types O e.order (gains_tail z _ _ e.types O e.order kl)))))
         (λ u v i e' k'. at_most_right _ room (greater left right) (at_most_right _ left right
         (let came = star_came (star_item (B z)) (p z) u v hz i in
-        code_at_most m _ T1 O1 r K.item_typed.has_type (record { stream = two.stream; historical = two.historical }) (ap (λ o. put_before y ys (place_like ys z (place_like y z o))) (past_order-same m.past c'))
+        code_at_most m _ inner O1 r K.item_typed.has_type (record { stream = two.stream; historical = two.historical }) (ap (λ o. put_before y ys (place_like ys z (place_like y z o))) (past_order-same m.past c'))
         K.item_typed.binds_apart (known_values m.past K.item_typed.has_values) (All-head (HasDepth n) m [] (All-tail (HasDepth n) l (m ∷ []) g.deep)) (put ys v (put y u p))
         (streams_put_two y ys (star_item (B z)) (star_items (B z)) u v B p came.0 (subst (λ q. Derives q v) (sym items) came.1) at.streams)
         (row_agrees B O p y ys z (star_item (B z)) (star_items (B z)) u v at.agrees K.item_apart.from_subject K.item_apart.from_second (λ j. came.2 j) (λ j. absurd (star_none u v (p z) i (j ∙ ap emp form))) (star_turn (star_item (B z)) (star_items (B z)) (p z) u v hz items i))
-        (star_calls r n (p z) u v i (run_later F l B r p) (λ u v. run_later F m T1 r (put ys v (put y u p))) le) e' k')))
+        (star_calls r n (p z) u v i (run_later F l B r p) (λ u v. run_later F m inner r (put ys v (put y u p))) le) e' k')))
         (λ i. term_at_most F I numbers (case_star_term z t l.term y ys m.term) B (types_held (held_more held d)) O (facts_held (held_more held d) e.order) (gains_held free B O e.order p (held_more held d) (more_holds c free held d hd) at.agrees kl.order))
     step_at_most (wait_state x t held l) c T r g d s agrees le e k =
         let free = free_in_wait x l in
