@@ -9,21 +9,12 @@ use Rattle.delta_state.specs.PlaceTree.{place_at}
 use Rattle.delta_state.specs.MachineView.{MachineView, StandsAfter, input_of}
 use Rattle.main_steps.specs.Keeping.{Keeps}
 use Rattle.delta_step.specs.Marked.{state_in}
-use Rattle.delta_step.specs.AwaitedTree.{AwaitedTree, awaited_in, left_of, place_in}
+use Rattle.machine_parts.specs.AwaitedTree.{AwaitedTree, awaited_in, left_of, place_in}
 use Rattle.delta_step.specs.declared.machine.Tree.{Tree}
 
 -- its program, its state without marks, its place, and what it counts
 abbrev pub view_of : Tree → MachineView
 view_of m = record { program = core_of m.core.value; budget = m.budget; state = without_marks (state_in m.state.value); place = place_in (awaited_in m.awaited.value); events = m.events; spent = m.spent }
-
--- after the word, a machine of the program c with this state, awaiting so much, with this left of the types of its
--- input and its output, keeps what it has to
-pub record KeepsAll (c : CoreProgram) (budget : ℕ) (s : StateTree) (a : AwaitedTree) (input output : StreamType) (events spent : ℕ) (word : List StreamEvent) : Type 0 where
-  pub keeps : Keeps c s (input_of c word) input output events word
-  pub awaits : a ≡ left_of c.main.params (input_of c word)
-  pub is_place : place_in a ≡ place_at c.main.params (input_of c word)
-  pub in_budget : spent ≤ budget
-  pub in_limit : budget ≤ 1000000
 
 -- it stands for its program after the word
 abbrev pub TreeStands : Tree → List StreamEvent → Type 0

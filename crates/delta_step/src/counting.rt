@@ -1,11 +1,11 @@
 //! How much a state with its marks holds, and of how many states it is.
 
-ghost use Rattle.std.specs.Prelude.{◌≡◌, map};
-ghost use Rattle.delta_state.specs.PlainState.{without_marks, arguments_without_marks, plain_held, capped, events_in, events_held, events_held_by, state_count, state_counts};
-ghost use Rattle.delta_step.specs.Marked.{state_in, entry_in, arguments_from};
+ghost use Rattle.std.specs.Prelude.{◌≡◌};
+ghost use Rattle.delta_state.specs.PlainState.{without_marks, arguments_without_marks, capped, events_held, events_held_by, state_count, state_counts};
+ghost use Rattle.delta_step.specs.Marked.{state_in, arguments_from};
 
-use crate::marked::{Argument, Entry, Marked};
-use delta_state::word_len;
+use crate::marked::{Argument, Marked};
+use machine_parts::held::words_len;
 
 /// The number of events in the canonical words of all that the state holds: `events_held` in `delta_state`,
 /// or the greatest number of 64 bits where that is less.
@@ -40,17 +40,6 @@ fn held_by_all(arguments: &[Argument]) -> u64
         Some((argument, others)) => {
             held_events(&argument.state).saturating_add(held_by_all(others))
         }
-    }
-}
-
-// The number of events in the canonical words of held prefixes.
-#[tactic(auto, using(delta_state::proofs::Counts::counts))]
-fn words_len(held: &[Entry]) -> u64
-    ensures { result ≡ capped (events_in (plain_held (map entry_in held.now))) }
-{
-    match held.split_first() {
-        None => 0,
-        Some((entry, others)) => word_len(&entry.prefix).saturating_add(words_len(others)),
     }
 }
 
@@ -95,3 +84,5 @@ fn count_all(arguments: &[Argument]) -> u64
         }
     }
 }
+
+use machine_parts::entry::Entry;

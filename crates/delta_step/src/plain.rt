@@ -3,12 +3,14 @@
 ghost use Rattle.std.specs.Prelude.{◌≡◌, map, IfOk};
 ghost use Rattle.delta_state.specs.PlainState.{state_of, later_of, held_of, past_of, argument_of, arguments_from as plain_arguments, without_marks, arguments_without_marks, plain_later, plain_held, plain_sink, plain_cat, plain_sum, plain_star, plain_wait};
 ghost use Rattle.stream_type.specs.StreamType.{type_of};
-ghost use Rattle.delta_step.specs.Marked.{state_in, code_in, known_in, entry_in, arguments_from};
+ghost use Rattle.delta_step.specs.Marked.{state_in, code_in, known_in, arguments_from};
+ghost use Rattle.machine_parts.specs.Entry.{entry_in};
 
-use crate::marked::{Argument, Code, Entry, Known, Marked};
+use crate::marked::{Argument, Code, Known, Marked};
 use bunch::Name;
 use delta_state::{Argument as PlainArgument, Held, Later, State};
 use hist_value::{Value, copy_value};
+use machine_parts::entry::Entry;
 use std::alloc::Global;
 use stream_type::{Memory, Ty};
 

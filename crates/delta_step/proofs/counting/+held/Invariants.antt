@@ -1,6 +1,6 @@
 -- What is left to go through.
 use Rattle.delta_step.specs.Marked.{state_in, arguments_from}
-use Rattle.delta_step.specs.Heft.{heft, heft_of_all}
+use Rattle.machine_parts.specs.Heft.{heft, heft_of_all}
 use Rattle.delta_step.proofs.counting.+held.Given as goal
 
 abbrev pub decreases-held_events : goal.decreases-held_events

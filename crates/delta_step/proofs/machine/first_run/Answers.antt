@@ -9,11 +9,11 @@ use Rattle.delta_state.specs.StateTree.{HeldName}
 use Rattle.delta_state.specs.StateMeaning.{types_held, prefixes_held}
 use Rattle.delta_state.specs.Stands.{input_type}
 use Rattle.delta_state.specs.Rest.{rest_at}
-use Rattle.delta_step.specs.declared.marked.Entry.{Entry}
-use Rattle.delta_step.specs.Marked.{entry_in}
-use Rattle.delta_step.specs.AwaitedTree.{whole_of, entries_on}
+use Rattle.machine_parts.specs.declared.entry.Entry.{Entry}
+use Rattle.machine_parts.specs.Entry.{entry_in}
+use Rattle.machine_parts.specs.AwaitedTree.{whole_of, entries_on}
 use Rattle.delta_step.specs.Steps.{funs_in}
-use Rattle.delta_step.proofs.StandingTrees.{horizon_is}
+use Rattle.machine_parts.proofs.StandingTrees.{horizon_is}
 use Rattle.delta_step.proofs.machine.first_run.Goals as goal
 
 pub returns-in-Ok-clause-run : goal.returns-in-Ok-clause-run

@@ -1,7 +1,7 @@
 -- The prefixes so far are those of the entries seen so far.
 use Rattle.std.proofs.Common.{◌≡◌, take, map}
 use Rattle.delta_state.specs.PlainState.{held_of, plain_held}
-use Rattle.delta_step.specs.Marked.{entry_in}
+use Rattle.machine_parts.specs.Entry.{entry_in}
 use Rattle.delta_step.proofs.plain.plain_entries.Given as goal
 
 abbrev pub invariant-loop-entry : goal.invariant-loop-entry

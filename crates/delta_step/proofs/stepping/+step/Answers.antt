@@ -8,13 +8,15 @@ use Rattle.core_term.specs.Run.{Run}
 use Rattle.delta_state.specs.StateTree.{StateTree, cat_state, star_state, wait_state, frame_state}
 use Rattle.delta_state.specs.StateMeaning.{run_arguments}
 use Rattle.delta_step.specs.declared.marked.Marked.{Marked}
-use Rattle.delta_step.specs.declared.marked.Entry.{Entry}
+use Rattle.machine_parts.specs.declared.entry.Entry.{Entry}
 use Rattle.delta_step.specs.declared.reached.Reached.{Reached}
-use Rattle.delta_step.specs.Marked.{state_in, code_in, entry_in, arguments_from}
-use Rattle.delta_step.specs.Scope.{types_in, streams_in}
+use Rattle.delta_step.specs.Marked.{state_in, code_in, arguments_from}
+use Rattle.machine_parts.specs.Entry.{entry_in}
+use Rattle.machine_parts.specs.Scope.{types_in, streams_in}
 use Rattle.delta_step.specs.Reached.{rest_of, runs_of}
-use Rattle.delta_step.specs.Steps.{funs_in, state_rest, parameters}
-use Rattle.delta_step.proofs.Held.{body_runs, body_rests, body_deep}
+use Rattle.delta_step.specs.Steps.{funs_in, state_rest}
+use Rattle.machine_parts.specs.Parameters.{parameters}
+use Rattle.machine_parts.proofs.Held.{body_runs, body_rests, body_deep}
 use Rattle.delta_step.proofs.stepping.+step.Goals as goal
 
 pub step-returns-in-Cat-clause-rest : goal.step-returns-in-Cat-clause-rest

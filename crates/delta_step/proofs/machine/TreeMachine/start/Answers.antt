@@ -12,8 +12,8 @@ use Rattle.delta_state.specs.declared.machine.StepRefusal.{StepRefusal}
 use Rattle.delta_state.specs.declared.machine.StepRefusal.TheVariants.{Budget, Deep}
 use Rattle.delta_state.specs.Stands.{input_type}
 use Rattle.delta_step.specs.Reached.{run_of, rest_of}
-use Rattle.delta_step.specs.AwaitedTree.{awaited_in}
-use Rattle.delta_step.proofs.StandingTrees.{begins_with, begins_answer, begins_costly, begins_deep}
+use Rattle.machine_parts.specs.AwaitedTree.{awaited_in}
+use Rattle.machine_parts.proofs.StandingTrees.{begins_with, begins_answer, begins_costly, begins_deep}
 use Rattle.delta_step.proofs.machine.TreeMachine.start.Goals as goal
 
 pub returns-in_err-run-clause-costly : goal.returns-in_err-run-clause-costly

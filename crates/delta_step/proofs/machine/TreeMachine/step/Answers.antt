@@ -14,8 +14,8 @@ use Rattle.delta_state.specs.declared.machine.StepRefusal.TheVariants.{Budget, D
 use Rattle.main_steps.specs.Laws.{run_on, state_on}
 use Rattle.delta_step.specs.Marked.{state_in}
 use Rattle.delta_step.specs.Reached.{run_of}
-use Rattle.delta_step.specs.AwaitedTree.{awaited_in, entries_on}
-use Rattle.delta_step.proofs.StandingTrees.{is_costly, is_deep, is_answer, goes_on_with}
+use Rattle.machine_parts.specs.AwaitedTree.{awaited_in, entries_on}
+use Rattle.machine_parts.proofs.StandingTrees.{is_costly, is_deep, is_answer, goes_on_with}
 use Rattle.delta_step.proofs.machine.TreeMachine.step.Goals as goal
 
 pub returns-in_err-run-clause-costly : goal.returns-in_err-run-clause-costly

@@ -1,0 +1,9 @@
+-- The lemmas.
+pub mod Past
+pub mod StarForms
+pub mod Runs
+pub mod Deeper
+pub mod Held
+pub mod Entering
+pub mod Awaiting
+pub mod StandingTrees
