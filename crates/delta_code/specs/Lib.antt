@@ -1,0 +1,5 @@
+-- What the contracts cite.
+pub mod Around
+pub mod Begun
+pub mod Told
+pub mod Steps

@@ -1,0 +1,5 @@
+-- The lemmas.
+mod NamesInLists
+mod Putting
+mod Joining
+mod Settling

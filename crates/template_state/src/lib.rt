@@ -1,0 +1,16 @@
+//! States of a running program over its templates: code that isn't reached stands in templates that are shared,
+//! and a state is put into a simpler form in place.
+#![tactic(auto)]
+
+mod code;
+mod counting;
+mod join;
+mod live;
+mod put_in;
+mod simplify;
+mod uses;
+
+pub use code::{Code, Op, Operands, Template};
+pub use counting::{count_states, held_events};
+pub use live::{Arguments, Later, Live, Past};
+pub use simplify::settle;
