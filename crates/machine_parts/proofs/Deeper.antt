@@ -1,5 +1,5 @@
 -- Where a part has a call at a level that is too great, so has the whole.
-use Rattle.std.proofs.Common.{◌≡◌, ℕ, ◌-◌, ◌<◌, max, Bool, true, false, true≢false, ◌||◌, sym, subst, arith}
+use Rattle.std.proofs.Common.{◌≡◌, ℕ, ◌-◌, ◌<◌, ◌≤◌, max, Bool, true, false, true≢false, ◌||◌, sym, subst, arith}
 use Rattle.stream_prefix.specs.StreamPrefix.{is_maximal}
 use Rattle.core_term.specs.Run.{Run, Runs, deeper, cat_run, cat_run_at, let_run, frame_run, call_run}
 use Rattle.machine_parts.specs.Levels.{below}
