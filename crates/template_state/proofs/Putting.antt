@@ -5,7 +5,7 @@ use Rattle.bunch.specs.Names.{holds}
 use Rattle.core_term.specs.Parts.{par_left, par_right, cat_first}
 use Rattle.delta_state.specs.StateTree.{LaterTree, StateTree, ArgumentTrees, par_state, cat_state, let_state, let_par_state, let_cat_state, frame_state, no_arguments, argument_before, var_state}
 use Rattle.state_rewriting.specs.Rewriting.{ReplacedBy, ReplacedArgumentsBy, as_it_is, as_they_are, one_more, here, IsAlias, IsPair, alias_for, pair_for}
-use Rattle.state_rewriting.proofs.RewritingsInside.{by_same, by_par, by_cat, by_let, by_bound, by_let_par, by_let_cat, by_arguments, by_before}
+use Rattle.state_rewriting.proofs.RewritingsInside.{by_same, by_then, by_par, by_cat, by_let, by_bound, by_let_par, by_let_cat, by_arguments, by_before}
 
 pub put_nothing : {names : List ℕ} {R : StreamType → StateTree → StateTree → Type 0} {a b : StateTree} → a ≡ b → (r : StreamType) → ReplacedBy names R r a b
 put_nothing e r = by_same e
@@ -41,6 +41,10 @@ pub put_before : {names : List ℕ} {R : StreamType → StateTree → StateTree 
     → ReplacedArgumentsBy names R (argument_before x t a args) (argument_before x t b others)
 put_before {t = t} h k = by_before (h t) k
 
+pub put_before_twice : {names : List ℕ} {R : StreamType → StateTree → StateTree → Type 0} {x : ℕ} {t : StreamType} {a b e : StateTree} {args others : ArgumentTrees} → ((r : StreamType) → ReplacedBy names R r a b) → ((r : StreamType) → ReplacedBy names R r b e)
+    → ReplacedArgumentsBy names R args others → ReplacedArgumentsBy names R (argument_before x t a args) (argument_before x t e others)
+put_before_twice {t = t} h i k = by_before (by_then (h t) (i t)) k
+
 -- y itself
 pub put_alias : (x y z : ℕ) → x ≡ y → (r : StreamType) → ReplacedBy (y ∷ (z ∷ [])) (IsAlias y z) r (var_state x) (var_state z)
 put_alias x y z e r = subst (λ u. ReplacedBy (y ∷ (z ∷ [])) (IsAlias y z) r (var_state u) (var_state z)) (sym e) (one_more as_it_is (here alias_for))
@@ -58,4 +62,4 @@ put_pair_name {x = x} {y = y} {z = z} e f r = subst (λ q. ReplacedBy (x ∷ (y 
 
 pub ruleset apart_names = (apart_two, apart_three)
 
-pub ruleset putting = (put_pair_name, put_nothing, put_par, put_cat, put_let, put_bound, put_let_par, put_let_cat, put_frame, put_none, put_before, put_alias)
+pub ruleset putting = (put_pair_name, put_nothing, put_par, put_cat, put_let, put_bound, put_let_par, put_let_cat, put_frame, put_none, put_before, put_before_twice, put_alias)

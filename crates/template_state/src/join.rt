@@ -9,14 +9,14 @@ ghost use Rattle.template_state.specs.Readers.{state_in, arguments_in};
 ghost use Rattle.template_state.specs.Passing.{passes_once, IsTakenFrom, ServesAfter, only_used};
 
 use crate::live::{Arguments, Live};
-use crate::uses::uses;
+use crate::names_used::uses;
 use bunch::Name;
 use std::alloc::Global;
 use std::mem;
 use stream_type::{Memory, Ty};
 
 // Whether a state is a name or finished.
-fn plain(s: &Live) -> bool
+fn plain_one(s: &Live) -> bool
     ensures { result ≡ is_plain (state_in s.now) }
 {
     match s {
@@ -39,7 +39,7 @@ fn all_plain(args: &Arguments) -> bool
 {
     match args {
         Arguments::None => true,
-        Arguments::Before(_, _, a, others) => plain(a) && all_plain(others),
+        Arguments::Before(_, _, a, others) => plain_one(a) && all_plain(others),
     }
 }
 
@@ -51,7 +51,7 @@ fn plain_at(args: &Arguments, u: Name) -> bool
         Arguments::None => true,
         Arguments::Before(x, _, a, others) => {
             if u.0 == x.0 {
-                plain(a)
+                plain_one(a)
             } else {
                 plain_at(others, u)
             }

@@ -9,7 +9,7 @@ use crate::join::settle_frame;
 use crate::live::{Arguments, Live};
 use crate::put_in::{put_name, put_pair};
 use machine_parts::parts::{cat_types, par_types};
-use crate::uses::uses;
+use crate::names_used::uses;
 use bunch::Name;
 use std::alloc::Global;
 use std::mem;

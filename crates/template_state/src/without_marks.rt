@@ -6,7 +6,7 @@ ghost use Rattle.delta_state.specs.PlainState.{state_of, later_of, held_of, past
 ghost use Rattle.template_state.specs.Readers.{known_in, later_in, held_in, state_in, arguments_in};
 
 use crate::live::{Arguments, Later, Live, Past};
-use crate::node::node;
+use crate::terms::node;
 use bunch::Name;
 use delta_state::{Argument as PlainArgument, Held, Later as PlainLater, State};
 use hist_value::{Value, copy_value};
