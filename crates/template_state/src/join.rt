@@ -8,7 +8,7 @@ ghost use Rattle.state_rewriting.specs.Rewriting.{SimplerBy, is_plain, are_plain
 ghost use Rattle.template_state.specs.Readers.{state_in, arguments_in};
 ghost use Rattle.template_state.specs.Passing.{passes_once, IsTakenFrom, ServesAfter, only_used};
 
-use crate::live::{Arguments, Live};
+use crate::live::{Arguments, Live, put};
 use crate::names_used::uses;
 use bunch::Name;
 use std::alloc::Global;
@@ -163,7 +163,7 @@ fn pass_on(alloc: Global, args: &mut Arguments, a: &mut Live) -> Result<(), Memo
 {
     if let Live::Var(u) = a {
         let passed = take(alloc, args, *u)?;
-        *a = passed;
+        put(a, passed);
     }
     Ok(())
 }
@@ -179,7 +179,7 @@ fn join_frames(alloc: Global, s: &mut Live) -> Result<(), Memory>
             if all_plain(inner) && pass_once(args, inner) {
                 compose(alloc, args, inner)?;
                 let joined = mem::replace(&mut **b, Live::Var(Name(0)));
-                *s = joined;
+                put(s, joined);
             }
         }
     }

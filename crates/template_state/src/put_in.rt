@@ -7,7 +7,7 @@ ghost use Rattle.state_rewriting.specs.Rewriting.{ReplacedBy, ReplacedArgumentsB
 ghost use Rattle.delta_state.specs.StateTree.{var_state};
 ghost use Rattle.template_state.specs.Readers.{state_in, arguments_in};
 
-use crate::live::{Arguments, Live};
+use crate::live::{Arguments, Live, put};
 use bunch::Name;
 
 // Whether the name is another than both.
@@ -124,7 +124,7 @@ pub fn put_pair(s: &mut Live, x: Name, y: Name, z: Name)
         | Live::Wait(_, _, _, _) => {}
         Live::Par(a, b) => {
             if is_name(a, x) && is_name(b, y) {
-                *s = Live::Var(z);
+                put(s, Live::Var(z));
             } else {
                 put_pair(a, x, y, z);
                 put_pair(b, x, y, z);
