@@ -1,10 +1,10 @@
 -- Arguments of which each that is moved is passed on once.
-use Rattle.std.proofs.Common.{◌≡◌, ◌∙◌, ℕ, Bool, true, false, true≢false, not, ◌&&◌, ◌||◌, List, [], ◌∷◌, eqb, if◌then◌else◌, ap, ap₂, refl, sym}
-use Rattle.std.proofs.lemmas.Bool.{eqb-true, not-true}
+use Rattle.std.proofs.Common.{◌≡◌, ◌∙◌, ℕ, Bool, true, false, not, ◌&&◌, ◌||◌, List, [], ◌∷◌, eqb, if◌then◌else◌, ap, ap₂, refl, sym}
+use Rattle.std.proofs.lemmas.Bool.{eqb-true}
 use Rattle.stream_type.specs.StreamType.{StreamType}
 use Rattle.bunch.specs.Names.{holds}
 use Rattle.core_term.specs.FreeNames.{without}
-use Rattle.core_term.proofs.Sides.{and_first, and_second, or_first, or_second, or_split, holds-head}
+use Rattle.core_term.proofs.Sides.{and_first, and_second, or_second, holds-head}
 use Rattle.core_term.proofs.Without.{holds-tail}
 use Rattle.delta_state.specs.StateTree.{StateTree, ArgumentTrees, no_arguments, argument_before, argument_at, sink, var_state, par_state, cat_state, let_state, let_par_state, let_cat_state, sum_state, star_state, wait_state, frame_state}
 use Rattle.state_rewriting.specs.Rewriting.{is_plain, are_plain, at_most_once, stand_once, names_passed, passed_on, composed}

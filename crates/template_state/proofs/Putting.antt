@@ -41,9 +41,9 @@ pub put_before : {names : List ℕ} {R : StreamType → StateTree → StateTree 
     → ReplacedArgumentsBy names R (argument_before x t a args) (argument_before x t b others)
 put_before {t = t} h k = by_before (h t) k
 
-pub put_before_twice : {names : List ℕ} {R : StreamType → StateTree → StateTree → Type 0} {x : ℕ} {t : StreamType} {a b e : StateTree} {args others : ArgumentTrees} → ((r : StreamType) → ReplacedBy names R r a b) → ((r : StreamType) → ReplacedBy names R r b e)
-    → ReplacedArgumentsBy names R args others → ReplacedArgumentsBy names R (argument_before x t a args) (argument_before x t e others)
-put_before_twice {t = t} h i k = by_before (by_then (h t) (i t)) k
+-- one after the other
+pub put_in_turn : {names : List ℕ} {R : StreamType → StateTree → StateTree → Type 0} {a b e : StateTree} → ((r : StreamType) → ReplacedBy names R r a b) → ((r : StreamType) → ReplacedBy names R r b e) → (r : StreamType) → ReplacedBy names R r a e
+put_in_turn h k r = by_then (h r) (k r)
 
 -- y itself
 pub put_alias : (x y z : ℕ) → x ≡ y → (r : StreamType) → ReplacedBy (y ∷ (z ∷ [])) (IsAlias y z) r (var_state x) (var_state z)
@@ -62,4 +62,4 @@ put_pair_name {x = x} {y = y} {z = z} e f r = subst (λ q. ReplacedBy (x ∷ (y 
 
 pub ruleset apart_names = (apart_two, apart_three)
 
-pub ruleset putting = (put_pair_name, put_nothing, put_par, put_cat, put_let, put_bound, put_let_par, put_let_cat, put_frame, put_none, put_before, put_before_twice, put_alias)
+pub ruleset putting = (put_pair_name, put_nothing, put_par, put_cat, put_let, put_bound, put_let_par, put_let_cat, put_frame, put_none, put_before, put_alias)

@@ -64,11 +64,19 @@ fn put_in_arguments(args: &mut Arguments, y: Name, z: Name)
     match args {
         Arguments::None => {}
         Arguments::Before(_, _, a, others) => {
-            put_name(a, y, z);
-            rename(a, y, z);
+            put_in_argument(a, y, z);
             put_in_arguments(others, y, z);
         }
     }
+}
+
+// The same in one argument, which itself may be y.
+#[cycle(put_name)]
+fn put_in_argument(a: &mut Live, y: Name, z: Name)
+    ensures { (r : StreamType) → ReplacedBy (y.0 ∷ (z.0 ∷ [])) (IsAlias y.0 z.0) r (state_in a.old) (state_in a.new) }
+{
+    put_name(a, y, z);
+    rename(a, y, z);
 }
 
 // An argument that is y becomes z.

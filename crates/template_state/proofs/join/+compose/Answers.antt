@@ -21,4 +21,5 @@ returns-in_ok-pass_on-in-Before t c =
     let whole = composed_before (arguments_in c.args.args.now) (arguments_in c.pass_on.new.args) (state_in c.deref_mut.result.now) c.in-Before.field-0.0 (type_of c.in-Before.field-1) (arguments_in c.deref_mut-in-Before.result.now) (state_in c.pass_on.new.a) (arguments_in c.compose.new.inner)
     c.in_ok-pass_on-in-Before.ensures.passed c.in_ok-pass_on-in-Before.ensures.left (rw (c.deref_mut.ensures.value, c.deref_mut-in-Before.ensures.value) (rw c.in-Before.is at c.requires.once)) in
     let there = rw (c.deref_mut.ensures.value, c.deref_mut-in-Before.ensures.value) at whole in
-    rw c.in-Before.is (on_ok_weaker c.compose.result there c.compose.ensures)
+    let later = rw c.deref_mut-in-Before.ensures.value at c.compose.ensures in
+    rw c.in-Before.is (on_ok_weaker c.compose.result there later)
