@@ -6,11 +6,17 @@ mod code;
 mod counting;
 mod join;
 mod live;
+mod names_used;
 mod put_in;
 mod simplify;
-mod uses;
+mod terms;
+mod without_marks;
 
 pub use code::{Code, Op, Operands, Template};
 pub use counting::{count_states, held_events};
 pub use live::{Arguments, Later, Live, Past};
+pub use names_used::{op_uses, uses};
+pub use put_in::{put_name, put_pair};
 pub use simplify::settle;
+pub use terms::node;
+pub use without_marks::plain;
