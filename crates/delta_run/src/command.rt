@@ -12,6 +12,7 @@ ghost use Rattle.delta_run.specs.Checked.{ChecksText};
 ghost use Rattle.delta_run.specs.Evaluated.{EvaluatedText};
 ghost use Rattle.delta_run.specs.CommandLine.{Asks, AskNothing, frames_of};
 ghost use Rattle.delta_end.specs.End.{FileCause, ReadCause, WriteCause};
+ghost use Rattle.delta_loop.specs.Answer.{Adds, ReadsWell};
 ghost use Rattle.delta_loop.specs.History.{IsUntouched};
 ghost use Rattle.delta_run.specs.Text.{OfFile, RanText};
 
@@ -37,6 +38,7 @@ fn run_file<M: Machine, S: Shelf, L: Link>(
 ) -> End
     requires { budget ≤ 1000000 }
     ensures ran { OfFile (S.holds shelf.old) file.now (λ text. RanText text budget version (L.log link.old) (L.log link.new) (L.left link.old) (L.left link.new) result) }
+    ensures reads { Adds (L.log link.old) (L.log link.new) (ReadsWell result) }
     ensures runs { result ≢ End.Usage }
     ensures held { S.holds shelf.new ≡ S.holds shelf.old }
     ensures file { FileCause result (S.faults shelf.old) (S.faults shelf.new) }
@@ -94,6 +96,7 @@ fn eval_file<S: Shelf, L: Link>(
 ) -> End
     requires { budget < 2 ^ 62 }
     ensures evaluated { OfFile (S.holds shelf.old) file.now (λ text. EvaluatedText text budget version (L.log link.old) (L.log link.new) (L.left link.old) (L.left link.new) result) }
+    ensures reads { Adds (L.log link.old) (L.log link.new) (ReadsWell result) }
     ensures evaluates { result ≢ End.Usage }
     ensures held { S.holds shelf.new ≡ S.holds shelf.old }
     ensures file { FileCause result (S.faults shelf.old) (S.faults shelf.new) }
@@ -128,6 +131,7 @@ pub fn run_command<M: Machine, S: Shelf, L: Link>(
     ensures command { AskNothing words.now → ((result ≡ End.Usage) ⊎ (result ≡ End.Memory)) × IsUntouched (L.log link.old) (L.log link.new) (L.left link.old) (L.left link.new) }
     ensures ran { (file : List ℕ) (budget : ℕ) (v : WrittenVersion) → Asks words.now (run file budget v)
         → OfFile (S.holds shelf.old) file (λ text. RanText text budget (frames_of v) (L.log link.old) (L.log link.new) (L.left link.old) (L.left link.new) result) }
+    ensures run_reads { (file : List ℕ) (budget : ℕ) (v : WrittenVersion) → Asks words.now (run file budget v) → Adds (L.log link.old) (L.log link.new) (ReadsWell result) }
     ensures framed { (v : WrittenVersion) → Asks words.now (frames v)
         → ((result ≡ End.Memory) × IsUntouched (L.log link.old) (L.log link.new) (L.left link.old) (L.left link.new))
         ⊎ Converted (frames_of_lines (frames_of v)) (L.log link.old) (L.log link.new) (L.left link.old) (L.left link.new) result }
@@ -139,6 +143,7 @@ pub fn run_command<M: Machine, S: Shelf, L: Link>(
     ensures checking { (file : List ℕ) → Asks words.now (check file) → IsUntouched (L.log link.old) (L.log link.new) (L.left link.old) (L.left link.new) }
     ensures evaluated { (file : List ℕ) (budget : ℕ) (v : WrittenVersion) → Asks words.now (eval file budget v)
         → OfFile (S.holds shelf.old) file (λ text. EvaluatedText text budget (frames_of v) (L.log link.old) (L.log link.new) (L.left link.old) (L.left link.new) result) }
+    ensures eval_reads { (file : List ℕ) (budget : ℕ) (v : WrittenVersion) → Asks words.now (eval file budget v) → Adds (L.log link.old) (L.log link.new) (ReadsWell result) }
     ensures held { S.holds shelf.new ≡ S.holds shelf.old }
     ensures file { FileCause result (S.faults shelf.old) (S.faults shelf.new) }
     ensures read { ReadCause result (L.read_faults link.old) (L.read_faults link.new) }
