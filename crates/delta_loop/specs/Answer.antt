@@ -23,7 +23,7 @@ AtReturn P (Refused why) moves = moves ≡ []
 AtReturn P FileFailed moves = moves ≡ []
 AtReturn P end moves = MayEnd P (bytes_read moves) (has_ended moves) (bytes_written moves) end
 
--- nothing was read after the end of the input; at most 2^40 bytes were read, and one more exactly where there are too many
+-- nothing was read after the end of the input; at most 2^40 bytes were read, and one more only where there are too many
 pub record ReadsWell (end : End) (moves : List Move) : Type 0 where
   pub last : EndsReading moves
   pub limit : IsWithinLimit end (length (bytes_read moves))

@@ -8,8 +8,8 @@ use Rattle.delta_loop.specs.Meaning.{Meaning, StartsCostly, StartsDeep, IsCostly
 use Rattle.delta_loop.specs.Output.{accepted, opening, output, due}
 use Rattle.delta_loop.specs.Finding.{place_in, finding}
 
--- at most 2^40 bytes are read, and one more exactly where the input is too long: so the row of every other end speaks
--- of the first 2^40 bytes, and that of `Long` says so itself
+-- at most 2^40 bytes are read, and one more only where the input is too long: so the row of every other end speaks
+-- of the first 2^40 bytes, and that of `Long` of these and of one byte more
 pub record IsWithinLimit (end : End) (count : ℕ) : Type 0 where
   pub most : count ≤ 2 ^ 40 + 1
   pub past : 2 ^ 40 < count → end ≡ Long

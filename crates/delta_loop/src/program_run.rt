@@ -69,7 +69,7 @@ pub fn run_program<M: Stepper, L: Link, N: Sink>(
     // Before each read, what was written is what is due for what was read.
     ensures prompt { (P : Meaning) → HasBegun M.stands P machine version first.now → Adds (L.log link.old) (L.log link.new) (IsPrompt (due P)) }
     // The status is that of an end, and the end is shown by the bytes, the counts and the note. Nothing is read after the
-    // end of the input; at most 2^40 bytes are read, and one more exactly where there are too many.
+    // end of the input; at most 2^40 bytes are read, and one more only where there are too many.
     ensures answer { (end : End) × IsOfLoop end × IsStatus end result (N.faults notes.old) (N.faults notes.new)
         × ((P : Meaning) → HasBegun M.stands P machine version first.now → Adds (L.log link.old) (L.log link.new) (ReadsWell end))
         × ((P : Meaning) → HasBegun M.stands P machine version first.now → Adds (L.log link.old) (L.log link.new) (AtReturn P end))

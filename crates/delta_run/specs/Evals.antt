@@ -9,7 +9,7 @@ use Rattle.delta_run.specs.Text.{OfFile}
 use Rattle.delta_run.specs.Evaluated.{EvalsText, EvalsWell, StopsWell, RefusesUnwritable}
 
 pub record Evals (file : List ℕ) (budget : ℕ) (v : Version) (before after : Outside) (end : End) (status : ℕ) : Type 0 where
-  -- nothing is read after the end of the input; at most 2^40 bytes are read, and one more exactly where there are too many
+  -- nothing is read after the end of the input; at most 2^40 bytes are read, and one more only where there are too many
   pub reads : Adds before.log after.log (ReadsWell end)
   -- nothing was written before the input's end, and the end is shown by the bytes that were read and written
   pub ends : OfFile before.files file (λ text. Adds before.log after.log (EvalsText text budget v end))

@@ -13,7 +13,7 @@ pub record Runs (file : List ℕ) (budget : ℕ) (v : Version) (before after : O
   -- before each read, what was written are the header and the frames of the successive increments of the one-shot
   -- meaning of the text's program on the accepted events of the whole frames in what was read
   pub prompt : OfFile before.files file (λ text. Adds before.log after.log (RunsPromptly text budget v))
-  -- nothing is read after the end of the input; at most 2^40 bytes are read, and one more exactly where there are too many
+  -- nothing is read after the end of the input; at most 2^40 bytes are read, and one more only where there are too many
   pub reads : Adds before.log after.log (ReadsWell end)
   -- the end is shown by the bytes that were read and written
   pub ends : OfFile before.files file (λ text. Adds before.log after.log (RunsMoves text budget v end))

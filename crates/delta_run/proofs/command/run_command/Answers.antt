@@ -28,6 +28,9 @@ returns-in-Ok-Run-clause-ran g c file budget v is =
     (g.L.Link.log c.args.link.now) (g.L.Link.log c.run_file.new.link) (g.L.Link.left c.args.link.now) (g.L.Link.left c.run_file.new.link) c.run_file.result))
     (c.deref.ensures ∙ same.0) with_budget
 
+pub returns-in-Ok-Run-clause-run_reads : goal.returns-in-Ok-Run-clause-run_reads
+returns-in-Ok-Run-clause-run_reads g c file budget v is = c.run_file.ensures.reads
+
 pub returns-in-Ok-Frames-clause-command : goal.returns-in-Ok-Frames-clause-command
 returns-in-Ok-Frames-clause-command g c nothing = absurd (nothing _ (c.in-Ok-Frames.ensures.ok ∙ ap (λ t. Some (asked t)) c.in-Ok-Frames.field-0-is) refl)
 
@@ -68,3 +71,6 @@ returns-in-Ok-Eval-clause-evaluated g c file budget v is =
     subst (λ (name : List ℕ). OfFile (g.S.Shelf.holds c.args.shelf.now) name (λ text. EvaluatedText text budget (frames_of v)
     (g.L.Link.log c.args.link.now) (g.L.Link.log c.eval_file.new.link) (g.L.Link.left c.args.link.now) (g.L.Link.left c.eval_file.new.link) c.eval_file.result))
     (c.deref-in-Ok-Eval.ensures ∙ same.0) with_budget
+
+pub returns-in-Ok-Eval-clause-eval_reads : goal.returns-in-Ok-Eval-clause-eval_reads
+returns-in-Ok-Eval-clause-eval_reads g c file budget v is = c.eval_file.ensures.reads
