@@ -1,5 +1,5 @@
 -- One piece of input, from what stood before it to what stands after it.
-use Rattle.std.proofs.Common.{◌≡◌, ℕ, ◌+◌, ◌<◌, ◌≤◌, ◌^◌, List, [], ◌∷◌, ◌++◌, Bool, true, false, Option, Some, None, option_map, length, take, ◌∙◌, ap, sym, refl, subst, append-nil, arith, length-append}
+use Rattle.std.proofs.Common.{◌≡◌, ℕ, ◌+◌, ◌<◌, ◌≤◌, ◌^◌, List, [], ◌∷◌, ◌++◌, Bool, true, false, Option, None, option_map, length, take, ◌∙◌, ap, sym, refl, subst, append-nil, arith, length-append}
 use Rattle.std.proofs.lemmas.List.{take_at}
 use Rattle.port.specs.declared.link.Move.{Move}
 use Rattle.port.specs.Told.{Loses}
