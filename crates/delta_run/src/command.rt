@@ -55,6 +55,7 @@ fn run_file<M: Machine, S: Shelf, L: Link>(
 // Prints the program of a file.
 fn print_file<S: Shelf, L: Link>(alloc: Global, file: &str, shelf: &mut S, link: &mut L) -> End
     ensures printed { OfFile (S.holds shelf.old) file.now (λ text. PrintedText text (L.log link.old) (L.log link.new) result) }
+    ensures reads { Adds (L.log link.old) (L.log link.new) (ReadsWell result) }
     ensures prints { result ≢ End.Usage }
     ensures unread { L.left link.new ≡ L.left link.old }
     ensures held { S.holds shelf.new ≡ S.holds shelf.old }
@@ -129,9 +130,9 @@ pub fn run_command<M: Machine, S: Shelf, L: Link>(
 ) -> End
     ensures usage { result ≡ End.Usage → AskNothing words.now }
     ensures command { AskNothing words.now → ((result ≡ End.Usage) ⊎ (result ≡ End.Memory)) × IsUntouched (L.log link.old) (L.log link.new) (L.left link.old) (L.left link.new) }
+    ensures reads { Adds (L.log link.old) (L.log link.new) (ReadsWell result) }
     ensures ran { (file : List ℕ) (budget : ℕ) (v : WrittenVersion) → Asks words.now (run file budget v)
         → OfFile (S.holds shelf.old) file (λ text. RanText text budget (frames_of v) (L.log link.old) (L.log link.new) (L.left link.old) (L.left link.new) result) }
-    ensures run_reads { (file : List ℕ) (budget : ℕ) (v : WrittenVersion) → Asks words.now (run file budget v) → Adds (L.log link.old) (L.log link.new) (ReadsWell result) }
     ensures framed { (v : WrittenVersion) → Asks words.now (frames v)
         → ((result ≡ End.Memory) × IsUntouched (L.log link.old) (L.log link.new) (L.left link.old) (L.left link.new))
         ⊎ Converted (frames_of_lines (frames_of v)) (L.log link.old) (L.log link.new) (L.left link.old) (L.left link.new) result }
@@ -143,7 +144,6 @@ pub fn run_command<M: Machine, S: Shelf, L: Link>(
     ensures checking { (file : List ℕ) → Asks words.now (check file) → IsUntouched (L.log link.old) (L.log link.new) (L.left link.old) (L.left link.new) }
     ensures evaluated { (file : List ℕ) (budget : ℕ) (v : WrittenVersion) → Asks words.now (eval file budget v)
         → OfFile (S.holds shelf.old) file (λ text. EvaluatedText text budget (frames_of v) (L.log link.old) (L.log link.new) (L.left link.old) (L.left link.new) result) }
-    ensures eval_reads { (file : List ℕ) (budget : ℕ) (v : WrittenVersion) → Asks words.now (eval file budget v) → Adds (L.log link.old) (L.log link.new) (ReadsWell result) }
     ensures held { S.holds shelf.new ≡ S.holds shelf.old }
     ensures file { FileCause result (S.faults shelf.old) (S.faults shelf.new) }
     ensures read { ReadCause result (L.read_faults link.old) (L.read_faults link.new) }

@@ -6,7 +6,12 @@ use Rattle.delta_run.specs.Text.{OfFile, RanText}
 use Rattle.delta_run.specs.Printed.{PrintedText}
 use Rattle.delta_run.specs.Checked.{ChecksText}
 use Rattle.delta_run.specs.Evaluated.{EvaluatedText}
+use Rattle.delta_end.specs.declared.end.End.TheVariants.{Usage, Memory}
+use Rattle.delta_loop.specs.Answer.{ReadsWell}
+use Rattle.delta_loop.proofs.Returning.{adds_none, ran_reads, unread}
+use Rattle.delta_text.specs.Lines.{lines_of_frames}
 use Rattle.delta_run.proofs.Budgets.{run_is_small, eval_is_small}
+use Rattle.delta_run.proofs.Conversions.{converted_reads}
 use Rattle.delta_run.proofs.CommandLines.{same_run, same_check, same_eval, same_print}
 use Rattle.delta_run.proofs.command.run_command.Goals as goal
 
@@ -27,9 +32,6 @@ returns-in-Ok-Run-clause-ran g c file budget v is =
     subst (λ (name : List ℕ). OfFile (g.S.Shelf.holds c.args.shelf.now) name (λ text. RanText text budget (frames_of v)
     (g.L.Link.log c.args.link.now) (g.L.Link.log c.run_file.new.link) (g.L.Link.left c.args.link.now) (g.L.Link.left c.run_file.new.link) c.run_file.result))
     (c.deref.ensures ∙ same.0) with_budget
-
-pub returns-in-Ok-Run-clause-run_reads : goal.returns-in-Ok-Run-clause-run_reads
-returns-in-Ok-Run-clause-run_reads g c file budget v is = c.run_file.ensures.reads
 
 pub returns-in-Ok-Frames-clause-command : goal.returns-in-Ok-Frames-clause-command
 returns-in-Ok-Frames-clause-command g c nothing = absurd (nothing _ (c.in-Ok-Frames.ensures.ok ∙ ap (λ t. Some (asked t)) c.in-Ok-Frames.field-0-is) refl)
@@ -72,5 +74,31 @@ returns-in-Ok-Eval-clause-evaluated g c file budget v is =
     (g.L.Link.log c.args.link.now) (g.L.Link.log c.eval_file.new.link) (g.L.Link.left c.args.link.now) (g.L.Link.left c.eval_file.new.link) c.eval_file.result))
     (c.deref-in-Ok-Eval.ensures ∙ same.0) with_budget
 
-pub returns-in-Ok-Eval-clause-eval_reads : goal.returns-in-Ok-Eval-clause-eval_reads
-returns-in-Ok-Eval-clause-eval_reads g c file budget v is = c.eval_file.ensures.reads
+-- what each command reads
+
+pub returns-in-Ok-Run-clause-reads : goal.returns-in-Ok-Run-clause-reads
+returns-in-Ok-Run-clause-reads g c = c.run_file.ensures.reads
+
+pub returns-in-Ok-Frames-clause-reads : goal.returns-in-Ok-Frames-clause-reads
+returns-in-Ok-Frames-clause-reads g c = converted_reads _ _ _ _ _ c.write_frames.result c.write_frames.ensures.ran
+
+pub returns-in-Ok-Text-clause-reads : goal.returns-in-Ok-Text-clause-reads
+returns-in-Ok-Text-clause-reads g c = ran_reads lines_of_frames _ _ _ _ c.write_lines.result c.write_lines.ensures.ran
+
+pub returns-in-Ok-Print-clause-reads : goal.returns-in-Ok-Print-clause-reads
+returns-in-Ok-Print-clause-reads g c = c.print_file.ensures.reads
+
+pub returns-in-Ok-Check-clause-reads : goal.returns-in-Ok-Check-clause-reads
+returns-in-Ok-Check-clause-reads g c = adds_none _ _ (ReadsWell c.check_file.result) refl (unread c.check_file.result)
+
+pub returns-in-Ok-Eval-clause-reads : goal.returns-in-Ok-Eval-clause-reads
+returns-in-Ok-Eval-clause-reads g c = c.eval_file.ensures.reads
+
+pub returns-in-Ok-Gen-clause-reads : goal.returns-in-Ok-Gen-clause-reads
+returns-in-Ok-Gen-clause-reads g c = adds_none _ _ (ReadsWell Usage) refl (unread Usage)
+
+pub returns-in-Err-Usage-clause-reads : goal.returns-in-Err-Usage-clause-reads
+returns-in-Err-Usage-clause-reads g c = adds_none _ _ (ReadsWell Usage) refl (unread Usage)
+
+pub returns-in-Err-Memory-clause-reads : goal.returns-in-Err-Memory-clause-reads
+returns-in-Err-Memory-clause-reads g c = adds_none _ _ (ReadsWell Memory) refl (unread Memory)

@@ -33,7 +33,7 @@ returns-clause-owed g c = (
   owes_by c.args.words.now _ _ c.run_command-end.result _
       (λ file budget v is. record {
         prompt = λ files tells. text_prompt _ budget (frames_of v) _ _ _ _ c.run_command-end.result (c.run_command-end.ensures.ran file budget v is files tells);
-        reads = c.run_command-end.ensures.run_reads file budget v is;
+        reads = c.run_command-end.ensures.reads;
         ends = λ files tells. text_return _ budget (frames_of v) _ _ _ _ c.run_command-end.result (c.run_command-end.ensures.ran file budget v is files tells);
         complete = λ files tells file_still read write note.
             text_complete _ budget (frames_of v) _ _ _ _ _ _ _ _ file_still note _ _ c.note-said.ensures.cause _ _ _ _ read write c.run_command-end.result
@@ -46,7 +46,7 @@ returns-clause-owed g c = (
             (status_is _ _ _ _ _ c.answer.ensures c.note-said.ensures.cause);
       })
       (λ file budget v is. record {
-        reads = c.run_command-end.ensures.eval_reads file budget v is;
+        reads = c.run_command-end.ensures.reads;
         ends = λ files tells. evals_text _ budget (frames_of v) _ _ _ _ c.run_command-end.result (c.run_command-end.ensures.evaluated file budget v is files tells);
         complete = λ files tells file_still read write note p core accepted w all word tells_input good within.
             evals_well _ budget (frames_of v) _ _ _ _ _ _ _ _ file_still note _ _ c.note-said.ensures.cause _ _ _ _ read write p core accepted w all word tells_input good c.run_command-end.result
