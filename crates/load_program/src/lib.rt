@@ -1,0 +1,2 @@
+//! The load's program.
+#![tactic(auto)]
