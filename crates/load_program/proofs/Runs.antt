@@ -83,3 +83,10 @@ level_by : (k a n : ℕ) (q : StreamPrefix) (b : Bool) → nat_lt 500 n ≡ b �
 unfolding call_at
 level_by k a n q true h l = rw h (omega (arith, l))
 level_by k a n q false h l = rw h (omega (arith, l))
+
+-- by whether its value is above 500
+pub pair_calls : (k a n : ℕ) (q : StreamPrefix) → (over_run (suc k) (star_rest (pair_full a n) q)).calls ≡ 1 + (over_run k q).calls
+pair_calls k a n q = calls_by k a n q (nat_lt 500 n) refl
+
+pub pair_level : (k a n : ℕ) (q : StreamPrefix) → (over_run k q).level ≤ 1 → (over_run (suc k) (star_rest (pair_full a n) q)).level ≤ 1
+pair_level k a n q l = level_by k a n q (nat_lt 500 n) refl l

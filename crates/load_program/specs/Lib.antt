@@ -1,2 +1,4 @@
 -- Definitions that the contracts cite.
 pub mod LoadCore
+pub mod LoadOutput
+pub mod LoadText
