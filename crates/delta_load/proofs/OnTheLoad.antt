@@ -1,0 +1,93 @@
+-- A session on the load, from before an event to after it.
+use Rattle.std.proofs.Common.{◌≡◌, ℕ, ◌+◌, ◌*◌, ◌<◌, ◌≤◌, ◌^◌, List, [], ◌∷◌, ◌++◌, Option, Some, None, length, take, drop, get_or, refl, ap, sym, subst, ◌∙◌, append_assoc, append-nil, arith}
+use Rattle.std.specs.Prelude.{slice_get}
+use Rattle.std.proofs.lemmas.List.{take_all}
+use Rattle.std.proofs.lemmas.Option.{slice_get_within, get_or_from_slice_get}
+use Rattle.stream_type.specs.StreamType.{StreamType, type_of}
+use Rattle.event_word.specs.StreamEvent.{StreamEvent}
+use Rattle.event_word.specs.EventFault.{fault_of}
+use Rattle.event_word.specs.Admits.{Admits}
+use Rattle.event_word.specs.Word.{IsWord, after, after_word}
+use Rattle.event_word.specs.Canon.{canon}
+use Rattle.event_word.proofs.Walks.{no_fault_is_admitted}
+use Rattle.core_term.specs.CoreTerm.{CoreProgram}
+use Rattle.delta_state.specs.MachineView.{MachineView, answer_to}
+use Rattle.delta_session.specs.declared.session.Session.{Session}
+use Rattle.delta_session.specs.Standing.{Stands, IsOpen}
+use Rattle.delta_output.specs.OneShot.{OneShot, said, said_to}
+use Rattle.delta_output.specs.Spoken.{spoken, spoken_after}
+use Rattle.delta_runner.specs.CoreOneShot.{one_shot}
+use Rattle.delta_feed.specs.Load.{load_type, load}
+use Rattle.delta_feed.proofs.Words.{is_word}
+use Rattle.delta_feed.proofs.Places.{length-load}
+use Rattle.delta_load.specs.declared.totals.Totals.{Totals}
+use Rattle.delta_load.specs.Counting.{totals_of, IsLong}
+use Rattle.delta_load.specs.Standing.{IsOnLoad}
+use Rattle.delta_load.specs.Stopping.{IsMet}
+use Rattle.delta_load.proofs.Counts.{long-append}
+use Rattle.delta_load.proofs.Turns.{turn, parted}
+
+-- what is put out on a word, and then on another behind it
+spoken_after-append : (P : OneShot) (before v w : List StreamEvent) → spoken_after P before (v ++ w) ≡ spoken_after P before v ++ spoken_after P (before ++ v) w
+spoken_after-append P before [] w = ap (λ (b : List StreamEvent). spoken_after P b w) (sym (append-nil before))
+spoken_after-append P before (x ∷ v) w =
+    let now = canon (said_to P before x) in
+    ap (λ (out : List StreamEvent). now ++ out) (spoken_after-append P (before ++ x ∷ []) v w)
+    ∙ ap (λ (b : List StreamEvent). now ++ (spoken_after P (before ++ x ∷ []) v ++ spoken_after P b w)) (append_assoc before (x ∷ []) v)
+    ∙ sym (append_assoc now (spoken_after P (before ++ x ∷ []) v) (spoken_after P (before ++ x ∷ v) w))
+
+pub spoken-append : (P : OneShot) (v w : List StreamEvent) → spoken P (v ++ w) ≡ spoken P v ++ spoken_after P v w
+spoken-append P v w =
+    ap (λ (out : List StreamEvent). canon (said P []) ++ out) (spoken_after-append P [] v w)
+    ∙ sym (append_assoc (canon (said P [])) (spoken_after P [] v) (spoken_after P v w))
+
+pub spoken-push : (P : OneShot) (word : List StreamEvent) (x : StreamEvent) → spoken P (word ++ x ∷ []) ≡ spoken P word ++ canon (said_to P word x)
+spoken-push P word x = spoken-append P word (x ∷ []) ∙ ap (λ (out : List StreamEvent). spoken P word ++ out) (append-nil (canon (said_to P word x)))
+
+-- an event of a word is admitted after those before it
+admitted_in : (s : StreamType) (v w : List StreamEvent) (x : StreamEvent) → IsWord s (v ++ x ∷ w) → Admits (after_word v s) x
+admitted_in s [] w x comes = comes.0
+admitted_in s (y ∷ v) w x comes = admitted_in (after y s) v w x comes.1
+
+module _ (start items i : ℕ) (x : StreamEvent) (is : slice_get (load start items) i ≡ Some x) where
+  within : i < length (load start items)
+  within = slice_get_within (load start items) i x is
+
+  read : x ≡ get_or (load start items) i x
+  read = sym (get_or_from_slice_get (load start items) i x x is)
+
+  -- the load up to this event, and around it
+  pub load_turn : take (i + 1) (load start items) ≡ take i (load start items) ++ x ∷ []
+  load_turn = turn (load start items) i x within read
+
+  pub load_parted : load start items ≡ take i (load start items) ++ x ∷ drop (i + 1) (load start items)
+  load_parted = parted (load start items) i x within read
+
+  pub meets : (stops : List StreamEvent → StreamEvent → Type 0) → stops (take i (load start items)) x → IsMet stops (load start items)
+  meets stops why = record { before = take i (load start items); event = x; rest = drop (i + 1) (load start items); split = load_parted; why = why }
+
+  -- what was put out up to it is the front of all
+  pub long_on : (P : OneShot) → IsLong (spoken P (take i (load start items)) ++ canon (said_to P (take i (load start items)) x)) → IsLong (spoken P (load start items))
+  long_on P long =
+      let before : List StreamEvent = take i (load start items) in
+      let rest : List StreamEvent = drop (i + 1) (load start items) in
+      let whole : spoken P (before ++ x ∷ []) ++ spoken_after P (before ++ x ∷ []) rest ≡ spoken P (load start items) =
+      sym (spoken-append P (before ++ x ∷ []) rest) ∙ ap (spoken P) (append_assoc before (x ∷ []) rest ∙ sym load_parted) in
+      subst IsLong whole (long-append (spoken P (before ++ x ∷ [])) (spoken_after P (before ++ x ∷ []) rest) (subst IsLong (sym (spoken-push P before x)) long))
+
+  module _ {M : Type 0} (seen : M → MachineView) (stands : M → List StreamEvent → Type 0) (session : Session M) (on : IsOnLoad seen stands session (take i (load start items))) where
+    pub open_here : IsOpen seen stands session
+    open_here = record { program = on.program; budget = 1000000; word = take i (load start items); standing = on.standing }
+
+    pub admitted_here : fault_of x (type_of session.rest) ≡ None
+    admitted_here =
+        let left : after_word (take i (load start items)) load_type ≡ type_of session.rest = sym (on.standing.at.rest_is ∙ ap (after_word (take i (load start items))) on.input) in
+        let admits = admitted_in load_type (take i (load start items)) (drop (i + 1) (load start items)) x (subst (IsWord load_type) load_parted (is_word start 0 items)) in
+        (no_fault_is_admitted (type_of session.rest) x).1 (subst (λ (s : StreamType). Admits s x) left admits)
+
+    pub room_here : i < 5 * items + 1 → items ≤ 10000000 → session.events < 2 ^ 42
+    room_here below few = ?
+
+-- the whole load
+pub load_whole : (start items i : ℕ) → 5 * items + 1 ≤ i → take i (load start items) ≡ load start items
+load_whole start items i h = let len = length-load start 0 items in take_all i (load start items) (omega (arith, h, len))
