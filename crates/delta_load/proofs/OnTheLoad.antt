@@ -1,7 +1,7 @@
 -- A session on the load, from before an event to after it.
 use Rattle.std.proofs.Common.{◌≡◌, ℕ, ◌+◌, ◌*◌, ◌<◌, ◌≤◌, ◌^◌, List, [], ◌∷◌, ◌++◌, Option, Some, None, length, take, drop, get_or, refl, ap, sym, subst, ◌∙◌, append_assoc, append-nil, arith}
 use Rattle.std.specs.Prelude.{slice_get}
-use Rattle.std.proofs.lemmas.List.{take_all}
+use Rattle.std.proofs.lemmas.List.{take_all, length-take}
 use Rattle.std.proofs.lemmas.Option.{slice_get_within, get_or_from_slice_get}
 use Rattle.stream_type.specs.StreamType.{StreamType, type_of}
 use Rattle.event_word.specs.StreamEvent.{StreamEvent}
@@ -85,9 +85,58 @@ module _ (start items i : ℕ) (x : StreamEvent) (is : slice_get (load start ite
         let admits = admitted_in load_type (take i (load start items)) (drop (i + 1) (load start items)) x (subst (IsWord load_type) load_parted (is_word start 0 items)) in
         (no_fault_is_admitted (type_of session.rest) x).1 (subst (λ (s : StreamType). Admits s x) left admits)
 
-    pub room_here : i < 5 * items + 1 → items ≤ 10000000 → session.events < 2 ^ 42
-    room_here below few = ?
+    pub room_here : items ≤ 10000000 → session.events < 2 ^ 42
+    room_here few =
+        let count = on.standing.count in
+        let taken = length-take i (load start items) in
+        let all = length-load start 0 items in
+        omega (arith, count, taken, all, few)
 
 -- the whole load
 pub load_whole : (start items i : ℕ) → 5 * items + 1 ≤ i → take i (load start items) ≡ load start items
 load_whole start items i h = let len = length-load start 0 items in take_all i (load start items) (omega (arith, h, len))
+
+-- a session that began with nothing taken, and the totals of what came first, have come to this word with these totals
+pub record Goes {M : Type 0} (seen : M → MachineView) (stands : M → List StreamEvent → Type 0) (began : Session M) (first : Totals) (session : Session M) (totals : Totals) (word : List StreamEvent) : Type 0 where
+  pub on_load : IsOnLoad seen stands session word
+  pub stands_on : (c : CoreProgram) → Stands seen stands began c 1000000 [] → Stands seen stands session c 1000000 word
+  pub counted : (c : CoreProgram) → Stands seen stands began c 1000000 [] → first ≡ totals_of (spoken (one_shot c) []) → totals ≡ totals_of (spoken (one_shot c) word)
+
+module _ (start items i : ℕ) (x : StreamEvent) (is : slice_get (load start items) i ≡ Some x) {M : Type 0} (seen : M → MachineView) (stands : M → List StreamEvent → Type 0)
+    (began : Session M) (first : Totals) (old : Session M) (totals : Totals) (goes : Goes seen stands began first old totals (take i (load start items))) where
+  abbrev before : List StreamEvent
+  before = take i (load start items)
+
+  -- an event on
+  pub goes_on : (new : Session M) (more : Totals)
+      → ((c : CoreProgram) (budget : ℕ) (word : List StreamEvent) → Stands seen stands old c budget word → Stands seen stands new c budget (word ++ x ∷ []))
+      → ((c : CoreProgram) (budget : ℕ) (word : List StreamEvent) → Stands seen stands old c budget word → (said_before : List StreamEvent) → totals ≡ totals_of said_before
+      → more ≡ totals_of (said_before ++ canon (answer_to c word x)))
+      → Goes seen stands began first new more (take (i + 1) (load start items))
+  goes_on new more next count = record {
+    on_load = record {
+      program = goes.on_load.program;
+      standing = subst (λ (w : List StreamEvent). Stands seen stands new goes.on_load.program 1000000 w) (sym (load_turn start items i x is)) (next goes.on_load.program 1000000 before goes.on_load.standing);
+      input = goes.on_load.input;
+    };
+    stands_on = λ c s. subst (λ (w : List StreamEvent). Stands seen stands new c 1000000 w) (sym (load_turn start items i x is)) (next c 1000000 before (goes.stands_on c s));
+    counted = λ c s e.
+        count c 1000000 before (goes.stands_on c s) (spoken (one_shot c) before) (goes.counted c s e)
+        ∙ ap totals_of (sym (spoken-push (one_shot c) before x) ∙ ap (spoken (one_shot c)) (sym (load_turn start items i x is)));
+  }
+
+  -- or stopped at it
+  pub long_here : ((c : CoreProgram) (budget : ℕ) (word : List StreamEvent) → Stands seen stands old c budget word → (said_before : List StreamEvent) → totals ≡ totals_of said_before
+      → IsLong (said_before ++ canon (answer_to c word x)))
+      → (c : CoreProgram) → Stands seen stands began c 1000000 [] → first ≡ totals_of (spoken (one_shot c) []) → IsLong (spoken (one_shot c) (load start items))
+  long_here long c s e = long_on start items i x is (one_shot c) (long c 1000000 before (goes.stands_on c s) (spoken (one_shot c) before) (goes.counted c s e))
+
+-- what a session that has just opened said is counted first
+pub counted_first : (c : CoreProgram) (first : Totals) (word said_first : List StreamEvent) → first ≡ totals_of word → word ≡ said_first → said_first ≡ canon (said (one_shot c) []) → first ≡ totals_of (spoken (one_shot c) [])
+counted_first c first word said_first is same answer = is ∙ ap totals_of (same ∙ answer ∙ sym (append-nil (canon (said (one_shot c) []))))
+
+-- and is the front of all that is put out
+pub long_first : (c : CoreProgram) (start items : ℕ) (word said_first : List StreamEvent) → IsLong word → word ≡ said_first → said_first ≡ canon (said (one_shot c) [])
+    → IsLong (spoken (one_shot c) (load start items))
+long_first c start items word said_first long same answer =
+    long-append (canon (said (one_shot c) [])) (spoken_after (one_shot c) [] (load start items)) (subst IsLong (same ∙ answer) long)

@@ -91,8 +91,9 @@ fn feed_load<M: Machine>(
 {
     let mut totals = first;
     for i in 0..5 * items + 1 {
-        if let Some(x) = gen_event(start, items, i) {
-            totals = feed_one(alloc, session, x, totals)?;
+        match gen_event(start, items, i) {
+            Some(x) => totals = feed_one(alloc, session, x, totals)?,
+            None => {}
         }
     }
     Ok(totals)
