@@ -2,3 +2,4 @@
 pub mod LoadCore
 pub mod LoadOutput
 pub mod LoadText
+pub mod Laws

@@ -1,4 +1,5 @@
 use Rattle.std.proofs.Common.{◌+◌, List, take, refl, ap, sym, subst, ◌∙◌, arith}
+use Rattle.std.proofs.lemmas.Result.{err_from_is_err_and}
 use Rattle.event_word.specs.StreamEvent.{StreamEvent}
 use Rattle.delta_state.specs.MachineView.{IsCostly, IsDeep}
 use Rattle.delta_session.specs.declared.session.Session.{Session}
@@ -27,19 +28,22 @@ feed_one-requires-clause-room g c =
     room_here c.args.start c.args.items c.loop-i.i c.in-Some.x (sym c.in-Some.ensures.event) g.M.Machine.seen g.M.Machine.stands c.loop-i.session c.loop-i.invariant.on_load c.requires.items
 
 pub returns-in_err-totals-in-Some-clause-costly : goal.returns-in_err-totals-in-Some-clause-costly
-returns-in_err-totals-in-Some-clause-costly g c stopped p s =
-    meets c.args.start c.args.items c.loop-i.i c.in-Some.x (sym c.in-Some.ensures.event) (IsCostly p 1000000)
-    (c.in_err-totals-in-Some.ensures.costly (rw (← c.from_residual.ensures) stopped) p 1000000 (take c.loop-i.i (load c.args.start c.args.items)) (c.loop-i.invariant.stands_on p s))
+returns-in_err-totals-in-Some-clause-costly g c =
+    let exit = err_from_is_err_and c.from_residual.result c.from_residual.ensures.1 in
+    rw (exit.1, exit.2) (λ stopped p s. meets c.args.start c.args.items c.loop-i.i c.in-Some.x (sym c.in-Some.ensures.event) (IsCostly p 1000000)
+    (c.in_err-totals-in-Some.ensures.costly stopped p 1000000 (take c.loop-i.i (load c.args.start c.args.items)) (c.loop-i.invariant.stands_on p s)))
 
 pub returns-in_err-totals-in-Some-clause-deep : goal.returns-in_err-totals-in-Some-clause-deep
-returns-in_err-totals-in-Some-clause-deep g c stopped p s =
-    meets c.args.start c.args.items c.loop-i.i c.in-Some.x (sym c.in-Some.ensures.event) (IsDeep p 1000)
-    (c.in_err-totals-in-Some.ensures.deep (rw (← c.from_residual.ensures) stopped) p 1000000 (take c.loop-i.i (load c.args.start c.args.items)) (c.loop-i.invariant.stands_on p s))
+returns-in_err-totals-in-Some-clause-deep g c =
+    let exit = err_from_is_err_and c.from_residual.result c.from_residual.ensures.1 in
+    rw (exit.1, exit.2) (λ stopped p s. meets c.args.start c.args.items c.loop-i.i c.in-Some.x (sym c.in-Some.ensures.event) (IsDeep p 1000)
+    (c.in_err-totals-in-Some.ensures.deep stopped p 1000000 (take c.loop-i.i (load c.args.start c.args.items)) (c.loop-i.invariant.stands_on p s)))
 
 pub returns-in_err-totals-in-Some-clause-long : goal.returns-in_err-totals-in-Some-clause-long
-returns-in_err-totals-in-Some-clause-long g c stopped p s e =
-    long_here c.args.start c.args.items c.loop-i.i c.in-Some.x (sym c.in-Some.ensures.event) g.M.Machine.seen g.M.Machine.stands c.args.session.now c.args.first c.loop-i.session c.loop-i.totals c.loop-i.invariant
-    (c.in_err-totals-in-Some.ensures.long (rw (← c.from_residual.ensures) stopped)) p s e
+returns-in_err-totals-in-Some-clause-long g c =
+    let exit = err_from_is_err_and c.from_residual.result c.from_residual.ensures.1 in
+    rw (exit.1, exit.2) (λ stopped. long_here c.args.start c.args.items c.loop-i.i c.in-Some.x (sym c.in-Some.ensures.event) g.M.Machine.seen g.M.Machine.stands c.args.session.now c.args.first c.loop-i.session c.loop-i.totals c.loop-i.invariant
+    (c.in_err-totals-in-Some.ensures.long stopped))
 
 pub loop-i-preserved : goal.loop-i-preserved
 loop-i-preserved g c =
