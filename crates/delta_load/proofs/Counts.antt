@@ -1,10 +1,9 @@
 -- What is counted of a word, and of a word with more behind it.
-use Rattle.std.proofs.Common.{◌≡◌, ℕ, ◌+◌, ◌^◌, ◌≤◌, List, [], ◌∷◌, ◌++◌, length, Option, Some, None, refl, ap, sym, ◌∙◌, arith, length-append}
+use Rattle.std.proofs.Common.{◌≡◌, ◌+◌, ◌^◌, ◌≤◌, List, [], ◌∷◌, ◌++◌, length, Option, None, refl, ap, sym, ◌∙◌, arith, length-append}
 use Rattle.std.specs.Prelude.{ℤ}
-use Rattle.event_word.specs.declared.event.Leaf.{Leaf}
 use Rattle.event_word.specs.StreamEvent.{StreamEvent}
 use Rattle.event_frame.specs.declared.version.Version.TheVariants.{V1}
-use Rattle.event_frame.specs.Frames.{header, frame, frames}
+use Rattle.event_frame.specs.Frames.{frame, frames}
 use Rattle.delta_load.specs.declared.totals.Totals.{Totals}
 use Rattle.delta_load.specs.Counting.{number_in, last_number, stream_bytes, totals_of, IsLong}
 

@@ -1,5 +1,5 @@
 -- The load's program isn't stopped on the load, and its output isn't long.
-use Rattle.std.proofs.Common.{◌≡◌, ℕ, zero, suc, ◌+◌, ◌*◌, ◌<◌, ◌≤◌, Bool, true, false, nat_lt, List, [], ◌∷◌, ◌++◌, length, inl, inr, if◌then◌else◌, refl, ap, sym, ◌∙◌, append_assoc, arith}
+use Rattle.std.proofs.Common.{◌≡◌, ℕ, zero, suc, ◌+◌, ◌*◌, ◌<◌, ◌≤◌, Bool, true, false, nat_lt, List, [], ◌∷◌, ◌++◌, length, inl, inr, if◌then◌else◌, refl, ap, sym, subst, ◌∙◌, append_assoc, arith}
 use Rattle.event_word.specs.StreamEvent.{StreamEvent}
 use Rattle.event_frame.specs.declared.version.Version.TheVariants.{V1}
 use Rattle.event_frame.specs.Frames.{frames}
@@ -14,21 +14,15 @@ use Rattle.load_program.specs.LoadOutput.{key_events, kept_from}
 use Rattle.load_program.proofs.Loads.{load_is_light, load_is_answered}
 
 pub not_costly : (c : CoreProgram) (start items : ℕ) → c ≡ load_core → items ≤ 10000000 → StopsForCalls c 1000000 (load start items) → ⊥
-not_costly c start items is few stops = at_core (subst-stops is stops)
+not_costly c start items is few stops = at_core (subst (λ (d : CoreProgram). StopsForCalls d 1000000 (load start items)) is stops)
   where
-    subst-stops : c ≡ load_core → StopsForCalls c 1000000 (load start items) → StopsForCalls load_core 1000000 (load start items)
-    subst-stops e s = rw (← e) s
-
     at_core : StopsForCalls load_core 1000000 (load start items) → ⊥
     at_core (inl first) = (let light = (load_is_light start items few).first in omega (arith, light, first))
     at_core (inr met) = (let light = (load_is_light start items few).one_more met.before met.rest met.event met.split in let why = met.why in omega (arith, light, why))
 
 pub not_deep : (c : CoreProgram) (start items : ℕ) → c ≡ load_core → items ≤ 10000000 → StopsForLevel c 1000 (load start items) → ⊥
-not_deep c start items is few stops = at_core (subst-stops is stops)
+not_deep c start items is few stops = at_core (subst (λ (d : CoreProgram). StopsForLevel d 1000 (load start items)) is stops)
   where
-    subst-stops : c ≡ load_core → StopsForLevel c 1000 (load start items) → StopsForLevel load_core 1000 (load start items)
-    subst-stops e s = rw (← e) s
-
     at_core : StopsForLevel load_core 1000 (load start items) → ⊥
     at_core (inl first) = (let flat = (load_is_light start items few).flat [] (load start items) refl in omega (arith, flat, first))
     at_core (inr met) =

@@ -1,14 +1,12 @@
-use Rattle.std.proofs.Common.{◌+◌, List, take, refl, ap, sym, subst, ◌∙◌, arith}
+use Rattle.std.proofs.Common.{List, take, refl, ap, sym, ◌∙◌, arith}
 use Rattle.std.proofs.lemmas.Result.{err_from_is_err_and}
 use Rattle.event_word.specs.StreamEvent.{StreamEvent}
 use Rattle.delta_state.specs.MachineView.{IsCostly, IsDeep}
-use Rattle.delta_session.specs.declared.session.Session.{Session}
 use Rattle.delta_output.specs.Spoken.{spoken}
 use Rattle.delta_runner.specs.CoreOneShot.{one_shot}
 use Rattle.delta_feed.specs.Load.{load}
-use Rattle.delta_load.specs.declared.totals.Totals.{Totals}
 use Rattle.delta_load.specs.Counting.{totals_of}
-use Rattle.delta_load.proofs.OnTheLoad.{Goes, goes_on, long_here, meets, open_here, admitted_here, room_here, load_whole}
+use Rattle.delta_load.proofs.OnTheLoad.{goes_on, long_here, meets, open_here, admitted_here, room_here, load_whole}
 use Rattle.delta_load.proofs.running.feed_load.Goals as goal
 use Rattle.delta_load.proofs.running.feed_load.Goals.{in-Some+in_ok-totals-in-Some, in-None}
 

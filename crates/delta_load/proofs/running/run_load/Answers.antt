@@ -1,4 +1,4 @@
-use Rattle.std.proofs.Common.{[], inr, refl, ◌∙◌}
+use Rattle.std.proofs.Common.{[], inr, refl}
 use Rattle.core_term.specs.CoreTerm.{core_of}
 use Rattle.delta_load.proofs.Lines.{if_ok}
 use Rattle.delta_load.proofs.OnTheLoad.{counted_first, long_first}

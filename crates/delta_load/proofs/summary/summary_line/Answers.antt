@@ -1,4 +1,4 @@
-use Rattle.std.proofs.Common.{◌≡◌, string_bytes, rules}
+use Rattle.std.proofs.Common.{◌≡◌, string_bytes}
 use Rattle.delta_load.specs.Summary.{line_of}
 use Rattle.delta_load.proofs.Lines.{told, if_ok}
 use Rattle.delta_load.proofs.summary.summary_line.Goals as goal

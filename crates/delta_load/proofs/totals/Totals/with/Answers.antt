@@ -1,4 +1,4 @@
-use Rattle.std.proofs.Common.{◌≡◌, ℕ, ◌+◌, ◌∙◌, ap, length, arith}
+use Rattle.std.proofs.Common.{ℕ, ◌+◌, ◌∙◌, ap, arith}
 use Rattle.event_word.specs.declared.event.Leaf.{Leaf}
 use Rattle.delta_load.specs.Counting.{number_in}
 use Rattle.delta_load.proofs.Counts.{totals-append, long_by_events, long_by_bytes}
