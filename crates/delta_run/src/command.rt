@@ -3,11 +3,12 @@
 ghost use Rattle.std.specs.Prelude.{◌≡◌, ◌≢◌, ◌⊎◌, ◌<◌, ◌≤◌, ◌^◌, [], List, ℕ, Some, None, true, length};
 ghost use Rattle.delta_end.specs.declared.end.End.{End};
 ghost use Rattle.delta_words.specs.declared.task.Version.{Version as WrittenVersion};
-ghost use Rattle.delta_words.specs.CommandTask.{run, eval, check, print, text, frames};
+ghost use Rattle.delta_words.specs.CommandTask.{run, eval, check, print, text, frames, gen};
 ghost use Rattle.delta_text.specs.Conversion.{frames_of_lines, Ran as Converted};
 ghost use Rattle.delta_text.specs.Lines.{lines_of_frames};
 ghost use Rattle.delta_loop.specs.Loop.{Ran as Lined};
 ghost use Rattle.delta_run.specs.Printed.{PrintedText};
+ghost use Rattle.delta_run.specs.Generated.{GeneratedLine};
 ghost use Rattle.delta_run.specs.Checked.{ChecksText};
 ghost use Rattle.delta_run.specs.Evaluated.{EvaluatedText};
 ghost use Rattle.delta_run.specs.CommandLine.{Asks, AskNothing, frames_of};
@@ -16,6 +17,7 @@ ghost use Rattle.delta_loop.specs.Answer.{Adds, ReadsWell};
 ghost use Rattle.delta_loop.specs.History.{IsUntouched};
 ghost use Rattle.delta_run.specs.Text.{OfFile, RanText};
 
+use command_gen::gen_load;
 use delta_end::End;
 use delta_eval::eval_source;
 use delta_source::{check_source, print_source};
@@ -144,6 +146,8 @@ pub fn run_command<M: Machine, S: Shelf, L: Link>(
     ensures checking { (file : List ℕ) → Asks words.now (check file) → IsUntouched (L.log link.old) (L.log link.new) (L.left link.old) (L.left link.new) }
     ensures evaluated { (file : List ℕ) (budget : ℕ) (v : WrittenVersion) → Asks words.now (eval file budget v)
         → OfFile (S.holds shelf.old) file (λ text. EvaluatedText text budget (frames_of v) (L.log link.old) (L.log link.new) (L.left link.old) (L.left link.new) result) }
+    ensures generated { (start items : ℕ) → Asks words.now (gen start items) → GeneratedLine start items (L.log link.old) (L.log link.new) result }
+    ensures generating { (start items : ℕ) → Asks words.now (gen start items) → L.left link.new ≡ L.left link.old }
     ensures held { S.holds shelf.new ≡ S.holds shelf.old }
     ensures file { FileCause result (S.faults shelf.old) (S.faults shelf.new) }
     ensures read { ReadCause result (L.read_faults link.old) (L.read_faults link.new) }
@@ -160,7 +164,7 @@ pub fn run_command<M: Machine, S: Shelf, L: Link>(
         Ok(Task::Eval(file, budget, version)) => {
             eval_file(alloc, &file, budget, frame_version(version), shelf, link)
         }
-        Ok(Task::Gen(..)) => End::Usage,
+        Ok(Task::Gen(start, items)) => gen_load::<M, L>(alloc, start, items, link),
         Err(WordsFault::Usage) => End::Usage,
         Err(WordsFault::Memory) => End::Memory,
     }

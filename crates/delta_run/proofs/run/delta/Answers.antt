@@ -6,6 +6,7 @@ use Rattle.delta_run.proofs.SettledTexts.{text_settled}
 use Rattle.delta_run.proofs.Conversions.{by_either, either_well}
 use Rattle.delta_run.proofs.Lined.{lined, lines_well}
 use Rattle.delta_run.proofs.Printed.{prints_text, printed_well, refused_well}
+use Rattle.delta_run.proofs.Generated.{generates, generates_well}
 use Rattle.delta_run.proofs.Checked.{passes_accepted, refuses_unaccepted}
 use Rattle.delta_run.proofs.Evaluated.{evals_text, evals_well, stops_well, refuses_unwritable}
 use Rattle.delta_run.proofs.Owing.{owes_by}
@@ -75,6 +76,13 @@ returns-clause-owed g c = (
         refused = λ files tells file_still write note.
             refused_well _ _ _ _ _ _ _ _ _ file_still write note _ _ c.note-said.ensures.cause c.run_command-end.result (c.run_command-end.ensures.printed file is files tells)
             c.run_command-end.ensures.file c.run_command-end.ensures.write c.answer.ensures;
+      })
+      (λ start items is. record {
+        unread = c.run_command-end.ensures.generating start items is;
+        ends = generates start items _ _ c.run_command-end.result (c.run_command-end.ensures.generated start items is);
+        complete = λ write note.
+            generates_well start items _ _ _ _ _ _ write note _ _ c.note-said.ensures.cause c.run_command-end.result (c.run_command-end.ensures.generated start items is)
+            c.run_command-end.ensures.write c.answer.ensures;
       })
       (λ is. record {
         ends = lined _ _ _ _ c.run_command-end.result (c.run_command-end.ensures.lined is);
