@@ -21,18 +21,18 @@ use Rattle.delta_print.specs.Canonical.{canonical_text}
 use Rattle.delta_source.specs.Printing.{Prints}
 use Rattle.delta_run.specs.Printed.{PrintedText, WritesText, PrintsText, PrintsWell, RefusesWell}
 
+-- what is only written reads nothing
+pub written_reads : (old new : Option (List Move)) (end : End) (sent : List ℕ) → Writes old new sent → Adds old new (ReadsWell end)
+written_reads old new end sent writes told is =
+    let h = writes (λ bytes. []) old [] [] false (fresh (λ bytes. []) old) in
+    (h.moves, h.logged told is, reads_well (λ bytes. []) old new [] sent false end h (within_limit end 0 (omega arith)))
+
 module _ (text : List ℕ) (old new : Option (List Move)) where
   -- the moves of what was written
   written : (end : End) (sent : List ℕ) → Writes old new sent → Prints text sent end → Adds old new (WritesText text end)
   written end sent writes prints told is =
       let h = writes (λ bytes. []) old [] [] false (fresh (λ bytes. []) old) in
       (h.moves, h.logged told is, record { unread = h.read; no_end = h.at_end; prints = subst (λ (bs : List ℕ). Prints text bs end) (sym h.written) prints })
-
-  -- nothing is read
-  pub written_reads : (end : End) (sent : List ℕ) → Writes old new sent → Adds old new (ReadsWell end)
-  written_reads end sent writes told is =
-      let h = writes (λ bytes. []) old [] [] false (fresh (λ bytes. []) old) in
-      (h.moves, h.logged told is, reads_well (λ bytes. []) old new [] sent false end h (within_limit end 0 (omega arith)))
 
   pub prints_text : (end : End) → PrintedText text old new end → Adds old new (PrintsText text end)
   prints_text FileFailed same = adds_none old new (PrintsText text FileFailed) same refl
