@@ -1,6 +1,6 @@
 -- The text of the load's program is the text of its tree.
-use Rattle.std.proofs.Common.{◌≡◌, ℕ, zero, suc, ◌+◌, ◌<◌, ◌≤◌, Bool, true, false, ◌&&◌, not, nat_lt, nat_le, List, [], ◌∷◌, length, get_or, refl, ap, sym, ◌∙◌, arith}
-use Rattle.std.specs.Str.{chars, IsAscii}
+use Rattle.std.proofs.Common.{◌≡◌, ℕ, zero, suc, ◌<◌, Bool, true, false, ◌&&◌, not, nat_lt, nat_le, [], ◌∷◌, length, get_or, refl, ap, sym, ◌∙◌, arith}
+use Rattle.std.specs.Str.{IsAscii}
 use Rattle.std.proofs.lemmas.Bool.{leb-true, ltb-true, ltb-false}
 use Rattle.std.proofs.lemmas.Str.{chars-IsAscii, IsUtf8-from_ascii}
 use Rattle.std.proofs.lemmas.Str.Ascii.{IsAscii-from_reads}
@@ -9,15 +9,13 @@ use Rattle.delta_lex.specs.Tokens.{HasTokens, reading}
 use Rattle.delta_tree.specs.SyntaxTree.{function_declared}
 use Rattle.delta_parse.specs.Parts.{a_program, delta}
 use Rattle.delta_parse.specs.Tables.{delta_grammar}
-use Rattle.delta_parse.specs.Plain.{grammar_tokens}
-use Rattle.delta_parse.specs.Programs.{IsProgram, IsTreeOf, tree_with}
+use Rattle.delta_parse.specs.Programs.{IsProgram, IsTreeOf}
 use Rattle.delta_parse.specs.Marks.{marks_before, IsShallow}
 use Rattle.delta_parse.specs.Bindings.{is_twice, is_many, AreNamed}
-use Rattle.delta_parse.specs.Causes.{Belongs}
 use Rattle.delta_parse.proofs.Samples.{delta_checked}
 use Rattle.delta_front.specs.ProgramText.{IsTextOf}
 use Rattle.load_program.specs.LoadText.{load_text, load_tree, over_written}
-use Rattle.load_program.proofs.Tokens.{load_tokens, load_plain, tokens_read, plain_is, names_are}
+use Rattle.load_program.proofs.Tokens.{load_tokens, load_plain, tokens_read, plain_is}
 use Rattle.load_program.proofs.Trees.{main_found, tree_read}
 
 -- whether each number below this one passes a test

@@ -4,10 +4,8 @@ use Rattle.std.specs.List.{list_all}
 use Rattle.std.specs.Fmt.{digits}
 use Rattle.std.proofs.lemmas.Bool.{ltb-true}
 use Rattle.std.proofs.lemmas.List.Elements.{All-nil, All-cons}
-use Rattle.stream_type.specs.StreamType.{int, star}
 use Rattle.bunch.specs.Names.{holds}
 use Rattle.hist_value.specs.Typing.{gives_variable, gives_literal, gives_reckoned}
-use Rattle.core_term.specs.CoreTerm.{fun_at}
 use Rattle.core_term.specs.FreeNames.{IsBoundOnce, IsCore}
 use Rattle.core_term.specs.Typing.{IsTypedBody, IsTypedCore}
 use Rattle.core_term.proofs.Sides.{all-holds}

@@ -1,6 +1,6 @@
 -- The calls that the load's function makes on each front of the load, and their level.
-use Rattle.std.proofs.Common.{◌≡◌, ℕ, zero, suc, ◌+◌, ◌<◌, ◌≤◌, nat_lt, take, refl, ap, sym, subst, arith}
-use Rattle.stream_prefix.specs.StreamPrefix.{StreamPrefix, star_emp, star_first}
+use Rattle.std.proofs.Common.{◌≡◌, ℕ, zero, suc, ◌+◌, ◌<◌, ◌≤◌, take, ap, sym, subst, arith}
+use Rattle.stream_prefix.specs.StreamPrefix.{star_emp, star_first}
 use Rattle.event_word.specs.Word.{pre}
 use Rattle.core_term.specs.Meaning.{call_at}
 use Rattle.core_term.specs.Run.{Run}

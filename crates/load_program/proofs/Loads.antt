@@ -1,5 +1,5 @@
 -- The load's program on the load.
-use Rattle.std.proofs.Common.{◌≡◌, ℕ, zero, suc, pred, max, ◌+◌, ◌<◌, ◌≤◌, ◌^◌, List, [], ◌∷◌, ◌++◌, length, take, refl, ap, sym, subst, ◌∙◌, append_assoc, append-nil, arith}
+use Rattle.std.proofs.Common.{◌≡◌, ℕ, zero, suc, pred, max, ◌+◌, ◌<◌, ◌≤◌, List, [], ◌∷◌, ◌++◌, length, take, refl, ap, sym, subst, ◌∙◌, append_assoc, append-nil, arith}
 use Rattle.std.proofs.Math.Seq.{take-append_seam, take-append-add}
 use Rattle.stream_prefix.specs.StreamPrefix.{StreamPrefix}
 use Rattle.stream_prefix.specs.Increment.{increment}
@@ -8,16 +8,15 @@ use Rattle.event_word.specs.Word.{pre}
 use Rattle.event_word.specs.Canon.{canon}
 use Rattle.core_term.specs.Meaning.{horizon, mean, calls_of, level_of}
 use Rattle.delta_state.specs.MachineView.{input_of}
-use Rattle.delta_output.specs.OneShot.{OneShot, said, said_to}
-use Rattle.delta_output.specs.Spoken.{spoken, spoken_after}
+use Rattle.delta_output.specs.OneShot.{OneShot, said}
+use Rattle.delta_output.specs.Spoken.{spoken_after}
 use Rattle.delta_runner.specs.CoreOneShot.{one_shot}
 use Rattle.delta_feed.specs.Load.{load_type, load}
 use Rattle.load_program.specs.LoadCore.{load_core}
-use Rattle.load_program.specs.LoadOutput.{kept_from}
-use Rattle.load_program.specs.Laws.{IsLight, LoadIsLight, LoadIsAnswered, CoreFitsLoad}
+use Rattle.load_program.specs.Laws.{LoadIsLight, LoadIsAnswered, CoreFitsLoad}
 use Rattle.load_program.proofs.Runs.{over_run, nothing_out, nothing_calls}
-use Rattle.load_program.proofs.Fronts.{front_run, one_more, flat}
-use Rattle.load_program.proofs.Spoken.{along, along_same, over_said, along_load}
+use Rattle.load_program.proofs.Fronts.{one_more, flat}
+use Rattle.load_program.proofs.Spoken.{along, along_same, along_load}
 
 pub fits_load : CoreFitsLoad
 fits_load = record { input = refl; fits = refl }

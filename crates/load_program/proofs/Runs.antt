@@ -1,12 +1,10 @@
 -- What a call of the load's function gives on each front of the load, and how many calls it makes.
-use Rattle.std.proofs.Common.{◌≡◌, ℕ, zero, suc, ◌+◌, ◌<◌, ◌≤◌, Bool, true, false, nat_lt, List, [], ◌∷◌, ◌++◌, take, refl, arith}
+use Rattle.std.proofs.Common.{◌≡◌, ℕ, zero, suc, ◌+◌, ◌≤◌, Bool, true, false, nat_lt, [], ◌∷◌, refl, arith}
 use Rattle.std.specs.Prelude.{pos}
 use Rattle.stream_prefix.specs.StreamPrefix.{StreamPrefix, int_emp, int_full, cat_fst, cat_both, star_emp, star_done, star_first, star_rest}
-use Rattle.event_word.specs.Word.{pre}
 use Rattle.core_term.specs.CoreTerm.{fun_at}
 use Rattle.core_term.specs.Meaning.{call_at}
 use Rattle.core_term.specs.Run.{Run}
-use Rattle.delta_feed.specs.Load.{load_type, value_of, item_events, load_from}
 use Rattle.load_program.specs.LoadCore.{load_core}
 
 -- the run of a call with this depth

@@ -58,11 +58,11 @@ along_events k a n word b h =
     let value = value_out k a n b h in
     let whole = ap (λ (r : Run). r.out) (sym (pair_before k a n)) ∙ value in
     λ i. canon (increment (nothing_out (suc k) i) (item_out k i))
-        ++ (canon (increment (item_out k i) (key_out k a i))
-        ++ (canon (increment (key_out k a i) (cut_out k a i))
-        ++ (((λ j. canon (increment (cut_out k a j) (value j))) ∙ value_said a b) i
-        ++ (((λ j. canon (increment (value j) (whole j))) ∙ mark_said a b) i
-        ++ along (λ v. over_said (suc k) (item_events a n ++ v)) word))))
+    ++ (canon (increment (item_out k i) (key_out k a i))
+    ++ (canon (increment (key_out k a i) (cut_out k a i))
+    ++ (((λ j. canon (increment (cut_out k a j) (value j))) ∙ value_said a b) i
+    ++ (((λ j. canon (increment (value j) (whole j))) ∙ mark_said a b) i
+    ++ along (λ v. over_said (suc k) (item_events a n ++ v)) word))))
 
 pub along_load : (k start key items : ℕ) → items < k → along (over_said k) (load_from start key items) ≡ kept_from start key items
 along_load zero start key items h = absurd (omega (arith, h))

@@ -18,7 +18,8 @@ use std::alloc::Global;
 use stream_type::Memory;
 
 /// The text of the load's program, which is its canonical one.
-pub const LOAD_TEXT: &[u8] = b"fun over (xs : (Int . Int)*) : Int* = case xs of { nil => nil | y :: ys => let (k; v) = y in wait k in wait v in if 500 < v then { k } :: over (ys) else over (ys) }\nmain (xs : (Int . Int)*) : Int* = over (xs)\n";
+pub const LOAD_TEXT: &[u8] =
+    b"fun over (xs : (Int . Int)*) : Int* = case xs of { nil => nil | y :: ys => let (k; v) = y in wait k in wait v in if 500 < v then { k } :: over (ys) else over (ys) }\nmain (xs : (Int . Int)*) : Int* = over (xs)\n";
 
 // What the program, of which this is the checked core, puts out on the load, counted.
 fn count_checked<M: Machine>(
