@@ -1,5 +1,5 @@
 -- From a run that gathers an input to the evaluation of it.
-use Rattle.std.proofs.Common.{◌≡◌, ◌∙◌, ◌⊎◌, inl, inr, ℕ, ◌<◌, ◌≤◌, List, [], ◌∷◌, ◌++◌, Bool, true, false, Option, Some, None, Result, Ok, Err, take, ◌^◌, refl, sym, ap, subst, arith, append-nil}
+use Rattle.std.proofs.Common.{◌≡◌, ◌∙◌, ◌⊎◌, inl, inr, ℕ, ◌<◌, ◌≤◌, List, [], ◌∷◌, ◌++◌, Bool, true, false, Option, Some, None, Result, Ok, Err, length, take, ◌^◌, refl, sym, ap, subst, arith, append-nil}
 use Rattle.std.specs.Prelude.{IfErr}
 use Rattle.stream_type.specs.StreamType.{StreamType, null_of}
 use Rattle.stream_prefix.specs.StreamPrefix.{StreamPrefix, IsPrefix}
@@ -27,10 +27,11 @@ use Rattle.delta_end.specs.declared.end.End.{End}
 use Rattle.delta_end.specs.declared.end.End.TheVariants.{Done, Usage, Refused, Input, Budget, Deep, Open, FileFailed, ReadFailed, WriteFailed, Memory, Long}
 use Rattle.delta_loop.specs.Output.{due, accepted}
 use Rattle.delta_loop.specs.History.{History, Writes}
-use Rattle.delta_loop.specs.Return.{Begins}
+use Rattle.delta_loop.specs.Return.{Begins, IsWithinLimit}
 use Rattle.delta_loop.specs.Loop.{Ran, RanTo}
 use Rattle.delta_loop.proofs.Opening.{fresh}
 use Rattle.delta_loop.proofs.Lefts.{loses_nothing}
+use Rattle.delta_loop.proofs.Limits.{within_limit, within_other}
 use Rattle.delta_eval.specs.Gathering.{gathering, Gathers}
 use Rattle.delta_eval.specs.Evaluating.{input_of, meaning, calls_on, evaluation, left, ends_well, end_of, IsWhole, MayEnd, Evaluates}
 use Rattle.delta_eval.specs.declared.gathering.Gathering.{Gathering}
@@ -65,7 +66,7 @@ wanting_first p budget v log l = record {
   written = [];
   history = fresh (λ bytes. []) log;
   may = inl refl;
-  limit = omega arith;
+  limit = within_limit Memory 0 (omega arith);
   taken = loses_nothing l l refl;
   used_up = λ never. cc;
 }
@@ -86,17 +87,19 @@ module _ (p : ProgramTree) (budget : ℕ) (v : Version) (old mid : Option (List 
     written = h.written;
     at_end = h.at_end;
     prompt = λ before after bytes split. h.prompt before after bytes split ∙ due_none s (bytes_read before);
+    last = h.last;
   }
 
   -- a run that ended so ends the evaluation so, if it may
-  as_evaluation : (end other : End) (ran : Ran (gathering s) old mid left0 left1 end) → MayEnd p budget v ran.input ran.ended ran.at.written other → Evaluates p budget v old mid left0 left1 other
-  as_evaluation end other ran may = record {
+  as_evaluation : (end other : End) (ran : Ran (gathering s) old mid left0 left1 end) → IsWithinLimit other (length ran.input) → MayEnd p budget v ran.input ran.ended ran.at.written other
+      → Evaluates p budget v old mid left0 left1 other
+  as_evaluation end other ran limit may = record {
     input = ran.input;
     ended = ran.ended;
     written = ran.at.written;
     history = late old mid ran.input ran.at.written ran.ended ran.at.history;
     may = may;
-    limit = ran.limit;
+    limit = limit;
     taken = ran.taken;
     used_up = ran.used_up;
   }
@@ -108,11 +111,11 @@ module _ (p : ProgramTree) (budget : ℕ) (v : Version) (old mid : Option (List 
   pub ends_unwell : (end : End) → ends_well end ≡ false → (m : Gathering) → RanTo Gathers (gathering s) old mid left0 left1 m end → Evaluates p budget v old mid left0 left1 end
   ends_unwell Done unwell m to = absurd (let none : ⊥ = cc unwell in none)
   ends_unwell Open unwell m to = absurd (let none : ⊥ = cc unwell in none)
-  ends_unwell (Input fault) unwell m to = as_evaluation (Input fault) (Input fault) to.ran (to.ran.at.may.0, nothing_written to.ran.input to.ran.at.written to.ran.at.may.1)
-  ends_unwell ReadFailed unwell m to = as_evaluation ReadFailed ReadFailed to.ran (nothing_written to.ran.input to.ran.at.written to.ran.at.may)
-  ends_unwell WriteFailed unwell m to = as_evaluation WriteFailed WriteFailed to.ran (inl (begins_nothing to.ran.input to.ran.at.written to.ran.at.may))
-  ends_unwell Memory unwell m to = as_evaluation Memory Memory to.ran (inl (begins_nothing to.ran.input to.ran.at.written to.ran.at.may))
-  ends_unwell Long unwell m to = as_evaluation Long Long to.ran (to.ran.at.may.0, to.ran.at.may.1, to.ran.at.may.2 ∙ due_none s (take (2 ^ 40) to.ran.input))
+  ends_unwell (Input fault) unwell m to = as_evaluation (Input fault) (Input fault) to.ran to.ran.limit (to.ran.at.may.0, nothing_written to.ran.input to.ran.at.written to.ran.at.may.1)
+  ends_unwell ReadFailed unwell m to = as_evaluation ReadFailed ReadFailed to.ran to.ran.limit (to.ran.at.may.0, nothing_written to.ran.input to.ran.at.written to.ran.at.may.1)
+  ends_unwell WriteFailed unwell m to = as_evaluation WriteFailed WriteFailed to.ran to.ran.limit (inl (begins_nothing to.ran.input to.ran.at.written to.ran.at.may))
+  ends_unwell Memory unwell m to = as_evaluation Memory Memory to.ran to.ran.limit (inl (begins_nothing to.ran.input to.ran.at.written to.ran.at.may))
+  ends_unwell Long unwell m to = as_evaluation Long Long to.ran to.ran.limit (to.ran.at.may.0, to.ran.at.may.1, to.ran.at.may.2 ∙ due_none s (take (2 ^ 40) to.ran.input))
   ends_unwell Usage unwell m to = absurd to.ran.at.may
   ends_unwell (Refused why) unwell m to = absurd to.ran.at.may
   ends_unwell (Budget at) unwell m to = absurd (no_costly (gathering s) (makes_no_calls s) to.ran.input to.ran.at.written at to.ran.at.may)
@@ -178,13 +181,17 @@ module _ (p : ProgramTree) (budget : ℕ) (v : Version) (old mid : Option (List 
     pub gathered_word : IsWord s m.word.items
     gathered_word = subst (IsWord s) (sym the_word) (is_word s to.ran.input to.ran.ended (well_of end well to.ran).at_end.sound)
 
+    -- the input isn't too long, so the evaluation may end in another way
+    ends_so : (other : End) → IsWithinLimit other (length to.ran.input)
+    ends_so other = within_other end other (length to.ran.input) to.ran.limit (λ is. let clash : false ≡ true = ap ends_well (sym is) ∙ well in cc)
+
     -- the meaning makes too many calls
     spends : budget < calls_on p m.word.items → Evaluates p budget v old mid left0 left1 (Budget 0)
-    spends more = as_evaluation end (Budget 0) to.ran ((well_of end well to.ran).at_end, subst (λ (w : List StreamEvent). budget < calls_on p w) the_word more, (well_of end well to.ran).nothing, refl)
+    spends more = as_evaluation end (Budget 0) to.ran (ends_so (Budget 0)) ((well_of end well to.ran).at_end, subst (λ (w : List StreamEvent). budget < calls_on p w) the_word more, (well_of end well to.ran).nothing, refl)
 
     -- memory ran out before anything was written
     wants : Evaluates p budget v old mid left0 left1 Memory
-    wants = as_evaluation end Memory to.ran (inl (well_of end well to.ran).nothing)
+    wants = as_evaluation end Memory to.ran (ends_so Memory) (inl (well_of end well to.ran).nothing)
 
     -- the meaning was refused
     pub refuses : (f : EvalRefusal) → ((n : ℕ) → f ≡ Budgeted n → budget < calls_on p m.word.items) → Evaluates p budget v old mid left0 left1 (end_of f)
@@ -210,7 +217,7 @@ module _ (p : ProgramTree) (budget : ℕ) (v : Version) (old mid : Option (List 
             written = sent;
             history = subst (λ (bs : List ℕ). History (λ bytes. []) old new to.ran.input (bs ++ sent) to.ran.ended) none (writes (λ bytes. []) old to.ran.input to.ran.at.written to.ran.ended before);
             may = may;
-            limit = to.ran.limit;
+            limit = ends_so other;
             taken = subst (λ (l : Option (List ℕ)). Loses left0 l to.ran.input) (sym same) to.ran.taken;
             used_up = to.ran.used_up;
           }

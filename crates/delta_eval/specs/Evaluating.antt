@@ -1,5 +1,5 @@
 -- What an evaluation of a text does to a link, by how it ended.
-use Rattle.std.specs.Prelude.{◌≡◌, ◌⊎◌, ℕ, ◌+◌, ◌<◌, ◌≤◌, ◌^◌, List, [], ◌++◌, Bool, true, false, Option, Some, None, length, take}
+use Rattle.std.specs.Prelude.{◌≡◌, ◌⊎◌, ℕ, ◌<◌, ◌≤◌, ◌^◌, List, [], ◌++◌, Bool, true, false, Option, Some, None, length, take}
 use Rattle.stream_type.specs.StreamType.{StreamType, null_of}
 use Rattle.stream_prefix.specs.StreamPrefix.{StreamPrefix}
 use Rattle.bunch.specs.BunchTree.{as_type}
@@ -21,7 +21,7 @@ use Rattle.delta_end.specs.declared.end.End.{End}
 use Rattle.delta_end.specs.declared.end.End.TheVariants.{Done, Usage, Refused, Input, Budget, Deep, Open, FileFailed, ReadFailed, WriteFailed, Memory, Long}
 use Rattle.delta_loop.specs.Finding.{finding}
 use Rattle.delta_loop.specs.History.{History, IsUntouched}
-use Rattle.delta_loop.specs.Return.{Begins}
+use Rattle.delta_loop.specs.Return.{Begins, IsWithinLimit}
 use Rattle.delta_accept.specs.Acceptance.{IsWritable, IsRefusedToWrite}
 use Rattle.delta_eval.specs.Gathering.{gathering}
 
@@ -66,7 +66,7 @@ MayEnd p budget v input ended written Open = IsWithinBudget p budget input ended
 MayEnd p budget v input ended written (Input fault) = (finding (gathering (input_of p)) input ended ≡ Some fault) × (written ≡ [])
 MayEnd p budget v input ended written (Budget at) = IsWhole p input ended × (budget < calls_on p (whole input)) × (written ≡ []) × (at ≡ 0)
 MayEnd p budget v input ended written (Deep at) = ⊥
-MayEnd p budget v input ended written ReadFailed = written ≡ []
+MayEnd p budget v input ended written ReadFailed = (finding (gathering (input_of p)) input ended ≡ None) × (written ≡ [])
 MayEnd p budget v input ended written WriteFailed = WritesFront p budget v input ended written
 MayEnd p budget v input ended written Memory = WritesFront p budget v input ended written
 MayEnd p budget v input ended written Long = (2 ^ 40 < length input) × (finding (gathering (input_of p)) (take (2 ^ 40) input) false ≡ None) × (written ≡ [])
@@ -81,7 +81,7 @@ pub record Evaluates (p : ProgramTree) (budget : ℕ) (v : Version) (start now :
   pub written : List ℕ
   pub history : History (λ bytes. []) start now input written ended
   pub may : MayEnd p budget v input ended written end
-  pub limit : length input ≤ 2 ^ 40 + 1
+  pub limit : IsWithinLimit end (length input)
   pub taken : Loses old_left new_left input
   pub used_up : ended ≡ true → (told : List ℕ) → old_left ≡ Some told → told ≡ input
 

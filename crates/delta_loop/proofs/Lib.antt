@@ -1,6 +1,7 @@
 -- Lemmas, each file named for what it is about.
 pub mod Logs
 pub mod Lefts
+pub mod Limits
 pub mod Outputs
 pub mod Findings
 pub mod Early

@@ -1,12 +1,12 @@
--- A log with one move more: what was read and written, and whether it is prompt.
-use Rattle.std.proofs.Common.{◌≡◌, ℕ, List, [], ◌∷◌, ◌++◌, false, Option, ◌∙◌, ap, sym, refl, subst, append_assoc, append-nil}
+-- A log with one move more: what was read and written, whether it is prompt, and whether it reads after the end.
+use Rattle.std.proofs.Common.{◌≡◌, ℕ, List, [], ◌∷◌, ◌++◌, true, false, Option, ◌∙◌, ap, sym, refl, subst, append_assoc, append-nil}
 use Rattle.std.proofs.lemmas.List.{same_from_push}
 use Rattle.port.specs.declared.link.Move.{Move}
 use Rattle.port.specs.declared.link.Move.TheVariants.{In, Out}
 use Rattle.port.specs.Moves.{bytes_read, bytes_written}
 use Rattle.port.specs.Told.{Grows}
 use Rattle.delta_end.proofs.Growing.{grows_more}
-use Rattle.delta_loop.specs.Prompt.{has_ended, IsPrompt}
+use Rattle.delta_loop.specs.Prompt.{has_ended, has_read, IsPrompt, EndsReading}
 use Rattle.delta_loop.specs.History.{History, Writes, is_empty}
 
 pub read-append : (moves more : List Move) → bytes_read (moves ++ more) ≡ bytes_read moves ++ bytes_read more
@@ -34,6 +34,29 @@ ended-append_out (Out bytes ∷ moves) piece = ended-append_out moves piece
 ended_one : (bytes : List ℕ) → has_ended (In bytes ∷ []) ≡ is_empty bytes
 ended_one [] = refl
 ended_one (b ∷ bytes) = refl
+
+-- a write is no read
+no_read-append_out : (moves : List Move) (piece : List ℕ) → has_read moves ≡ false → has_read (moves ++ Out piece ∷ []) ≡ false
+no_read-append_out [] piece none = refl
+no_read-append_out (In bytes ∷ moves) piece none = cc
+no_read-append_out (Out bytes ∷ moves) piece none = no_read-append_out moves piece none
+
+last-append_out : (moves : List Move) (piece : List ℕ) → EndsReading moves → EndsReading (moves ++ Out piece ∷ [])
+last-append_out [] piece last = tt
+last-append_out (In [] ∷ moves) piece last = no_read-append_out moves piece last
+last-append_out (In (b ∷ bytes) ∷ moves) piece last = last-append_out moves piece last
+last-append_out (Out bytes ∷ moves) piece last = last-append_out moves piece last
+
+-- a read where the input hasn't ended comes after none that gave no byte
+last_one : (bytes : List ℕ) → EndsReading (In bytes ∷ [])
+last_one [] = refl
+last_one (b ∷ bytes) = tt
+
+last-append : (moves : List Move) (bytes : List ℕ) → has_ended moves ≡ false → EndsReading (moves ++ In bytes ∷ [])
+last-append [] bytes goes_on = last_one bytes
+last-append (In [] ∷ moves) bytes goes_on = absurd (let clash : true ≡ false = goes_on in cc)
+last-append (In (b ∷ piece) ∷ moves) bytes goes_on = last-append moves bytes goes_on
+last-append (Out piece ∷ moves) bytes goes_on = last-append moves bytes goes_on
 
 -- a list is empty or ends in an element
 data Ends {A : Type 0} : List A → Type 0 where
@@ -70,6 +93,7 @@ writes_nothing log due start input output ended h = record {
   written = h.written ∙ sym (append-nil output);
   at_end = h.at_end;
   prompt = h.prompt;
+  last = h.last;
 }
 
 pub writes_same : (old new : Option (List Move)) → new ≡ old → Writes old new []
@@ -85,6 +109,7 @@ writes_more first old new sent piece so_far grows due start input output ended h
       written = written-append h.moves (Out piece ∷ []) ∙ ap (λ (bs : List ℕ). bytes_written h.moves ++ bs) (append-nil piece) ∙ ap (λ (bs : List ℕ). bs ++ piece) h.written ∙ append_assoc output sent piece;
       at_end = ended-append_out h.moves piece ∙ h.at_end;
       prompt = prompt_more due h.moves (Out piece) h.prompt (λ bytes is. absurd (let no : ⊥ = cc in no));
+      last = last-append_out h.moves piece h.last;
     }
 
 -- a read, once what is due was written
@@ -97,4 +122,5 @@ read_more due start old new input output bytes h met grows = record {
   written = written-append h.moves (In bytes ∷ []) ∙ append-nil (bytes_written h.moves) ∙ h.written;
   at_end = ended-append h.moves (In bytes ∷ []) h.at_end ∙ ended_one bytes;
   prompt = prompt_more due h.moves (In bytes) h.prompt (λ piece is. h.written ∙ met ∙ ap due (sym h.read));
+  last = last-append h.moves bytes h.at_end;
 }

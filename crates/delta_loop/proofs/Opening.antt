@@ -15,6 +15,7 @@ use Rattle.delta_loop.specs.Return.{Begins}
 use Rattle.delta_loop.specs.Loop.{Serves, RanTo, IsFresh}
 use Rattle.delta_loop.proofs.Early.{ran_early}
 use Rattle.delta_loop.proofs.Lefts.{loses_nothing}
+use Rattle.delta_loop.proofs.Limits.{within_limit}
 
 -- two pieces written one after the other
 pub writes-append : (first mid last : Option (List Move)) (sent more : List ℕ) → Writes first mid sent → Writes mid last more → Writes first last (sent ++ more)
@@ -31,7 +32,7 @@ prompt_none due before after bytes split = absurd (no_read before after bytes sp
 
 -- a log that nothing was added to
 pub fresh : (due : List ℕ → List ℕ) (log : Option (List Move)) → History due log log [] [] false
-fresh due log = record { moves = []; logged = λ told is. is ∙ ap Some (sym (append-nil told)); read = refl; written = refl; at_end = refl; prompt = prompt_none due }
+fresh due log = record { moves = []; logged = λ told is. is ∙ ap Some (sym (append-nil told)); read = refl; written = refl; at_end = refl; prompt = prompt_none due; last = tt }
 
 module _ {M : Type 0} (stands : M → Meaning → List StreamEvent → Type 0) (P : Meaning) (old new : Option (List Move)) (m : M) (v : Option Version) (first sent rest : List ℕ) (begun : HasBegun stands P m v first) (split : opening v ++ first ≡ sent ++ rest) (writes : Writes old new sent) where
   -- the header and all that comes first were written
@@ -52,7 +53,7 @@ module _ {M : Type 0} (stands : M → Meaning → List StreamEvent → Type 0) (
     input = [];
     ended = false;
     at = record { written = sent; history = writes (due P) old [] [] false (fresh (due P) old); may = part_opened };
-    limit = omega arith;
+    limit = within_limit WriteFailed 0 (omega arith);
     taken = loses_nothing left0 left1 same;
     used_up = λ never. cc;
   } refl
@@ -63,7 +64,7 @@ module _ {M : Type 0} (stands : M → Meaning → List StreamEvent → Type 0) (
     input = [];
     ended = false;
     at = record { written = sent; history = writes (due P) old [] [] false (fresh (due P) old); may = part_opened };
-    limit = omega arith;
+    limit = within_limit Memory 0 (omega arith);
     taken = loses_nothing left0 left1 same;
     used_up = λ never. cc;
   } refl
@@ -74,7 +75,7 @@ ran_nothing stands P log left m = ran_early stands P log log left left m Memory 
   input = [];
   ended = false;
   at = record { written = []; history = fresh (due P) log; may = (due P [], refl) };
-  limit = omega arith;
+  limit = within_limit Memory 0 (omega arith);
   taken = loses_nothing left left refl;
   used_up = λ never. cc;
 } refl

@@ -21,6 +21,7 @@ use Rattle.delta_loop.specs.Loop.{Serves, Feeds, Settles, Goes, Pulls, PullEnds,
 use Rattle.delta_loop.proofs.Early.{ran_early}
 use Rattle.delta_loop.proofs.Findings.{due_all, finding_all}
 use Rattle.delta_loop.proofs.Lefts.{loses_more, read_all, loses_nothing}
+use Rattle.delta_loop.proofs.Limits.{within_limit}
 
 not_empty : (xs : List ℕ) → 0 < length xs → is_empty xs ≡ false
 not_empty [] some = absurd (let no_byte : ⊥ = omega arith in no_byte)
@@ -111,7 +112,7 @@ module _ {M : Type 0} (stands : M → Meaning → List StreamEvent → Type 0) (
     input = now.input ++ bytes;
     ended = false;
     at = at;
-    limit = omega (arith, now.count, within, length-append now.input bytes);
+    limit = within_limit end (length (now.input ++ bytes)) (omega (arith, now.count, within, length-append now.input bytes));
     taken = subst (λ (l : Option (List ℕ)). Loses left l (now.input ++ bytes)) (sym same) (loses_more left left0 left1 now.input bytes now.taken pulls.taken);
     used_up = λ never. cc;
   } refl
@@ -131,7 +132,7 @@ module _ {M : Type 0} (stands : M → Meaning → List StreamEvent → Type 0) (
           history = subst (λ (bs : List ℕ). History (due P) start log1 bs (output P now.settles.word) true) same (pulls.history (due P) start now.input (output P now.settles.word) now.settles.serves.history met);
           may = finished now.input now.settles.word now.settles.serves.accepts now.settles.serves.state reads now.settles.all now.settles.sound;
         };
-        limit = omega (arith, now.count, within);
+        limit = within_limit end (length now.input) (omega (arith, now.count, within));
         taken = subst (λ (bs : List ℕ). Loses left left1 bs) same (loses_more left left0 left1 now.input [] now.taken pulls.taken);
         used_up = λ is. read_all left left0 now.input now.taken (pulls.used_up refl);
       } in record { ran = ran; state = λ well. subst (stands m P) (sym now.settles.all) now.settles.serves.state }
@@ -144,9 +145,9 @@ module _ {M : Type 0} (stands : M → Meaning → List StreamEvent → Type 0) (
     at = record {
       written = output P now.settles.word;
       history = subst (λ (log : Option (List Move)). History (due P) start log now.input (output P now.settles.word) false) (sym same.0) now.settles.serves.history;
-      may = met;
+      may = (good, met);
     };
-    limit = omega (arith, now.count, within);
+    limit = within_limit ReadFailed (length now.input) (omega (arith, now.count, within));
     taken = subst (λ (l : Option (List ℕ)). Loses left l now.input) (sym same.1) now.taken;
     used_up = λ never. cc;
   } refl
@@ -158,7 +159,7 @@ module _ {M : Type 0} (stands : M → Meaning → List StreamEvent → Type 0) (
       history = subst (λ (log : Option (List Move)). History (due P) start log now.input (output P now.settles.word) false) (sym same.0) now.settles.serves.history;
       may = ([], sym met ∙ sym (append-nil (output P now.settles.word)));
     };
-    limit = omega (arith, now.count, within);
+    limit = within_limit Memory (length now.input) (omega (arith, now.count, within));
     taken = subst (λ (l : Option (List ℕ)). Loses left l now.input) (sym same.1) now.taken;
     used_up = λ never. cc;
   } refl
@@ -179,7 +180,7 @@ module _ {M : Type 0} (stands : M → Meaning → List StreamEvent → Type 0) (
               (history (due P) now.input (output P now.settles.word) now.settles.serves.history met);
           may = (omega (arith, now.count, length-append now.input bytes), ap (λ (bs : List ℕ). finding P bs false) front ∙ all, met ∙ ap (due P) (sym front));
         };
-        limit = omega (arith, now.count, limit, one, length-append now.input bytes);
+        limit = record { most = omega (arith, now.count, limit, one, length-append now.input bytes); past = λ more. refl };
         taken = loses_more left left0 left1 now.input bytes now.taken taken;
         used_up = λ never. cc;
       } refl

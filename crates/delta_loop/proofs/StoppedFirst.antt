@@ -11,6 +11,7 @@ use Rattle.delta_loop.specs.Return.{Begins, StopsFirst, MayEnd}
 use Rattle.delta_loop.specs.Loop.{Ran}
 use Rattle.delta_loop.proofs.Opening.{fresh}
 use Rattle.delta_loop.proofs.Lefts.{loses_nothing}
+use Rattle.delta_loop.proofs.Limits.{within_limit}
 
 module _ (P : Meaning) (old new : Option (List Move)) (left0 left1 : Option (List ℕ)) (same : left1 ≡ left0) (v : Version) (is : P.version ≡ Some v) (sent rest : List ℕ) (split : opening (Some v) ++ [] ≡ sent ++ rest) (writes : Writes old new sent) where
   header_is : opening P.version ≡ sent ++ rest
@@ -21,7 +22,7 @@ module _ (P : Meaning) (old new : Option (List Move)) (left0 left1 : Option (Lis
     input = [];
     ended = false;
     at = record { written = sent; history = writes (due P) old [] [] false (fresh (due P) old); may = may };
-    limit = omega arith;
+    limit = within_limit end 0 (omega arith);
     taken = loses_nothing left0 left1 same;
     used_up = λ never. cc;
   }

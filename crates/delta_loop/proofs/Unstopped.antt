@@ -1,5 +1,5 @@
 -- A program that makes no call isn't stopped.
-use Rattle.std.proofs.Common.{◌⊎◌, inl, inr, ℕ, ◌<◌, ◌≤◌, ◌+◌, List, [], ◌∷◌, ◌++◌, arith}
+use Rattle.std.proofs.Common.{◌⊎◌, inl, inr, ℕ, List, [], ◌∷◌, ◌++◌, arith}
 use Rattle.event_word.specs.StreamEvent.{StreamEvent}
 use Rattle.delta_loop.specs.Meaning.{Meaning, MakesNoCalls, StartsCostly, StartsDeep, IsCostly, IsDeep}
 use Rattle.delta_loop.specs.Return.{StopsFirst, StopsAt}

@@ -9,8 +9,8 @@ use Rattle.delta_end.specs.declared.end.End.{End}
 use Rattle.delta_end.specs.declared.end.End.TheVariants.{Usage, Refused, FileFailed}
 use Rattle.delta_loop.specs.Meaning.{Meaning}
 use Rattle.delta_loop.specs.Output.{accepted, output}
-use Rattle.delta_loop.specs.Prompt.{has_ended}
-use Rattle.delta_loop.specs.Return.{MayEnd}
+use Rattle.delta_loop.specs.Prompt.{EndsReading, has_ended}
+use Rattle.delta_loop.specs.Return.{MayEnd, IsWithinLimit}
 
 -- where the old log is told, it was added to, and this holds of the moves that were added
 abbrev pub Adds : Option (List Move) → Option (List Move) → (List Move → Type 0) → Type 0
@@ -23,9 +23,10 @@ AtReturn P (Refused why) moves = moves ≡ []
 AtReturn P FileFailed moves = moves ≡ []
 AtReturn P end moves = MayEnd P (bytes_read moves) (has_ended moves) (bytes_written moves) end
 
--- at most 2^40 bytes were read, and one more that tells that there are too many
-abbrev pub IsWithinLimit : List Move → Type 0
-IsWithinLimit moves = length (bytes_read moves) ≤ 2 ^ 40 + 1
+-- nothing was read after the end of the input; at most 2^40 bytes were read, and one more only where there are too many
+pub record ReadsWell (end : End) (moves : List Move) : Type 0 where
+  pub last : EndsReading moves
+  pub limit : IsWithinLimit end (length (bytes_read moves))
 
 -- the whole input is a header and, in its version, the frames of a word that the program accepts
 pub record IsGood (P : Meaning) (v : Version) (all : List ℕ) (word : List StreamEvent) : Type 0 where

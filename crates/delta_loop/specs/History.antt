@@ -3,9 +3,9 @@ use Rattle.std.specs.Prelude.{◌≡◌, ℕ, List, [], ◌∷◌, ◌++◌, Boo
 use Rattle.port.specs.declared.link.Move.{Move}
 use Rattle.port.specs.Moves.{bytes_read, bytes_written}
 use Rattle.port.specs.Told.{Grows}
-use Rattle.delta_loop.specs.Prompt.{IsPrompt, has_ended}
+use Rattle.delta_loop.specs.Prompt.{IsPrompt, EndsReading, has_ended}
 
--- since the log was `start`, these bytes were read and these were written, all promptly, and the input has ended or not
+-- since the log was `start`, these bytes were read and these were written, all promptly, none was read after the input's end, and it has ended or not
 pub record History (due : List ℕ → List ℕ) (start now : Option (List Move)) (input output : List ℕ) (ended : Bool) : Type 0 where
   pub moves : List Move
   pub logged : Grows start now moves
@@ -13,6 +13,7 @@ pub record History (due : List ℕ → List ℕ) (start now : Option (List Move)
   pub written : bytes_written moves ≡ output
   pub at_end : has_ended moves ≡ ended
   pub prompt : IsPrompt due moves
+  pub last : EndsReading moves
 
 -- a call that wrote these bytes and read none, whatever stood before
 abbrev pub Writes : Option (List Move) → Option (List Move) → List ℕ → Type 0

@@ -1,5 +1,5 @@
 -- What stands between the steps of the loop.
-use Rattle.std.specs.Prelude.{◌≡◌, ◌≢◌, ℕ, ◌+◌, ◌≤◌, ◌^◌, List, [], ◌++◌, Bool, true, false, Option, Some, length, ⊤}
+use Rattle.std.specs.Prelude.{◌≡◌, ◌≢◌, ℕ, ◌+◌, ◌≤◌, List, [], ◌++◌, Bool, true, false, Option, Some, length, ⊤}
 use Rattle.port.specs.declared.link.Move.{Move}
 use Rattle.port.specs.Told.{Loses, IsUsedUp}
 use Rattle.event_word.specs.StreamEvent.{StreamEvent}
@@ -12,7 +12,7 @@ use Rattle.delta_end.specs.declared.end.End.TheVariants.{Done, Open, ReadFailed,
 use Rattle.delta_loop.specs.Meaning.{Meaning}
 use Rattle.delta_loop.specs.Output.{accepted, output, due}
 use Rattle.delta_loop.specs.History.{History, is_empty}
-use Rattle.delta_loop.specs.Return.{MayEnd}
+use Rattle.delta_loop.specs.Return.{MayEnd, IsWithinLimit}
 
 -- how many bytes a reader was given
 abbrev pub given_to : FrameReader → ℕ
@@ -84,12 +84,12 @@ PullEnds old_log new_log old_left new_left ReadFailed = (new_log ≡ old_log) ×
 PullEnds old_log new_log old_left new_left Memory = (new_log ≡ old_log) × (new_left ≡ old_left)
 PullEnds old_log new_log old_left new_left end = ⊥
 
--- a run that ended so, the input that it read, at most one byte more than it may, and what it did to what was left
+-- a run that ended so, the input that it read, one byte more than it may only where that is too long, and what it did to what was left
 pub record Ran (P : Meaning) (start now : Option (List Move)) (old_left new_left : Option (List ℕ)) (end : End) : Type 0 where
   pub input : List ℕ
   pub ended : Bool
   pub at : Ended P start now input ended end
-  pub limit : length input ≤ 2 ^ 40 + 1
+  pub limit : IsWithinLimit end (length input)
   pub taken : Loses old_left new_left input
   pub used_up : ended ≡ true → (told : List ℕ) → old_left ≡ Some told → told ≡ input
 

@@ -1,5 +1,5 @@
 -- The table of ends: what stands behind each end of a run, in the bytes that were read and written.
-use Rattle.std.specs.Prelude.{◌≡◌, ◌⊎◌, ℕ, ◌<◌, ◌^◌, List, [], ◌∷◌, ◌++◌, Bool, true, false, Some, None, length, take}
+use Rattle.std.specs.Prelude.{◌≡◌, ◌⊎◌, ℕ, ◌+◌, ◌<◌, ◌≤◌, ◌^◌, List, [], ◌∷◌, ◌++◌, Bool, true, false, Some, None, length, take}
 use Rattle.event_word.specs.StreamEvent.{StreamEvent}
 use Rattle.event_frame.specs.Reading.{whole}
 use Rattle.delta_end.specs.declared.end.End.{End}
@@ -7,6 +7,12 @@ use Rattle.delta_end.specs.declared.end.End.TheVariants.{Done, Usage, Refused, I
 use Rattle.delta_loop.specs.Meaning.{Meaning, StartsCostly, StartsDeep, IsCostly, IsDeep}
 use Rattle.delta_loop.specs.Output.{accepted, opening, output, due}
 use Rattle.delta_loop.specs.Finding.{place_in, finding}
+
+-- at most 2^40 bytes are read, and one more only where the input is too long: so the row of every other end speaks
+-- of the first 2^40 bytes, and that of `Long` of these and of one byte more
+pub record IsWithinLimit (end : End) (count : ℕ) : Type 0 where
+  pub most : count ≤ 2 ^ 40 + 1
+  pub past : 2 ^ 40 < count → end ≡ Long
 
 -- the second list goes on from the first
 abbrev pub Begins : {A : Type 0} → List A → List A → Type 0
@@ -36,7 +42,7 @@ abbrev pub MayEnd : Meaning → List ℕ → Bool → List ℕ → End → Type 
 MayEnd P input ended written Done = (ended ≡ true) × (finding P input ended ≡ None) × (P.finishes (accepted P (whole input)) ≡ true) × (written ≡ due P input) × (P.is_whole (accepted P (whole input)) ≡ true)
 MayEnd P input ended written Open = (ended ≡ true) × (finding P input ended ≡ None) × (P.finishes (accepted P (whole input)) ≡ false) × (written ≡ due P input)
 MayEnd P input ended written (Input fault) = (finding P input ended ≡ Some fault) × (written ≡ due P input)
-MayEnd P input ended written ReadFailed = written ≡ due P input
+MayEnd P input ended written ReadFailed = (finding P input ended ≡ None) × (written ≡ due P input)
 MayEnd P input ended written WriteFailed = Begins written (due P input)
 MayEnd P input ended written Memory = Begins written (due P input)
 MayEnd P input ended written Long = (2 ^ 40 < length input) × (finding P (take (2 ^ 40) input) false ≡ None) × (written ≡ due P (take (2 ^ 40) input))

@@ -3,7 +3,7 @@
 ghost use Rattle.std.specs.Prelude.{◌≡◌, ◌≢◌, ◌⊎◌};
 ghost use Rattle.port.specs.Faults.{Rose};
 ghost use Rattle.delta_end.specs.declared.end.End.{End};
-ghost use Rattle.delta_loop.specs.Answer.{Adds, AtReturn, IsComplete, IsWithinLimit};
+ghost use Rattle.delta_loop.specs.Answer.{Adds, AtReturn, IsComplete, ReadsWell};
 ghost use Rattle.delta_end.specs.Status.{AnswerOf, IsStatus, IsStill};
 ghost use Rattle.delta_end.specs.End.{IsOfLoop, ReadCause, WriteCause};
 ghost use Rattle.delta_loop.specs.Loop.{RanTo};
@@ -68,10 +68,10 @@ pub fn run_program<M: Stepper, L: Link, N: Sink>(
     requires { Begun M.stands machine }
     // Before each read, what was written is what is due for what was read.
     ensures prompt { (P : Meaning) → HasBegun M.stands P machine version first.now → Adds (L.log link.old) (L.log link.new) (IsPrompt (due P)) }
-    // At most 2^40 bytes are read, and one more.
-    ensures limit { (P : Meaning) → HasBegun M.stands P machine version first.now → Adds (L.log link.old) (L.log link.new) IsWithinLimit }
-    // The status is that of an end, and the end is shown by the bytes, the counts and the note.
+    // The status is that of an end, and the end is shown by the bytes, the counts and the note. Nothing is read after the
+    // end of the input; at most 2^40 bytes are read, and one more only where there are too many.
     ensures answer { (end : End) × IsOfLoop end × IsStatus end result (N.faults notes.old) (N.faults notes.new)
+        × ((P : Meaning) → HasBegun M.stands P machine version first.now → Adds (L.log link.old) (L.log link.new) (ReadsWell end))
         × ((P : Meaning) → HasBegun M.stands P machine version first.now → Adds (L.log link.old) (L.log link.new) (AtReturn P end))
         × ReadCause end (L.read_faults link.old) (L.read_faults link.new)
         × WriteCause end (L.write_faults link.old) (L.write_faults link.new)

@@ -1,4 +1,4 @@
--- The budgets of runs and of evaluations are small.
+-- The budgets of runs and of evaluations are small, and so is a load.
 use Rattle.std.proofs.Common.{◌≡◌, ℕ, ◌≤◌, ◌<◌, ◌^◌, Bool, true, false, ◌&&◌, List, [], ◌∷◌, Option, Some, None, refl, subst, arith, if◌then◌else◌}
 use Rattle.std.specs.Prelude.{IfSome, option_and_then, option_map, nat_le, string_bytes, map}
 use Rattle.std.specs.Str.Parse.{digits_value}
@@ -11,10 +11,12 @@ use Rattle.delta_words.specs.Commands.{command_of, takes_of}
 use Rattle.delta_words.specs.CommandLine.{WrittenLine, line_of}
 use Rattle.delta_words.specs.CommandTask.{CommandTask, run, eval, check, print, text, frames, gen, budget_of, file_of, version_of, file_and_budget, text_or_frames, start_and_items, task_of_line, task_of_command, task_of}
 
--- a run has a budget of at most 1,000,000, an evaluation one of at most 10,000
+-- a run has a budget of at most 1,000,000, an evaluation one of at most 10,000; a load begins at 999,999 at most, and has at most
+-- 10,000,000 items
 abbrev IsSmall : Option CommandTask → Type 0
 IsSmall (Some (eval file budget v)) = budget ≤ 10000
 IsSmall (Some (run file budget v)) = budget ≤ 1000000
+IsSmall (Some (gen start items)) = (start ≤ 999999) × (items ≤ 10000000)
 IsSmall o = Unit {0}
 
 within : (limit d : ℕ) (a b : Bool) → nat_le d limit ≡ b → IfSome (let o : Option ℕ = if a && b then Some d else None in o) (λ n. n ≤ limit)
@@ -58,18 +60,21 @@ texts v true b = tt
 texts v false true = tt
 texts v false false = tt
 
+small_number : (digits limit : ℕ) (value : List ℕ) → IfSome (number_within digits limit value) (λ n. n ≤ limit)
+small_number digits limit value = within limit (digits_value 10 value) (has_digits digits value) (nat_le (digits_value 10 value) limit) refl
+
 gens : (words : List (List ℕ)) → IsSmall (start_and_items words)
 gens [] = tt
 gens (a ∷ []) = tt
-gens (a ∷ b ∷ []) = go (number_within 8 999999 a)
+gens (a ∷ b ∷ []) = go (number_within 8 999999 a) (small_number 8 999999 a)
   where
-    inside : (n : ℕ) (o : Option ℕ) → IsSmall (option_map (λ m. gen n m) o)
-    inside n None = tt
-    inside n (Some m) = tt
+    inside : (n : ℕ) → n ≤ 999999 → (o : Option ℕ) → IfSome o (λ m. m ≤ 10000000) → IsSmall (option_map (λ m. gen n m) o)
+    inside n small None h = tt
+    inside n small (Some m) h = (small, h)
 
-    go : (o : Option ℕ) → IsSmall (option_and_then (λ n. option_map (λ m. gen n m) (number_within 8 10000000 b)) o)
-    go None = tt
-    go (Some n) = inside n (number_within 8 10000000 b)
+    go : (o : Option ℕ) → IfSome o (λ n. n ≤ 999999) → IsSmall (option_and_then (λ n. option_map (λ m. gen n m) (number_within 8 10000000 b)) o)
+    go None h = tt
+    go (Some n) h = inside n h (number_within 8 10000000 b) (small_number 8 10000000 b)
 gens (a ∷ b ∷ c ∷ words) = tt
 
 of_line : (c : Command) (line : WrittenLine) → IsSmall (task_of_line c line)
@@ -101,3 +106,6 @@ eval_is_small words file budget v e =
 
 pub run_is_small : (words : List (List ℕ)) (file : List ℕ) (budget : ℕ) (v : Version) → task_of words ≡ Some (run file budget v) → budget ≤ 1000000
 run_is_small words file budget v e = subst IsSmall e (of_words words)
+
+pub load_is_small : (words : List (List ℕ)) (start items : ℕ) → task_of words ≡ Some (gen start items) → (start ≤ 999999) × (items ≤ 10000000)
+load_is_small words start items e = subst IsSmall e (of_words words)

@@ -1,7 +1,7 @@
 -- A command line asks for one thing.
-use Rattle.std.proofs.Common.{◌≡◌, ℕ, List, Some}
+use Rattle.std.proofs.Common.{◌≡◌, ◌∙◌, ℕ, List, Option, Some, None, sym}
 use Rattle.delta_words.specs.declared.task.Version.{Version}
-use Rattle.delta_words.specs.CommandTask.{run, eval, check, print}
+use Rattle.delta_words.specs.CommandTask.{CommandTask, run, eval, check, print, gen}
 
 -- two runs that it asks for are of one file, with one budget and in one version
 pub same_run : (f g : List ℕ) (b c : ℕ) (v w : Version) → Some (run f b v) ≡ Some (run g c w) → (f ≡ g) × (b ≡ c) × (v ≡ w)
@@ -18,3 +18,11 @@ same_check f g e = cc
 -- two evaluations that it asks for are of one file, with one budget and in one version
 pub same_eval : (f g : List ℕ) (b c : ℕ) (v w : Version) → Some (eval f b v) ≡ Some (eval g c w) → (f ≡ g) × (b ≡ c) × (v ≡ w)
 same_eval f g b c v w h = (cc, cc, cc)
+
+-- and one load
+pub same_gen : (s t i j : ℕ) → Some (gen s i) ≡ Some (gen t j) → (s ≡ t) × (i ≡ j)
+same_gen s t i j e = (cc, cc)
+
+-- words that ask for something are a command line
+pub asks_something : {o : Option CommandTask} {task : CommandTask} → o ≡ None → o ≡ Some task → ⊥
+asks_something {task = task} none some = let clash : None ≡ Some task = sym none ∙ some in cc

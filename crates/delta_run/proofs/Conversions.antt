@@ -11,10 +11,10 @@ use Rattle.delta_end.specs.End.{FileCause, ReadCause, WriteCause}
 use Rattle.delta_end.specs.Status.{AnswerOf, IsStill}
 use Rattle.delta_end.proofs.Statuses.{not_rose, answered, answered_eight, with_status}
 use Rattle.delta_loop.specs.Prompt.{has_ended}
-use Rattle.delta_loop.specs.Answer.{Adds}
+use Rattle.delta_loop.specs.Answer.{Adds, ReadsWell}
 use Rattle.delta_text.specs.Conversion.{Conversion, frames_of_lines, all_due, MayEnd, Ran}
 use Rattle.delta_text.proofs.Refusals.{no_bad_front}
-use Rattle.delta_loop.proofs.Returning.{adds_none}
+use Rattle.delta_loop.proofs.Returning.{adds_none, reads_well, unread}
 use Rattle.delta_loop.proofs.Opening.{prompt_none}
 use Rattle.delta_loop.specs.History.{IsUntouched}
 use Rattle.delta_run.specs.Converted.{Converts}
@@ -60,10 +60,15 @@ module _ (C : Conversion) (old new : Option (List Move)) (left0 left1 : Option (
         h.logged told is,
         record {
           prompt = h.prompt;
-          limit = subst (λ (bs : List ℕ). length bs ≤ 2 ^ 40 + 1) (sym h.read) ran.limit;
+          reads = reads_well C.due old new ran.input ran.at.written ran.ended end h ran.limit;
           ends = subst (λ (bs : List ℕ). MayEnd C (bytes_read h.moves) (has_ended h.moves) bs end) (sym h.written) at_end;
         },
       )
+
+  -- it doesn't read after the end of the input, nor more than it may
+  pub converted_reads : (end : End) → Ran C old new left0 left1 end → Adds old new (ReadsWell end)
+  converted_reads end ran told is =
+      let h = ran.at.history in (h.moves, h.logged told is, reads_well C.due old new ran.input ran.at.written ran.ended end h ran.limit)
 
 -- memory ran out before anything was read or written, or the conversion was made
 abbrev pub Made : Conversion → Option (List Move) → Option (List Move) → Option (List ℕ) → Option (List ℕ) → End → Type 0
@@ -73,7 +78,7 @@ pub by_either : (C : Conversion) (old new : Option (List Move)) (left0 left1 : O
 by_either C old new left0 left1 end (inr ran) = converted C old new left0 left1 end ran
 by_either C old new left0 left1 end (inl none) =
     subst (λ (e : End). Adds old new (Converts C e)) (sym none.0)
-    (adds_none old new (Converts C Memory) none.1.0 (record { prompt = prompt_none C.due; limit = omega arith; ends = (C.due [], refl) }))
+    (adds_none old new (Converts C Memory) none.1.0 (record { prompt = prompt_none C.due; reads = unread Memory; ends = (C.due [], refl) }))
 
 -- all that is due for an input that ended was written
 abbrev pub WroteFrames : Version → List ℕ → List Move → Type 0

@@ -16,11 +16,11 @@ use Rattle.delta_end.specs.Status.{AnswerOf, IsStill}
 use Rattle.delta_end.proofs.Statuses.{not_rose, answered, answered_eight, with_status}
 use Rattle.delta_accept.specs.Acceptance.{IsWritable}
 use Rattle.delta_accept.proofs.OneAnswer.{accepted_is_one, writing_is_judged}
-use Rattle.delta_loop.specs.Answer.{Adds, IsGood}
+use Rattle.delta_loop.specs.Answer.{Adds, IsGood, ReadsWell}
 use Rattle.delta_loop.specs.Finding.{finding}
 use Rattle.delta_loop.specs.Prompt.{has_ended}
 use Rattle.delta_loop.proofs.Completeness.{whole_good, part_good}
-use Rattle.delta_loop.proofs.Returning.{adds_none}
+use Rattle.delta_loop.proofs.Returning.{adds_none, reads_well, unread}
 use Rattle.delta_eval.specs.Gathering.{gathering}
 use Rattle.delta_eval.specs.Evaluating.{input_of, calls_on, evaluation, MayEnd, Evaluates, EvaluatesIts, EvaluatesText}
 use Rattle.delta_run.specs.Evaluated.{EvaluatedText, EvaluatesMoves, EvalsText, RefusesUnwritable}
@@ -40,7 +40,6 @@ module _ (text : List ℕ) (budget : ℕ) (v : Version) (old new : Option (List 
           core = ran.core;
           accepted = ran.accepted;
           late = h.prompt;
-          limit = subst (λ (bs : List ℕ). length bs ≤ 2 ^ 40 + 1) (sym h.read) e.limit;
           ends = subst (λ (bs : List ℕ). MayEnd ran.program budget v (bytes_read h.moves) (has_ended h.moves) bs end) (sym h.written) at_end;
         },
       )
@@ -60,6 +59,28 @@ module _ (text : List ℕ) (budget : ℕ) (v : Version) (old new : Option (List 
   evals_text ReadFailed ran = moves_of ReadFailed ran
   evals_text WriteFailed ran = moves_of WriteFailed ran
   evals_text Long ran = moves_of Long ran
+
+  reads_of : (end : End) → EvaluatesIts text budget v old new left0 left1 end → Adds old new (ReadsWell end)
+  reads_of end ran told is =
+      let e = ran.evaluates in
+      (e.history.moves, e.history.logged told is, reads_well (λ bytes. []) old new e.input e.written e.ended end e.history e.limit)
+
+  -- it doesn't read after the end of the input, nor more than it may
+  pub evals_reads : (end : End) → EvaluatedText text budget v old new left0 left1 end → Adds old new (ReadsWell end)
+  evals_reads FileFailed same = adds_none old new (ReadsWell FileFailed) same.0 (unread FileFailed)
+  evals_reads (Refused None) ran = absurd ran
+  evals_reads (Refused (Some why)) ran = adds_none old new (ReadsWell (Refused (Some why))) ran.1.0 (unread (Refused (Some why)))
+  evals_reads Memory (inl same) = adds_none old new (ReadsWell Memory) same.0 (unread Memory)
+  evals_reads Memory (inr ran) = reads_of Memory ran
+  evals_reads Done ran = reads_of Done ran
+  evals_reads Usage ran = reads_of Usage ran
+  evals_reads (Input fault) ran = reads_of (Input fault) ran
+  evals_reads (Budget at) ran = reads_of (Budget at) ran
+  evals_reads (Deep at) ran = reads_of (Deep at) ran
+  evals_reads Open ran = reads_of Open ran
+  evals_reads ReadFailed ran = reads_of ReadFailed ran
+  evals_reads WriteFailed ran = reads_of WriteFailed ran
+  evals_reads Long ran = reads_of Long ran
 
   -- it isn't usage
   pub evals_usage : (end : End) → EvaluatedText text budget v old new left0 left1 end → end ≡ Usage → ⊥

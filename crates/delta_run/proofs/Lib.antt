@@ -5,7 +5,9 @@ pub mod Settling
 pub mod SettledTexts
 pub mod Conversions
 pub mod Lined
+pub mod Told
 pub mod Printed
+pub mod Generated
 pub mod Budgets
 pub mod Checked
 pub mod Evaluated

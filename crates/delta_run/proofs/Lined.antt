@@ -12,7 +12,7 @@ use Rattle.delta_end.proofs.Statuses.{answered, answered_eight, with_status}
 use Rattle.delta_loop.specs.Output.{due}
 use Rattle.delta_loop.specs.Loop.{Ran}
 use Rattle.delta_loop.specs.Answer.{Adds, WroteAll}
-use Rattle.delta_loop.proofs.Returning.{adds_none, ran_may_end}
+use Rattle.delta_loop.proofs.Returning.{adds_none, ran_may_end, reads_well, unread}
 use Rattle.delta_loop.proofs.Opening.{prompt_none}
 use Rattle.delta_loop.proofs.Completeness.{EndsWell, is_done, is_open, is_wanting, good_end}
 use Rattle.delta_loop.proofs.Unstopped.{none_is_cheap}
@@ -32,13 +32,13 @@ module _ (old new : Option (List Move)) (left0 left1 : Option (List ℕ)) where
     ran.at.history.logged told is,
     record {
       prompt = ran.at.history.prompt;
-      limit = subst (λ (bs : List ℕ). length bs ≤ 2 ^ 40 + 1) (sym ran.at.history.read) ran.limit;
+      reads = reads_well (due lines_of_frames) old new ran.input ran.at.written ran.ended end ran.at.history ran.limit;
       ends = ran_may_end lines_of_frames old new left0 left1 end ran;
     },
   )
   lined end (inl none) =
       subst (λ (e : End). Adds old new (MakesLines e)) (sym none.0)
-      (adds_none old new (MakesLines Memory) none.1.0 (record { prompt = prompt_none (due lines_of_frames); limit = omega arith; ends = (due lines_of_frames [], refl) }))
+      (adds_none old new (MakesLines Memory) none.1.0 (record { prompt = prompt_none (due lines_of_frames); reads = unread Memory; ends = (due lines_of_frames [], refl) }))
 
   -- a run of lines is one of the loop
   of_loop : (end : End) → Ran lines_of_frames old new left0 left1 end → IsOfLoop end

@@ -11,6 +11,7 @@ use Rattle.delta_run.specs.Runs.{Runs}
 use Rattle.delta_run.specs.Evals.{Evals}
 use Rattle.delta_run.specs.Checks.{Checks}
 use Rattle.delta_run.specs.Prints.{Prints}
+use Rattle.delta_run.specs.Gens.{Gens}
 use Rattle.delta_run.specs.Lines.{WritesFrames, WritesLines}
 use Rattle.delta_run.specs.Owes.{Owes}
 
@@ -19,13 +20,14 @@ pub owes_by : (words : List (String Global)) (before after : Outside) (end : End
     → ((file : List ℕ) (budget : ℕ) (v : WrittenVersion) → Asks words (eval file budget v) → Evals file budget (frames_of v) before after end status)
     → ((file : List ℕ) → Asks words (check file) → Checks file before after end status)
     → ((file : List ℕ) → Asks words (print file) → Prints file before after end status)
+    → ((start items : ℕ) → Asks words (gen start items) → Gens start items before after end status)
     → (Asks words text → WritesLines before after end status)
     → ((v : WrittenVersion) → Asks words (frames v) → WritesFrames (frames_of v) before after end status)
     → (task : CommandTask) → Asks words task → Owes task before after end status
-owes_by words before after end status runs evals checks prints lines writes (run file budget v) asks = runs file budget v asks
-owes_by words before after end status runs evals checks prints lines writes (eval file budget v) asks = evals file budget v asks
-owes_by words before after end status runs evals checks prints lines writes (check file) asks = checks file asks
-owes_by words before after end status runs evals checks prints lines writes (print file) asks = prints file asks
-owes_by words before after end status runs evals checks prints lines writes text asks = lines asks
-owes_by words before after end status runs evals checks prints lines writes (frames v) asks = writes v asks
-owes_by words before after end status runs evals checks prints lines writes (gen start items) asks = tt
+owes_by words before after end status runs evals checks prints gens lines writes (run file budget v) asks = runs file budget v asks
+owes_by words before after end status runs evals checks prints gens lines writes (eval file budget v) asks = evals file budget v asks
+owes_by words before after end status runs evals checks prints gens lines writes (check file) asks = checks file asks
+owes_by words before after end status runs evals checks prints gens lines writes (print file) asks = prints file asks
+owes_by words before after end status runs evals checks prints gens lines writes text asks = lines asks
+owes_by words before after end status runs evals checks prints gens lines writes (frames v) asks = writes v asks
+owes_by words before after end status runs evals checks prints gens lines writes (gen start items) asks = gens start items asks

@@ -1,5 +1,5 @@
 -- From the end of a printing to what its caller may know.
-use Rattle.std.proofs.Common.{◌≡◌, inl, ℕ, List, [], false, Option, None, Some, Result, ◌∙◌, ap, sym, refl, subst}
+use Rattle.std.proofs.Common.{◌≡◌, inl, ℕ, List, [], false, Option, None, Some, Result, ◌∙◌, ap, sym, refl, subst, arith}
 use Rattle.port.specs.declared.link.Move.{Move}
 use Rattle.port.specs.declared.fault.IoFault.{IoFault}
 use Rattle.port.specs.Faults.{HasCause}
@@ -12,13 +12,20 @@ use Rattle.delta_end.specs.Status.{AnswerOf, IsStill}
 use Rattle.delta_end.proofs.Statuses.{not_rose, answered, answered_eight, with_status}
 use Rattle.delta_front.specs.ProgramText.{IsTextOf}
 use Rattle.delta_front.proofs.OneAnswer.{program_is_one, programs_are_not_refused}
-use Rattle.delta_loop.specs.Answer.{Adds}
+use Rattle.delta_loop.specs.Answer.{Adds, ReadsWell}
 use Rattle.delta_loop.specs.History.{Writes}
 use Rattle.delta_loop.proofs.Opening.{fresh}
-use Rattle.delta_loop.proofs.Returning.{adds_none}
+use Rattle.delta_loop.proofs.Limits.{within_limit}
+use Rattle.delta_loop.proofs.Returning.{adds_none, reads_well}
 use Rattle.delta_print.specs.Canonical.{canonical_text}
 use Rattle.delta_source.specs.Printing.{Prints}
 use Rattle.delta_run.specs.Printed.{PrintedText, WritesText, PrintsText, PrintsWell, RefusesWell}
+
+-- what is only written reads nothing
+pub written_reads : (old new : Option (List Move)) (end : End) (sent : List ℕ) → Writes old new sent → Adds old new (ReadsWell end)
+written_reads old new end sent writes told is =
+    let h = writes (λ bytes. []) old [] [] false (fresh (λ bytes. []) old) in
+    (h.moves, h.logged told is, reads_well (λ bytes. []) old new [] sent false end h (within_limit end 0 (omega arith)))
 
 module _ (text : List ℕ) (old new : Option (List Move)) where
   -- the moves of what was written

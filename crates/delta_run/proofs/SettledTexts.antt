@@ -1,4 +1,4 @@
--- A run of an accepted text that ended with 0, 4 or 6 is settled by its whole input.
+-- A run of an accepted text that ended with 0, 4, 6 or 9 is settled by its whole input.
 use Rattle.std.proofs.Common.{◌≡◌, ℕ, List, Option, Some, ◌∙◌, ap, subst, arith}
 use Rattle.port.specs.declared.link.Move.{Move}
 use Rattle.event_frame.specs.declared.version.Version.{Version}
@@ -28,13 +28,13 @@ module _ (text : List ℕ) (budget : ℕ) (v : Version) (old new : Option (List 
       any_budget v budget other (one_shot_of p) all old new status (run_settles (meaning_of v budget (one_shot_of p)) old new left0 left1 all tells end of_this status is)
 
   refused_not_settled : status ≡ 3 → IsOverInput status → ⊥
-  refused_not_settled is over = none_other 3 (λ e. omega (arith, e)) (λ e. omega (arith, e)) (λ e. omega (arith, e)) (subst IsOverInput is over)
+  refused_not_settled is over = none_other 3 (λ e. omega (arith, e)) (λ e. omega (arith, e)) (λ e. omega (arith, e)) (λ e. omega (arith, e)) (subst IsOverInput is over)
 
   failed_not_settled : status ≡ 7 → IsOverInput status → ⊥
-  failed_not_settled is over = none_other 7 (λ e. omega (arith, e)) (λ e. omega (arith, e)) (λ e. omega (arith, e)) (subst IsOverInput is over)
+  failed_not_settled is over = none_other 7 (λ e. omega (arith, e)) (λ e. omega (arith, e)) (λ e. omega (arith, e)) (λ e. omega (arith, e)) (subst IsOverInput is over)
 
   memory_not_settled : status ≡ 8 → IsOverInput status → ⊥
-  memory_not_settled is over = none_other 8 (λ e. omega (arith, e)) (λ e. omega (arith, e)) (λ e. omega (arith, e)) (subst IsOverInput is over)
+  memory_not_settled is over = none_other 8 (λ e. omega (arith, e)) (λ e. omega (arith, e)) (λ e. omega (arith, e)) (λ e. omega (arith, e)) (subst IsOverInput is over)
 
   by_end : (end : End) → RanText text budget v old new left0 left1 end → status ≡ status_of end → SettlesWell text v left0 old new status
   by_end FileFailed ran is = λ p c accepted all tells other over. absurd (failed_not_settled is over)

@@ -1,5 +1,10 @@
--- The status and the bytes of a run that ended with 0, 4 or 6 are those of its whole input.
-use Rattle.std.proofs.Common.{◌≡◌, ◌⊎◌, inl, inr, ℕ, ◌<◌, List, [], ◌∷◌, ◌++◌, Bool, true, false, Option, Some, None, length, ◌∙◌, ap, sym, refl, subst, arith}
+-- The status and the bytes of a run that ended with 0, 4, 6 or 9 are those of its whole input.
+use Rattle.std.proofs.Common.{◌≡◌, ◌⊎◌, inl, inr, ℕ, ◌+◌, ◌-◌, ◌<◌, ◌≤◌, ◌^◌, List, [], ◌∷◌, ◌++◌, Bool, true, false, Option, Some, None, length, take, ◌∙◌, ap, ap₂, sym, refl, subst, arith, length-append}
+use Rattle.std.specs.Prelude.{nat_le}
+use Rattle.std.proofs.Math.Seq.{take-append-add}
+use Rattle.std.proofs.lemmas.Bool.{le-leb}
+use Rattle.std.proofs.lemmas.Bool.Decides.{leb_tells}
+use Rattle.std.proofs.lemmas.List.{take_all, take-append-le}
 use Rattle.port.specs.declared.link.Move.{Move}
 use Rattle.port.specs.Moves.{bytes_written}
 use Rattle.event_word.specs.StreamEvent.{StreamEvent}
@@ -22,8 +27,9 @@ use Rattle.delta_loop.specs.Output.{up_to_fault, accepted, accepted_after, answe
 use Rattle.delta_loop.specs.Loop.{Ran}
 use Rattle.delta_loop.specs.Answer.{Adds}
 use Rattle.delta_loop.proofs.Findings.{finding_all}
+use Rattle.delta_loop.proofs.Limits.{few_read}
 use Rattle.delta_output.specs.OneShot.{OneShot, meaning_of}
-use Rattle.delta_run.specs.Settled.{IsOverInput, status_by, status_over, IsSettled}
+use Rattle.delta_run.specs.Settled.{IsOverInput, counted, ends_there, status_by, status_after, status_over, IsSettled}
 
 -- fewer than four bytes hold no event
 short_unread : (bytes : List ℕ) → length bytes < 4 → whole bytes ≡ []
@@ -70,98 +76,135 @@ events_found P bytes longer before (x ∷ word) more behind now fault version fo
     by_fault None same here rest = later (rest same here)
     by_fault (Some wrong) same here rest = inl (ap (λ (v : Version). Some (Event wrong (length (header v ++ frames v before)))) same ∙ here, refl)
 
--- a fault that is found before the input's end is that of the whole input, and what is due doesn't grow
-found_early : (P : Meaning) (input rest : List ℕ) (fault : InputFault) → finding P input false ≡ Some fault → (finding P (input ++ rest) true ≡ Some fault) × (due P (input ++ rest) ≡ due P input)
-found_early P input rest fault found =
+-- a fault that is found before the input's end is that of the input with more of it, to its end or not, and what is due doesn't grow
+found_early : (P : Meaning) (input rest : List ℕ) (ended : Bool) (fault : InputFault) → finding P input false ≡ Some fault
+    → (finding P (input ++ rest) ended ≡ Some fault) × (due P (input ++ rest) ≡ due P input)
+found_early P input rest ended fault found =
     by_found (events_found P input (input ++ rest) [] (whole input) (more_bytes input rest).0.0 (byte_finding (ending input) false (length input))
-    (byte_finding (ending (input ++ rest)) true (length (input ++ rest))) fault (version_stays input rest) found)
+    (byte_finding (ending (input ++ rest)) ended (length (input ++ rest))) fault (version_stays input rest) found)
   where
     by_end : (e : Ending) → ending input ≡ e → byte_finding e false (length input) ≡ Some fault → accepted P (whole input) ≡ whole input
-        → (finding P (input ++ rest) true ≡ Some fault) × (due P (input ++ rest) ≡ due P input)
+        → (finding P (input ++ rest) ended ≡ Some fault) × (due P (input ++ rest) ≡ due P input)
     by_end Whole is here all = absurd (let clash : ⊥ = cc in clash)
     by_end Inside is here all = absurd (let clash : ⊥ = cc in clash)
     by_end (Bad wrong) is here all =
         let same = (more_bytes input rest).1 wrong is in (
-          finding_all P (input ++ rest) (whole input) true all same.0 ∙ ap (λ (e : Ending). byte_finding e true (length (input ++ rest))) same.1 ∙ here,
+          finding_all P (input ++ rest) (whole input) ended all same.0 ∙ ap (λ (e : Ending). byte_finding e ended (length (input ++ rest))) same.1 ∙ here,
           ap (λ (w : List StreamEvent). output P (accepted P w)) same.0,
         )
 
-    by_found : ((event_finding P (input ++ rest) [] (whole input ++ (more_bytes input rest).0.0) (byte_finding (ending (input ++ rest)) true (length (input ++ rest))) ≡ Some fault)
+    by_found : ((event_finding P (input ++ rest) [] (whole input ++ (more_bytes input rest).0.0) (byte_finding (ending (input ++ rest)) ended (length (input ++ rest))) ≡ Some fault)
         × (accepted P (whole input ++ (more_bytes input rest).0.0) ≡ accepted P (whole input)))
         ⊎ ((byte_finding (ending input) false (length input) ≡ Some fault) × (accepted P (whole input) ≡ whole input))
-        → (finding P (input ++ rest) true ≡ Some fault) × (due P (input ++ rest) ≡ due P input)
+        → (finding P (input ++ rest) ended ≡ Some fault) × (due P (input ++ rest) ≡ due P input)
     by_found (inl there) = (
-      ap (λ (w : List StreamEvent). event_finding P (input ++ rest) [] w (byte_finding (ending (input ++ rest)) true (length (input ++ rest)))) (more_bytes input rest).0.1 ∙ there.0,
+      ap (λ (w : List StreamEvent). event_finding P (input ++ rest) [] w (byte_finding (ending (input ++ rest)) ended (length (input ++ rest)))) (more_bytes input rest).0.1 ∙ there.0,
       ap (output P) (ap (accepted P) (more_bytes input rest).0.1 ∙ there.1),
     )
     by_found (inr there) = by_end (ending input) refl there.0 there.1
 
--- no status but 0, 4 and 6 is one of these
-pub none_other : (n : ℕ) → (n ≡ 0 → ⊥) → (n ≡ 4 → ⊥) → (n ≡ 6 → ⊥) → IsOverInput n → ⊥
-none_other n not_done not_refused not_open (inl e) = not_done e
-none_other n not_done not_refused not_open (inr (inl e)) = not_refused e
-none_other n not_done not_refused not_open (inr (inr e)) = not_open e
+-- no status but 0, 4, 6 and 9 is one of these
+pub none_other : (n : ℕ) → (n ≡ 0 → ⊥) → (n ≡ 4 → ⊥) → (n ≡ 6 → ⊥) → (n ≡ 9 → ⊥) → IsOverInput n → ⊥
+none_other n not_done not_refused not_open not_long (inl e) = not_done e
+none_other n not_done not_refused not_open not_long (inr (inl e)) = not_refused e
+none_other n not_done not_refused not_open not_long (inr (inr (inl e))) = not_open e
+none_other n not_done not_refused not_open not_long (inr (inr (inr e))) = not_long e
+
+-- of an input that isn't too long all bytes count
+all_count : (all : List ℕ) → length all ≤ 2 ^ 40 → (counted all ≡ all) × (ends_there all ≡ true)
+all_count all few = (take_all (2 ^ 40) all few, le-leb (length all) (2 ^ 40) few)
+
+-- a front that isn't too long counts whole
+front_counts : (input rest : List ℕ) → length input ≤ 2 ^ 40 → counted (input ++ rest) ≡ input ++ take (2 ^ 40 - length input) rest
+front_counts input rest few =
+    let n : length input + (2 ^ 40 - length input) ≡ 2 ^ 40 = omega (arith, few) in
+    subst (λ (m : ℕ). take m (input ++ rest) ≡ input ++ take (2 ^ 40 - length input) rest) n (take-append-add input rest (2 ^ 40 - length input))
+
+-- where more than 2^40 bytes were read, no more of them count
+more_counts : (input rest : List ℕ) → 2 ^ 40 < length input → (counted (input ++ rest) ≡ counted input) × (ends_there (input ++ rest) ≡ false)
+more_counts input rest more = (take-append-le (2 ^ 40) input rest (omega (arith, more)), by_test (leb_tells (length (input ++ rest)) (2 ^ 40)))
+  where
+    by_test : ((nat_le (length (input ++ rest)) (2 ^ 40) ≡ true) × (length (input ++ rest) ≤ 2 ^ 40)) ⊎ ((nat_le (length (input ++ rest)) (2 ^ 40) ≡ false) × (2 ^ 40 < length (input ++ rest)))
+        → nat_le (length (input ++ rest)) (2 ^ 40) ≡ false
+    by_test (inl few) = absurd (omega (arith, few.1, more, length-append input rest))
+    by_test (inr is) = is.0
 
 module _ (P : Meaning) (old new : Option (List Move)) (left0 left1 : Option (List ℕ)) (all : List ℕ) (tells : left0 ≡ Some all) where
-  -- what was written is due for all of the input
-  wrote : (end : End) (ran : Ran P old new left0 left1 end) → ran.at.written ≡ due P all → Adds old new (λ moves. bytes_written moves ≡ due P all)
+  abbrev Settles : ℕ → Type 0
+  Settles status = (status ≡ status_over P all) × Adds old new (λ moves. bytes_written moves ≡ due P (counted all))
+
+  -- what was written is due for the bytes that count
+  wrote : (end : End) (ran : Ran P old new left0 left1 end) → ran.at.written ≡ due P (counted all) → Adds old new (λ moves. bytes_written moves ≡ due P (counted all))
   wrote end ran written told is = (ran.at.history.moves, ran.at.history.logged told is, ran.at.history.written ∙ written)
 
   -- a run that read its input to the end
-  over_all : (end : End) (ran : Ran P old new left0 left1 end) (o : Option InputFault) (b : Bool) → ran.ended ≡ true → finding P ran.input true ≡ o → P.finishes (accepted P (whole ran.input)) ≡ b
-      → ran.at.written ≡ due P ran.input → (status_by o b ≡ status_over P all) × Adds old new (λ moves. bytes_written moves ≡ due P all)
-  over_all end ran o b ended found finishes written =
-      let same : ran.input ≡ all = sym (ran.used_up ended all tells) in (
-        sym (ap (λ (f : Option InputFault). status_by f b) found) ∙ sym (ap (status_by (finding P ran.input true)) finishes) ∙ ap (status_over P) same,
-        wrote end ran (written ∙ ap (due P) same),
+  over_all : (end : End) (ran : Ran P old new left0 left1 end) → (end ≡ Long → ⊥) → (o : Option InputFault) (b : Bool) → ran.ended ≡ true → finding P ran.input true ≡ o
+      → P.finishes (accepted P (whole ran.input)) ≡ b → ran.at.written ≡ due P ran.input → Settles (status_by o true b)
+  over_all end ran short o b ended found finishes written =
+      let same : ran.input ≡ all = sym (ran.used_up ended all tells) in
+      let few = few_read end (length ran.input) ran.limit short in
+      let count = all_count all (subst (λ (bs : List ℕ). length bs ≤ 2 ^ 40) same few) in (
+        sym (ap (λ (f : Option InputFault). status_by f true b) found) ∙ sym (ap (status_by (finding P ran.input true) true) finishes) ∙ ap (λ (bs : List ℕ). status_after P bs true) same
+            ∙ sym (ap₂ (status_after P) count.0 count.1),
+        wrote end ran (written ∙ ap (due P) (same ∙ sym count.0)),
       )
 
   -- a run that was refused in its input
-  over_front : (fault : InputFault) (ran : Ran P old new left0 left1 (Input fault)) → ran.ended ≡ false → finding P ran.input false ≡ Some fault → ran.at.written ≡ due P ran.input
-      → (4 ≡ status_over P all) × Adds old new (λ moves. bytes_written moves ≡ due P all)
-  over_front fault ran ended found written =
+  over_front : (fault : InputFault) (ran : Ran P old new left0 left1 (Input fault)) → finding P ran.input false ≡ Some fault → ran.at.written ≡ due P ran.input → Settles 4
+  over_front fault ran found written =
       let rest = (ran.taken all tells).0 in
-      let split : all ≡ ran.input ++ rest = (ran.taken all tells).2 in
-      let early = found_early P ran.input rest fault found in (
-        sym (ap (λ (f : Option InputFault). status_by f (P.finishes (accepted P (whole all)))) (ap (λ (bs : List ℕ). finding P bs true) split ∙ early.0)),
+      let few = few_read (Input fault) (length ran.input) ran.limit (λ is. cc) in
+      let split : counted all ≡ ran.input ++ take (2 ^ 40 - length ran.input) rest = ap counted (ran.taken all tells).2 ∙ front_counts ran.input rest few in
+      let early = found_early P ran.input (take (2 ^ 40 - length ran.input) rest) (ends_there all) fault found in (
+        sym (ap (λ (f : Option InputFault). status_by f (ends_there all) (P.finishes (accepted P (whole (counted all))))) (ap (λ (bs : List ℕ). finding P bs (ends_there all)) split ∙ early.0)),
         wrote (Input fault) ran (written ∙ sym early.1 ∙ sym (ap (due P) split)),
       )
 
-  input_settles : (fault : InputFault) (ran : Ran P old new left0 left1 (Input fault)) (ended : Bool) → ran.ended ≡ ended → finding P ran.input ended ≡ Some fault → ran.at.written ≡ due P ran.input
-      → (4 ≡ status_over P all) × Adds old new (λ moves. bytes_written moves ≡ due P all)
-  input_settles fault ran true is found written = over_all (Input fault) ran (Some fault) (P.finishes (accepted P (whole ran.input))) is found refl written
-  input_settles fault ran false is found written = over_front fault ran is found written
+  input_settles : (fault : InputFault) (ran : Ran P old new left0 left1 (Input fault)) (ended : Bool) → ran.ended ≡ ended → finding P ran.input ended ≡ Some fault → ran.at.written ≡ due P ran.input → Settles 4
+  input_settles fault ran true is found written = over_all (Input fault) ran (λ same. cc) (Some fault) (P.finishes (accepted P (whole ran.input))) is found refl written
+  input_settles fault ran false is found written = over_front fault ran found written
+
+  -- a run that read a byte too many
+  over_more : (ran : Ran P old new left0 left1 Long) → Settles 9
+  over_more ran =
+      let rest = (ran.taken all tells).0 in
+      let split : all ≡ ran.input ++ rest = (ran.taken all tells).2 in
+      let count = more_counts ran.input rest ran.at.may.0 in
+      let front : counted all ≡ counted ran.input = ap counted split ∙ count.0 in (
+        sym (ap₂ (status_after P) front (ap ends_there split ∙ count.1) ∙ ap (λ (f : Option InputFault). status_by f false (P.finishes (accepted P (whole (counted ran.input))))) ran.at.may.1),
+        wrote Long ran (ran.at.may.2 ∙ sym (ap (due P) front)),
+      )
 
   -- a run settles by the table of ends
-  ran_settled : (end : End) (ran : Ran P old new left0 left1 end) → IsOverInput (status_of end) → (status_of end ≡ status_over P all) × Adds old new (λ moves. bytes_written moves ≡ due P all)
+  ran_settled : (end : End) (ran : Ran P old new left0 left1 end) → IsOverInput (status_of end) → Settles (status_of end)
   ran_settled Done ran over =
       let may = ran.at.may in
-      over_all Done ran None true may.0 (subst (λ (b : Bool). finding P ran.input b ≡ None) may.0 may.1) may.2 may.3
+      over_all Done ran (λ is. cc) None true may.0 (subst (λ (b : Bool). finding P ran.input b ≡ None) may.0 may.1) may.2 may.3
   ran_settled Open ran over =
       let may = ran.at.may in
-      over_all Open ran None false may.0 (subst (λ (b : Bool). finding P ran.input b ≡ None) may.0 may.1) may.2 may.3
+      over_all Open ran (λ is. cc) None false may.0 (subst (λ (b : Bool). finding P ran.input b ≡ None) may.0 may.1) may.2 may.3
   ran_settled (Input fault) ran over = input_settles fault ran ran.ended refl ran.at.may.0 ran.at.may.1
-  ran_settled Usage ran over = absurd (none_other 2 (λ e. omega (arith, e)) (λ e. omega (arith, e)) (λ e. omega (arith, e)) over)
-  ran_settled (Refused why) ran over = absurd (none_other 3 (λ e. omega (arith, e)) (λ e. omega (arith, e)) (λ e. omega (arith, e)) over)
-  ran_settled (Budget at) ran over = absurd (none_other 5 (λ e. omega (arith, e)) (λ e. omega (arith, e)) (λ e. omega (arith, e)) over)
-  ran_settled (Deep at) ran over = absurd (none_other 5 (λ e. omega (arith, e)) (λ e. omega (arith, e)) (λ e. omega (arith, e)) over)
-  ran_settled FileFailed ran over = absurd (none_other 7 (λ e. omega (arith, e)) (λ e. omega (arith, e)) (λ e. omega (arith, e)) over)
-  ran_settled ReadFailed ran over = absurd (none_other 7 (λ e. omega (arith, e)) (λ e. omega (arith, e)) (λ e. omega (arith, e)) over)
-  ran_settled WriteFailed ran over = absurd (none_other 7 (λ e. omega (arith, e)) (λ e. omega (arith, e)) (λ e. omega (arith, e)) over)
-  ran_settled Memory ran over = absurd (none_other 8 (λ e. omega (arith, e)) (λ e. omega (arith, e)) (λ e. omega (arith, e)) over)
-  ran_settled Long ran over = absurd (none_other 9 (λ e. omega (arith, e)) (λ e. omega (arith, e)) (λ e. omega (arith, e)) over)
+  ran_settled Usage ran over = absurd (none_other 2 (λ e. omega (arith, e)) (λ e. omega (arith, e)) (λ e. omega (arith, e)) (λ e. omega (arith, e)) over)
+  ran_settled (Refused why) ran over = absurd (none_other 3 (λ e. omega (arith, e)) (λ e. omega (arith, e)) (λ e. omega (arith, e)) (λ e. omega (arith, e)) over)
+  ran_settled (Budget at) ran over = absurd (none_other 5 (λ e. omega (arith, e)) (λ e. omega (arith, e)) (λ e. omega (arith, e)) (λ e. omega (arith, e)) over)
+  ran_settled (Deep at) ran over = absurd (none_other 5 (λ e. omega (arith, e)) (λ e. omega (arith, e)) (λ e. omega (arith, e)) (λ e. omega (arith, e)) over)
+  ran_settled FileFailed ran over = absurd (none_other 7 (λ e. omega (arith, e)) (λ e. omega (arith, e)) (λ e. omega (arith, e)) (λ e. omega (arith, e)) over)
+  ran_settled ReadFailed ran over = absurd (none_other 7 (λ e. omega (arith, e)) (λ e. omega (arith, e)) (λ e. omega (arith, e)) (λ e. omega (arith, e)) over)
+  ran_settled WriteFailed ran over = absurd (none_other 7 (λ e. omega (arith, e)) (λ e. omega (arith, e)) (λ e. omega (arith, e)) (λ e. omega (arith, e)) over)
+  ran_settled Memory ran over = absurd (none_other 8 (λ e. omega (arith, e)) (λ e. omega (arith, e)) (λ e. omega (arith, e)) (λ e. omega (arith, e)) over)
+  ran_settled Long ran over = over_more ran
 
   -- so does one whose status is such
   pub run_settles : (end : End) → Ran P old new left0 left1 end → (status : ℕ) → status ≡ status_of end → IsSettled P all old new status
   run_settles end ran status is over = let settled = ran_settled end ran (subst IsOverInput is over) in (is ∙ settled.0, settled.1)
 
--- the status of a command that ended with 0, 4 or 6 is that of its end
+-- the status of a command that ended with 0, 4, 6 or 9 is that of its end
 pub over_by_end : (end : End) (status note0 note1 : ℕ) → IsStatus end status note0 note1 → IsOverInput status → status ≡ status_of end
 over_by_end end status note0 note1 (inl is) over = is.1
 over_by_end end status note0 note1 (inr (inl sink)) over = by_end end sink.1
   where
     by_end : (end : End) → status ≡ status_without_note end → status ≡ status_of end
-    by_end Open is = absurd (none_other 7 (λ e. omega (arith, e)) (λ e. omega (arith, e)) (λ e. omega (arith, e)) (subst IsOverInput is over))
+    by_end Open is = absurd (none_other 7 (λ e. omega (arith, e)) (λ e. omega (arith, e)) (λ e. omega (arith, e)) (λ e. omega (arith, e)) (subst IsOverInput is over))
     by_end Done is = is
     by_end Usage is = is
     by_end (Refused why) is = is
@@ -174,7 +217,7 @@ over_by_end end status note0 note1 (inr (inl sink)) over = by_end end sink.1
     by_end Memory is = is
     by_end Long is = is
 over_by_end end status note0 note1 (inr (inr eight)) over =
-    absurd (none_other 8 (λ e. omega (arith, e)) (λ e. omega (arith, e)) (λ e. omega (arith, e)) (subst IsOverInput eight.1 over))
+    absurd (none_other 8 (λ e. omega (arith, e)) (λ e. omega (arith, e)) (λ e. omega (arith, e)) (λ e. omega (arith, e)) (subst IsOverInput eight.1 over))
 
 -- neither what is found in an input nor what is accepted, answered or due hangs on the budget
 module _ (v : Version) (b c : ℕ) (S : OneShot) where
@@ -198,13 +241,15 @@ module _ (v : Version) (b c : ℕ) (S : OneShot) where
 
   same_status : (all : List ℕ) → status_over (meaning_of v b S) all ≡ status_over (meaning_of v c S) all
   same_status all =
-      ap (λ (o : Option InputFault). status_by o ((meaning_of v c S).finishes (accepted (meaning_of v b S) (whole all)))) (same_found all [] (whole all) (byte_finding (ending all) true (length all)))
-      ∙ ap (λ (w : List StreamEvent). status_by (finding (meaning_of v c S) all true) ((meaning_of v c S).finishes w)) (same_accepted [] (whole all))
+      let bytes = counted all in
+      let ends = ends_there all in
+      ap (λ (o : Option InputFault). status_by o ends ((meaning_of v c S).finishes (accepted (meaning_of v b S) (whole bytes)))) (same_found bytes [] (whole bytes) (byte_finding (ending bytes) ends (length bytes)))
+      ∙ ap (λ (w : List StreamEvent). status_by (finding (meaning_of v c S) bytes ends) ends ((meaning_of v c S).finishes w)) (same_accepted [] (whole bytes))
 
   -- so a run settles with any budget
   pub any_budget : (all : List ℕ) (old new : Option (List Move)) (status : ℕ) → IsSettled (meaning_of v b S) all old new status → IsSettled (meaning_of v c S) all old new status
   any_budget all old new status settles over =
       let settled = settles over in (
         settled.0 ∙ same_status all,
-        λ told is. let adds = settled.1 told is in (adds.0, adds.1, adds.2 ∙ same_due all),
+        λ told is. let adds = settled.1 told is in (adds.0, adds.1, adds.2 ∙ same_due (counted all)),
       )

@@ -15,8 +15,8 @@ use Rattle.delta_accept.specs.Acceptance.{IsWritable}
 use Rattle.delta_accept.proofs.OneAnswer.{accepted_is_one, writing_is_judged}
 use Rattle.delta_loop.specs.Meaning.{Meaning}
 use Rattle.delta_loop.specs.Loop.{Ran}
-use Rattle.delta_loop.specs.Answer.{Adds, IsComplete, IsWithinLimit}
-use Rattle.delta_loop.proofs.Returning.{adds_none, ran_prompt, ran_within, returned}
+use Rattle.delta_loop.specs.Answer.{Adds, IsComplete, ReadsWell}
+use Rattle.delta_loop.proofs.Returning.{adds_none, ran_prompt, ran_reads, returned, unread}
 use Rattle.delta_loop.proofs.Completeness.{good_end, good_status}
 use Rattle.delta_output.specs.OneShot.{meaning_of}
 use Rattle.delta_spoken.specs.TreeOneShot.{one_shot_of}
@@ -48,28 +48,25 @@ module _ (text : List ℕ) (budget : ℕ) (v : Version) (old new : Option (List 
   text_prompt WriteFailed ran = prompt_of WriteFailed ran
   text_prompt Long ran = prompt_of Long ran
 
-  within_of : (end : End) → RanIts text budget v old new left0 left1 end → Adds old new IsWithinLimit
-  within_of end ran = ran_within ran.0 old new left0 left1 end ran.2
+  reads_of : (end : End) → RanIts text budget v old new left0 left1 end → Adds old new (ReadsWell end)
+  reads_of end ran = ran_reads ran.0 old new left0 left1 end ran.2
 
-  within_none : new ≡ old → Adds old new IsWithinLimit
-  within_none same = adds_none old new IsWithinLimit same (omega arith)
-
-  -- and reads no more than it may
-  pub text_within : (end : End) → RanText text budget v old new left0 left1 end → Adds old new IsWithinLimit
-  text_within Usage ran = within_of Usage ran
-  text_within FileFailed ran = within_none ran.0
-  text_within (Refused None) ran = absurd ran
-  text_within (Refused (Some why)) ran = within_none ran.1.0
-  text_within Memory (inl same) = within_none same.0
-  text_within Memory (inr ran) = within_of Memory ran
-  text_within Done ran = within_of Done ran
-  text_within (Input fault) ran = within_of (Input fault) ran
-  text_within (Budget at) ran = within_of (Budget at) ran
-  text_within (Deep at) ran = within_of (Deep at) ran
-  text_within Open ran = within_of Open ran
-  text_within ReadFailed ran = within_of ReadFailed ran
-  text_within WriteFailed ran = within_of WriteFailed ran
-  text_within Long ran = within_of Long ran
+  -- it doesn't read after the end of the input, nor more than it may
+  pub text_reads : (end : End) → RanText text budget v old new left0 left1 end → Adds old new (ReadsWell end)
+  text_reads Usage ran = reads_of Usage ran
+  text_reads FileFailed ran = adds_none old new (ReadsWell FileFailed) ran.0 (unread FileFailed)
+  text_reads (Refused None) ran = absurd ran
+  text_reads (Refused (Some why)) ran = adds_none old new (ReadsWell (Refused (Some why))) ran.1.0 (unread (Refused (Some why)))
+  text_reads Memory (inl same) = adds_none old new (ReadsWell Memory) same.0 (unread Memory)
+  text_reads Memory (inr ran) = reads_of Memory ran
+  text_reads Done ran = reads_of Done ran
+  text_reads (Input fault) ran = reads_of (Input fault) ran
+  text_reads (Budget at) ran = reads_of (Budget at) ran
+  text_reads (Deep at) ran = reads_of (Deep at) ran
+  text_reads Open ran = reads_of Open ran
+  text_reads ReadFailed ran = reads_of ReadFailed ran
+  text_reads WriteFailed ran = reads_of WriteFailed ran
+  text_reads Long ran = reads_of Long ran
 
   runs_of : (end : End) → IsOfLoop end → RanIts text budget v old new left0 left1 end → Adds old new (RunsIts text budget v end)
   runs_of end loop ran told is =

@@ -9,7 +9,7 @@ use Rattle.core_term.specs.CoreTerm.{CoreProgram}
 use Rattle.delta_end.specs.declared.end.End.{End}
 use Rattle.delta_end.specs.declared.end.End.TheVariants.{Refused, FileFailed, Memory}
 use Rattle.delta_end.specs.declared.refusal.Refusal.{Refusal}
-use Rattle.delta_loop.specs.Answer.{Adds, IsGood, IsWithinLimit}
+use Rattle.delta_loop.specs.Answer.{Adds, IsGood}
 use Rattle.delta_loop.specs.Prompt.{IsPrompt, has_ended}
 use Rattle.delta_accept.specs.Acceptance.{IsWritable, IsRefusedToWrite}
 use Rattle.delta_eval.specs.Gathering.{gathering}
@@ -21,13 +21,12 @@ abbrev pub EvaluatedText : List ℕ → ℕ → Version → Option (List Move) �
 EvaluatedText text budget v old new left0 left1 FileFailed = IsUntouched old new left0 left1
 EvaluatedText text budget v old new left0 left1 end = EvaluatesText text budget v old new left0 left1 end
 
--- the program of the text was evaluated: before each read nothing was written, no more was read than may be, and the moves end so
+-- the program of the text was evaluated: before each read nothing was written, and the moves end so
 pub record EvaluatesMoves (text : List ℕ) (budget : ℕ) (v : Version) (end : End) (moves : List Move) : Type 0 where
   pub program : ProgramTree
   pub core : CoreProgram
   pub accepted : IsWritable text v program core
   pub late : IsPrompt (λ bytes. []) moves
-  pub limit : IsWithinLimit moves
   pub ends : MayEnd program budget v (bytes_read moves) (has_ended moves) (bytes_written moves) end
 
 -- by how it ended; there are no moves where the file failed, the text is refused, or memory ran out before the input was read

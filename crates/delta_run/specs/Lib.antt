@@ -4,7 +4,9 @@ pub mod Text
 pub mod Settled
 pub mod Converted
 pub mod Lined
+pub mod Told
 pub mod Printed
+pub mod Generated
 pub mod Checked
 pub mod Evaluated
 pub mod Outside
@@ -13,5 +15,6 @@ pub mod Runs
 pub mod Evals
 pub mod Checks
 pub mod Prints
+pub mod Gens
 pub mod Lines
 pub mod Owes

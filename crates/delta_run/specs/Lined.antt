@@ -8,13 +8,13 @@ use Rattle.delta_end.specs.declared.end.End.{End}
 use Rattle.delta_loop.specs.Output.{due}
 use Rattle.delta_loop.specs.Prompt.{IsPrompt, has_ended}
 use Rattle.delta_loop.specs.Return.{MayEnd}
-use Rattle.delta_loop.specs.Answer.{Adds, IsGood, IsWithinLimit}
+use Rattle.delta_loop.specs.Answer.{Adds, IsGood, ReadsWell}
 use Rattle.delta_text.specs.Lines.{lines, lines_of_frames}
 
--- before each read the lines of all whole frames were written, no more was read than may be, and the moves end so
+-- before each read the lines of all whole frames were written, nothing was read after the input's end, no more was read than may be, and the moves end so
 pub record MakesLines (end : End) (moves : List Move) : Type 0 where
   pub prompt : IsPrompt (due lines_of_frames) moves
-  pub limit : IsWithinLimit moves
+  pub reads : ReadsWell end moves
   pub ends : MayEnd lines_of_frames (bytes_read moves) (has_ended moves) (bytes_written moves) end
 
 -- the lines of the word were written, and nothing else

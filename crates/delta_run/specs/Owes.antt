@@ -1,5 +1,5 @@
 -- What is owed to a command line, by what it asks for.
-use Rattle.std.specs.Prelude.{ℕ, ⊤}
+use Rattle.std.specs.Prelude.{ℕ}
 use Rattle.delta_words.specs.CommandTask.{CommandTask, run, eval, check, print, text, frames, gen}
 use Rattle.delta_end.specs.declared.end.End.{End}
 use Rattle.delta_run.specs.CommandLine.{frames_of}
@@ -8,9 +8,9 @@ use Rattle.delta_run.specs.Runs.{Runs}
 use Rattle.delta_run.specs.Evals.{Evals}
 use Rattle.delta_run.specs.Checks.{Checks}
 use Rattle.delta_run.specs.Prints.{Prints}
+use Rattle.delta_run.specs.Gens.{Gens}
 use Rattle.delta_run.specs.Lines.{WritesFrames, WritesLines}
 
--- of the words of `gen` no more is said than of words that ask for nothing
 abbrev pub Owes : CommandTask → Outside → Outside → End → ℕ → Type 0
 Owes (run file budget v) before after end status = Runs file budget (frames_of v) before after end status
 Owes (eval file budget v) before after end status = Evals file budget (frames_of v) before after end status
@@ -18,4 +18,4 @@ Owes (check file) before after end status = Checks file before after end status
 Owes (print file) before after end status = Prints file before after end status
 Owes text before after end status = WritesLines before after end status
 Owes (frames v) before after end status = WritesFrames (frames_of v) before after end status
-Owes (gen start items) before after end status = ⊤
+Owes (gen start items) before after end status = Gens start items before after end status

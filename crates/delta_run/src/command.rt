@@ -3,18 +3,21 @@
 ghost use Rattle.std.specs.Prelude.{◌≡◌, ◌≢◌, ◌⊎◌, ◌<◌, ◌≤◌, ◌^◌, [], List, ℕ, Some, None, true, length};
 ghost use Rattle.delta_end.specs.declared.end.End.{End};
 ghost use Rattle.delta_words.specs.declared.task.Version.{Version as WrittenVersion};
-ghost use Rattle.delta_words.specs.CommandTask.{run, eval, check, print, text, frames};
+ghost use Rattle.delta_words.specs.CommandTask.{run, eval, check, print, text, frames, gen};
 ghost use Rattle.delta_text.specs.Conversion.{frames_of_lines, Ran as Converted};
 ghost use Rattle.delta_text.specs.Lines.{lines_of_frames};
 ghost use Rattle.delta_loop.specs.Loop.{Ran as Lined};
 ghost use Rattle.delta_run.specs.Printed.{PrintedText};
+ghost use Rattle.delta_run.specs.Generated.{GeneratedLine};
 ghost use Rattle.delta_run.specs.Checked.{ChecksText};
 ghost use Rattle.delta_run.specs.Evaluated.{EvaluatedText};
 ghost use Rattle.delta_run.specs.CommandLine.{Asks, AskNothing, frames_of};
 ghost use Rattle.delta_end.specs.End.{FileCause, ReadCause, WriteCause};
+ghost use Rattle.delta_loop.specs.Answer.{Adds, ReadsWell};
 ghost use Rattle.delta_loop.specs.History.{IsUntouched};
 ghost use Rattle.delta_run.specs.Text.{OfFile, RanText};
 
+use command_gen::gen_load;
 use delta_end::End;
 use delta_eval::eval_source;
 use delta_source::{check_source, print_source};
@@ -37,6 +40,7 @@ fn run_file<M: Machine, S: Shelf, L: Link>(
 ) -> End
     requires { budget ≤ 1000000 }
     ensures ran { OfFile (S.holds shelf.old) file.now (λ text. RanText text budget version (L.log link.old) (L.log link.new) (L.left link.old) (L.left link.new) result) }
+    ensures reads { Adds (L.log link.old) (L.log link.new) (ReadsWell result) }
     ensures runs { result ≢ End.Usage }
     ensures held { S.holds shelf.new ≡ S.holds shelf.old }
     ensures file { FileCause result (S.faults shelf.old) (S.faults shelf.new) }
@@ -53,6 +57,7 @@ fn run_file<M: Machine, S: Shelf, L: Link>(
 // Prints the program of a file.
 fn print_file<S: Shelf, L: Link>(alloc: Global, file: &str, shelf: &mut S, link: &mut L) -> End
     ensures printed { OfFile (S.holds shelf.old) file.now (λ text. PrintedText text (L.log link.old) (L.log link.new) result) }
+    ensures reads { Adds (L.log link.old) (L.log link.new) (ReadsWell result) }
     ensures prints { result ≢ End.Usage }
     ensures unread { L.left link.new ≡ L.left link.old }
     ensures held { S.holds shelf.new ≡ S.holds shelf.old }
@@ -94,6 +99,7 @@ fn eval_file<S: Shelf, L: Link>(
 ) -> End
     requires { budget < 2 ^ 62 }
     ensures evaluated { OfFile (S.holds shelf.old) file.now (λ text. EvaluatedText text budget version (L.log link.old) (L.log link.new) (L.left link.old) (L.left link.new) result) }
+    ensures reads { Adds (L.log link.old) (L.log link.new) (ReadsWell result) }
     ensures evaluates { result ≢ End.Usage }
     ensures held { S.holds shelf.new ≡ S.holds shelf.old }
     ensures file { FileCause result (S.faults shelf.old) (S.faults shelf.new) }
@@ -126,6 +132,7 @@ pub fn run_command<M: Machine, S: Shelf, L: Link>(
 ) -> End
     ensures usage { result ≡ End.Usage → AskNothing words.now }
     ensures command { AskNothing words.now → ((result ≡ End.Usage) ⊎ (result ≡ End.Memory)) × IsUntouched (L.log link.old) (L.log link.new) (L.left link.old) (L.left link.new) }
+    ensures reads { Adds (L.log link.old) (L.log link.new) (ReadsWell result) }
     ensures ran { (file : List ℕ) (budget : ℕ) (v : WrittenVersion) → Asks words.now (run file budget v)
         → OfFile (S.holds shelf.old) file (λ text. RanText text budget (frames_of v) (L.log link.old) (L.log link.new) (L.left link.old) (L.left link.new) result) }
     ensures framed { (v : WrittenVersion) → Asks words.now (frames v)
@@ -139,6 +146,8 @@ pub fn run_command<M: Machine, S: Shelf, L: Link>(
     ensures checking { (file : List ℕ) → Asks words.now (check file) → IsUntouched (L.log link.old) (L.log link.new) (L.left link.old) (L.left link.new) }
     ensures evaluated { (file : List ℕ) (budget : ℕ) (v : WrittenVersion) → Asks words.now (eval file budget v)
         → OfFile (S.holds shelf.old) file (λ text. EvaluatedText text budget (frames_of v) (L.log link.old) (L.log link.new) (L.left link.old) (L.left link.new) result) }
+    ensures generated { (start items : ℕ) → Asks words.now (gen start items) → GeneratedLine start items (L.log link.old) (L.log link.new) result }
+    ensures generating { (start items : ℕ) → Asks words.now (gen start items) → L.left link.new ≡ L.left link.old }
     ensures held { S.holds shelf.new ≡ S.holds shelf.old }
     ensures file { FileCause result (S.faults shelf.old) (S.faults shelf.new) }
     ensures read { ReadCause result (L.read_faults link.old) (L.read_faults link.new) }
@@ -155,7 +164,7 @@ pub fn run_command<M: Machine, S: Shelf, L: Link>(
         Ok(Task::Eval(file, budget, version)) => {
             eval_file(alloc, &file, budget, frame_version(version), shelf, link)
         }
-        Ok(Task::Gen(..)) => End::Usage,
+        Ok(Task::Gen(start, items)) => gen_load::<M, L>(alloc, start, items, link),
         Err(WordsFault::Usage) => End::Usage,
         Err(WordsFault::Memory) => End::Memory,
     }

@@ -17,7 +17,7 @@ use port::{Link, Shelf, Sink};
 use std::alloc::Global;
 
 /// Runs the command line that the words are, over what is outside, and answers the exit status: 0 where
-/// the input ended and its type is finished, 2 where the words ask for nothing that is built, 3 where the
+/// the input ended and its type is finished, 2 where the words are no command line, 3 where the
 /// program is refused, 4 where the input is, 5 where the program makes more calls than its budget allows or
 /// one at too great a level, 6 where the input's type awaits more at its end, 7 at a fault outside, 8 for
 /// want of memory, and 9 for more than 2^40 input bytes. The words are those after the program's name. The
@@ -30,12 +30,12 @@ pub fn delta<M: Machine, S: Shelf, L: Link, N: Sink>(
     link: &mut L,
     notes: &mut N,
 ) -> u8
-    // Status 2 comes exactly where the words ask for nothing that is built, but for want of memory, and nothing is read or written then.
+    // Status 2 comes exactly where the words are no command line, but for want of memory, and nothing is read or written then.
     ensures usage { result ≡ 2 → AskNothing words.now }
     ensures command { AskNothing words.now → (result ≡ 2) ⊎ (result ≡ 8) }
     ensures untouched { AskNothing words.now → IsUntouched (L.log link.old) (L.log link.new) (L.left link.old) (L.left link.new) }
     // One end stands behind the status, and shows in the counts and the note (`Ends`). To a command line that asks for a
-    // task all is owed that `Owes` says of it: `Runs`, `Evals`, `Checks`, `Prints`, `WritesFrames` and `WritesLines`, each
+    // task all is owed that `Owes` says of it: `Runs`, `Evals`, `Checks`, `Prints`, `Gens`, `WritesFrames` and `WritesLines`, each
     // a record of promises.
     ensures owed { (end : End)
         × Ends (seen S.holds S.faults L.log L.left L.read_faults L.write_faults N.told N.faults shelf.old link.old notes.old)

@@ -1,5 +1,5 @@
 -- One piece of input, from what stood before it to what stands after it.
-use Rattle.std.proofs.Common.{◌≡◌, ℕ, ◌+◌, ◌<◌, ◌≤◌, ◌^◌, List, [], ◌∷◌, ◌++◌, Bool, true, false, Option, Some, None, option_map, length, take, ◌∙◌, ap, sym, refl, subst, append-nil, arith, length-append}
+use Rattle.std.proofs.Common.{◌≡◌, ℕ, ◌+◌, ◌<◌, ◌≤◌, ◌^◌, List, [], ◌∷◌, ◌++◌, Bool, true, false, Option, None, option_map, length, take, ◌∙◌, ap, sym, refl, subst, append-nil, arith, length-append}
 use Rattle.std.proofs.lemmas.List.{take_at}
 use Rattle.port.specs.declared.link.Move.{Move}
 use Rattle.port.specs.Told.{Loses}
@@ -11,7 +11,6 @@ use Rattle.delta_end.specs.declared.end.End.TheVariants.{ReadFailed, Memory, Lon
 use Rattle.delta_text.specs.Fault.{line_fault}
 use Rattle.delta_text.specs.declared.fault.LineRefusal.{LineRefusal}
 use Rattle.delta_text.specs.LineState.{LineState}
-use Rattle.port.specs.declared.link.Move.TheVariants.{In}
 use Rattle.delta_loop.specs.History.{History, Writes, is_empty}
 use Rattle.delta_text.specs.Reading.{first_line, Taken, Within, taken, behind, stop, refused_in}
 use Rattle.delta_text.specs.Conversion.{frames_of_lines, Ended, Ran}
@@ -20,6 +19,8 @@ use Rattle.delta_loop.specs.Loop.{PullEnds}
 use Rattle.delta_text.specs.Sending.{IsOfSending}
 use Rattle.delta_text.proofs.Feeding.{may_send}
 use Rattle.delta_loop.proofs.Lefts.{loses_more, loses_nothing, read_all}
+use Rattle.delta_loop.proofs.Limits.{within_limit}
+use Rattle.delta_loop.proofs.Opening.{fresh}
 
 not_empty : (xs : List ℕ) → 0 < length xs → is_empty xs ≡ false
 not_empty [] some = absurd (let no_byte : ⊥ = omega arith in no_byte)
@@ -64,7 +65,7 @@ module _ (v : Version) (start log0 : Option (List Move)) (left left0 : Option (L
     input = now.input ++ bytes;
     ended = false;
     at = at;
-    limit = omega (arith, now.count, within, length-append now.input bytes);
+    limit = within_limit end (length (now.input ++ bytes)) (omega (arith, now.count, within, length-append now.input bytes));
     taken = subst (λ (l : Option (List ℕ)). Loses left l (now.input ++ bytes)) (sym same) (loses_more left left0 left1 now.input bytes now.taken pulls.taken);
     used_up = λ never. cc;
   }
@@ -82,7 +83,7 @@ module _ (v : Version) (start log0 : Option (List Move)) (left left0 : Option (L
               (pulls.history (frames_of_lines v).due start now.input (header v ++ frames v now.feeds.word) now.feeds.history met);
           reads = now.feeds.reads;
         });
-        limit = omega (arith, now.count, within);
+        limit = within_limit end (length now.input) (omega (arith, now.count, within));
         taken = subst (λ (l : Option (List ℕ)). Loses left l now.input) (sym same)
             (subst (λ (bs : List ℕ). Loses left left1 bs) same_input (loses_more left left0 left1 now.input [] now.taken pulls.taken));
         used_up = λ is. read_all left left0 now.input now.taken (pulls.used_up refl);
@@ -96,9 +97,9 @@ module _ (v : Version) (start log0 : Option (List Move)) (left left0 : Option (L
     at = record {
       written = header v ++ frames v now.feeds.word;
       history = subst (λ (log : Option (List Move)). History (frames_of_lines v).due start log now.input (header v ++ frames v now.feeds.word) false) (sym same.0) now.feeds.history;
-      may = met;
+      may = (good, met);
     };
-    limit = omega (arith, now.count, within);
+    limit = within_limit ReadFailed (length now.input) (omega (arith, now.count, within));
     taken = subst (λ (l : Option (List ℕ)). Loses left l now.input) (sym same.1) now.taken;
     used_up = λ never. cc;
   }
@@ -110,7 +111,7 @@ module _ (v : Version) (start log0 : Option (List Move)) (left left0 : Option (L
       history = subst (λ (log : Option (List Move)). History (frames_of_lines v).due start log now.input (header v ++ frames v now.feeds.word) false) (sym same.0) now.feeds.history;
       may = ([], sym met ∙ sym (append-nil (header v ++ frames v now.feeds.word)));
     };
-    limit = omega (arith, now.count, within);
+    limit = within_limit Memory (length now.input) (omega (arith, now.count, within));
     taken = subst (λ (l : Option (List ℕ)). Loses left l now.input) (sym same.1) now.taken;
     used_up = λ never. cc;
   }
@@ -130,7 +131,7 @@ module _ (v : Version) (start log0 : Option (List Move)) (left left0 : Option (L
               (pulls.history (frames_of_lines v).due start now.input (header v ++ frames v now.feeds.word) now.feeds.history met);
           may = (omega (arith, now.count, length-append now.input bytes), ap (λ (bs : List ℕ). (frames_of_lines v).finding false bs) front ∙ all, met ∙ ap (frames_of_lines v).due (sym front));
         };
-        limit = omega (arith, now.count, limit, one, length-append now.input bytes);
+        limit = record { most = omega (arith, now.count, limit, one, length-append now.input bytes); past = λ more. refl };
         taken = loses_more left left0 left1 now.input bytes now.taken pulls.taken;
         used_up = λ never. cc;
       }
@@ -139,28 +140,13 @@ module _ (v : Version) (start log0 : Option (List Move)) (left left0 : Option (L
 pub goes_first : (v : Version) (start log : Option (List Move)) (left : Option (List ℕ)) (r : LineState) → Feeds v start log r [] [] false → Goes v start log left left r 0
 goes_first v start log left r feeds = record { input = []; feeds = feeds; count = refl; taken = loses_nothing left left refl }
 
--- nothing was read and nothing was written
-nothing_yet : (due : List ℕ → List ℕ) (log : Option (List Move)) → History due log log [] [] false
-nothing_yet due log = record {
-  moves = [];
-  logged = λ told is. is ∙ ap Some (sym (append-nil told));
-  read = refl;
-  written = refl;
-  at_end = refl;
-  prompt = λ before after bytes split. absurd (no_split before after bytes split);
-}
-  where
-    no_split : (before after : List Move) (bytes : List ℕ) → [] ≡ before ++ In bytes ∷ after → ⊥
-    no_split [] after bytes split = cc
-    no_split (m ∷ before) after bytes split = cc
-
 -- the header was written
 pub opens : (v : Version) (old new : Option (List Move)) (sent rest : List ℕ) → header v ≡ sent ++ rest → rest ≡ [] → Writes old new sent → Feeds v old new first_line [] [] false
 opens v old new sent rest split none writes = record {
   word = [];
   history = subst (λ (out : List ℕ). History (frames_of_lines v).due old new [] out false)
       (sym (append-nil (header v) ∙ (split ∙ (ap (λ (bs : List ℕ). sent ++ bs) none ∙ append-nil sent))))
-      (writes (frames_of_lines v).due old [] [] false (nothing_yet (frames_of_lines v).due old));
+      (writes (frames_of_lines v).due old [] [] false (fresh (frames_of_lines v).due old));
   reads = record { all = λ more. refl };
 }
 
@@ -172,10 +158,10 @@ opens_in_part v old new left new_left sent rest end split writes same of = recor
   ended = false;
   at = record {
     written = sent;
-    history = writes (frames_of_lines v).due old [] [] false (nothing_yet (frames_of_lines v).due old);
+    history = writes (frames_of_lines v).due old [] [] false (fresh (frames_of_lines v).due old);
     may = may_send (frames_of_lines v) [] false sent end of (rest, append-nil (header v) ∙ split);
   };
-  limit = omega arith;
+  limit = within_limit end 0 (omega arith);
   taken = loses_nothing left new_left same;
   used_up = λ never. cc;
 }

@@ -1,5 +1,5 @@
 -- What a conversion is to the loop, as functions of the bytes that were read, and the table of ends.
-use Rattle.std.specs.Prelude.{◌≡◌, ℕ, ◌<◌, ◌≤◌, ◌+◌, ◌^◌, List, ◌++◌, Bool, true, false, Option, Some, None, length, take, option_map, if◌then◌else◌}
+use Rattle.std.specs.Prelude.{◌≡◌, ℕ, ◌<◌, ◌^◌, List, ◌++◌, Bool, true, false, Option, Some, None, length, take, option_map, if◌then◌else◌}
 use Rattle.port.specs.declared.link.Move.{Move}
 use Rattle.port.specs.Told.{Loses}
 use Rattle.event_frame.specs.declared.version.Version.{Version}
@@ -9,7 +9,7 @@ use Rattle.delta_end.specs.declared.end.End.TheVariants.{Done, Usage, Refused, I
 use Rattle.delta_end.specs.declared.end.InputFault.{InputFault}
 use Rattle.delta_text.specs.Fault.{line_fault}
 use Rattle.delta_loop.specs.History.{History}
-use Rattle.delta_loop.specs.Return.{Begins}
+use Rattle.delta_loop.specs.Return.{Begins, IsWithinLimit}
 use Rattle.delta_text.specs.Reading.{taken, at_end, due, finding}
 
 pub record Conversion : Type 0 where
@@ -36,7 +36,7 @@ all_due C ended input = if ended then C.due input ++ C.last input else C.due inp
 abbrev pub MayEnd : Conversion → List ℕ → Bool → List ℕ → End → Type 0
 MayEnd C input ended written Done = (ended ≡ true) × (C.finding true input ≡ None) × (written ≡ all_due C true input)
 MayEnd C input ended written (Input fault) = (C.finding ended input ≡ Some fault) × (written ≡ all_due C ended input)
-MayEnd C input ended written ReadFailed = written ≡ C.due input
+MayEnd C input ended written ReadFailed = (C.finding ended input ≡ None) × (written ≡ C.due input)
 MayEnd C input ended written WriteFailed = Begins written (all_due C ended input)
 MayEnd C input ended written Memory = Begins written (all_due C ended input)
 MayEnd C input ended written Long = (2 ^ 40 < length input) × (C.finding false (take (2 ^ 40) input) ≡ None) × (written ≡ C.due (take (2 ^ 40) input))
@@ -53,11 +53,11 @@ pub record Ended (C : Conversion) (start now : Option (List Move)) (input : List
   pub history : History C.due start now input written ended
   pub may : MayEnd C input ended written end
 
--- a run that ended so, the input that it read, at most one byte more than it may, and what it did to what was left
+-- a run that ended so, the input that it read, one byte more than it may only where that is too long, and what it did to what was left
 pub record Ran (C : Conversion) (start now : Option (List Move)) (old_left new_left : Option (List ℕ)) (end : End) : Type 0 where
   pub input : List ℕ
   pub ended : Bool
   pub at : Ended C start now input ended end
-  pub limit : length input ≤ 2 ^ 40 + 1
+  pub limit : IsWithinLimit end (length input)
   pub taken : Loses old_left new_left input
   pub used_up : ended ≡ true → (told : List ℕ) → old_left ≡ Some told → told ≡ input

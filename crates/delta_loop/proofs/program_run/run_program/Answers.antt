@@ -1,4 +1,4 @@
-use Rattle.delta_loop.proofs.Returning.{ran_prompt, ran_within, ran_return}
+use Rattle.delta_loop.proofs.Returning.{ran_prompt, ran_reads, ran_return}
 use Rattle.delta_end.proofs.Statuses.{status_is, status_rose_in_link, status_still_in_link, note_whole}
 use Rattle.delta_loop.proofs.Completeness.{good_end, good_status}
 use Rattle.delta_loop.proofs.program_run.run_program.Goals as goal
@@ -6,14 +6,12 @@ use Rattle.delta_loop.proofs.program_run.run_program.Goals as goal
 pub returns-clause-prompt : goal.returns-clause-prompt
 returns-clause-prompt g c P begun = ran_prompt P _ _ _ _ c.run_machine-end.result (c.run_machine-end.ensures.ran P begun).ran
 
-pub returns-clause-limit : goal.returns-clause-limit
-returns-clause-limit g c P begun = ran_within P _ _ _ _ c.run_machine-end.result (c.run_machine-end.ensures.ran P begun).ran
-
 pub returns-clause-answer : goal.returns-clause-answer
 returns-clause-answer g c = (
   c.run_machine-end.result,
   c.run_machine-end.ensures.end,
   status_is _ _ _ _ _ c.answer.ensures c.note-said.ensures.cause,
+  λ P begun. ran_reads P _ _ _ _ c.run_machine-end.result (c.run_machine-end.ensures.ran P begun).ran,
   λ P begun. ran_return P _ _ _ _ c.run_machine-end.result c.run_machine-end.ensures.end (c.run_machine-end.ensures.ran P begun).ran,
   c.run_machine-end.ensures.read,
   c.run_machine-end.ensures.write,

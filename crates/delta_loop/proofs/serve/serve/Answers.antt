@@ -1,4 +1,4 @@
-use Rattle.std.proofs.Common.{◌≡◌, ◌+◌, ◌<◌, ◌≤◌, ◌^◌, ℕ, length, take, drop, ◌∙◌, subst, arith, length-take, length-append, length-drop}
+use Rattle.std.proofs.Common.{rules, ◌≡◌, ◌+◌, ◌<◌, ◌≤◌, ◌^◌, ℕ, length, take, drop, ◌∙◌, subst, arith, length-take, length-append, length-drop}
 use Rattle.delta_loop.specs.Loop.{Goes}
 use Rattle.delta_loop.proofs.Serving.{feeds_more, goes_more, ended_in_piece, ran_to_end, ended_in_pull}
 use Rattle.delta_loop.proofs.Counts.{live_gets}
@@ -10,6 +10,9 @@ returns-in-Ok-eq0-clause-ran g c P start before =
     let none : c.in-Ok-eq0.field-0 ≡ 0 = omega (arith, c.in-Ok-eq0.field-0-test, c.in-Ok-eq0.field-0-is) in
     let pulls = rw none at c.in-Ok-eq0.ensures.pulled in
     ran_to_end g.M.Stepper.stands P start _ _ _ _ _ _ now _ _ _ _ (omega (arith, c.pieces.invariant.5)) pulls (c.finish.ensures.end P)
+
+pub returns-in-Ok-eq0-clause-read : goal.returns-in-Ok-eq0-clause-read
+returns-in-Ok-eq0-clause-read g c = search rules
 
 pub returns-in-Err-clause-ran : goal.returns-in-Err-clause-ran
 returns-in-Err-clause-ran g c P start before =
@@ -37,6 +40,9 @@ pieces-preserved g c =
       c.in-Ok-feed_whole.ensures.read ∙ c.in-Ok.ensures.read ∙ c.pieces.invariant.7,
       c.in-Ok-feed_whole.ensures.write ∙ c.pull.ensures.write ∙ c.pieces.invariant.8,
     )
+
+pub pieces-smaller : goal.pieces-smaller
+pieces-smaller g c = search rules
 
 pub returns-in-Err-feed_whole-clause-ran : goal.returns-in-Err-feed_whole-clause-ran
 returns-in-Err-feed_whole-clause-ran g c P start before =

@@ -4,14 +4,20 @@ use Rattle.delta_words.specs.CommandTask.{asked}
 use Rattle.delta_run.specs.CommandLine.{frames_of}
 use Rattle.delta_run.specs.Text.{OfFile, RanText}
 use Rattle.delta_run.specs.Printed.{PrintedText}
+use Rattle.delta_run.specs.Generated.{GeneratedLine}
 use Rattle.delta_run.specs.Checked.{ChecksText}
 use Rattle.delta_run.specs.Evaluated.{EvaluatedText}
-use Rattle.delta_run.proofs.Budgets.{run_is_small, eval_is_small}
-use Rattle.delta_run.proofs.CommandLines.{same_run, same_check, same_eval, same_print}
+use Rattle.delta_end.specs.declared.end.End.TheVariants.{Usage, Memory}
+use Rattle.delta_loop.specs.Answer.{ReadsWell}
+use Rattle.delta_loop.proofs.Returning.{adds_none, ran_reads, unread}
+use Rattle.delta_text.specs.Lines.{lines_of_frames}
+use Rattle.delta_run.proofs.Budgets.{run_is_small, eval_is_small, load_is_small}
+use Rattle.delta_run.proofs.Conversions.{converted_reads}
+use Rattle.delta_run.proofs.CommandLines.{same_run, same_check, same_eval, same_print, same_gen, asks_something}
 use Rattle.delta_run.proofs.command.run_command.Goals as goal
 
 pub returns-in-Ok-Run-clause-command : goal.returns-in-Ok-Run-clause-command
-returns-in-Ok-Run-clause-command g c nothing = absurd (nothing _ (c.in-Ok-Run.ensures.ok ∙ ap (λ t. Some (asked t)) c.in-Ok-Run.field-0-is) refl)
+returns-in-Ok-Run-clause-command g c nothing = absurd (asks_something nothing (c.in-Ok-Run.ensures.ok ∙ ap (λ t. Some (asked t)) c.in-Ok-Run.field-0-is))
 
 pub run_file-requires : goal.run_file-requires
 run_file-requires g c = run_is_small (map string_bytes c.args.words.now) _ _ _ (c.in-Ok-Run.ensures.ok ∙ ap (λ t. Some (asked t)) c.in-Ok-Run.field-0-is)
@@ -29,13 +35,13 @@ returns-in-Ok-Run-clause-ran g c file budget v is =
     (c.deref.ensures ∙ same.0) with_budget
 
 pub returns-in-Ok-Frames-clause-command : goal.returns-in-Ok-Frames-clause-command
-returns-in-Ok-Frames-clause-command g c nothing = absurd (nothing _ (c.in-Ok-Frames.ensures.ok ∙ ap (λ t. Some (asked t)) c.in-Ok-Frames.field-0-is) refl)
+returns-in-Ok-Frames-clause-command g c nothing = absurd (asks_something nothing (c.in-Ok-Frames.ensures.ok ∙ ap (λ t. Some (asked t)) c.in-Ok-Frames.field-0-is))
 
 pub returns-in-Ok-Text-clause-command : goal.returns-in-Ok-Text-clause-command
-returns-in-Ok-Text-clause-command g c nothing = absurd (nothing _ (c.in-Ok-Text.ensures.ok ∙ ap (λ t. Some (asked t)) c.in-Ok-Text.field-0-is) refl)
+returns-in-Ok-Text-clause-command g c nothing = absurd (asks_something nothing (c.in-Ok-Text.ensures.ok ∙ ap (λ t. Some (asked t)) c.in-Ok-Text.field-0-is))
 
 pub returns-in-Ok-Print-clause-command : goal.returns-in-Ok-Print-clause-command
-returns-in-Ok-Print-clause-command g c nothing = absurd (nothing _ (c.in-Ok-Print.ensures.ok ∙ ap (λ t. Some (asked t)) c.in-Ok-Print.field-0-is) refl)
+returns-in-Ok-Print-clause-command g c nothing = absurd (asks_something nothing (c.in-Ok-Print.ensures.ok ∙ ap (λ t. Some (asked t)) c.in-Ok-Print.field-0-is))
 
 pub returns-in-Ok-Print-clause-printed : goal.returns-in-Ok-Print-clause-printed
 returns-in-Ok-Print-clause-printed g c file is =
@@ -44,7 +50,7 @@ returns-in-Ok-Print-clause-printed g c file is =
     (c.deref-in-Ok-Print.ensures ∙ same) c.print_file.ensures.printed
 
 pub returns-in-Ok-Check-clause-command : goal.returns-in-Ok-Check-clause-command
-returns-in-Ok-Check-clause-command g c nothing = absurd (nothing _ (c.in-Ok-Check.ensures.ok ∙ ap (λ t. Some (asked t)) c.in-Ok-Check.field-0-is) refl)
+returns-in-Ok-Check-clause-command g c nothing = absurd (asks_something nothing (c.in-Ok-Check.ensures.ok ∙ ap (λ t. Some (asked t)) c.in-Ok-Check.field-0-is))
 
 pub returns-in-Ok-Check-clause-checked : goal.returns-in-Ok-Check-clause-checked
 returns-in-Ok-Check-clause-checked g c file is =
@@ -52,7 +58,7 @@ returns-in-Ok-Check-clause-checked g c file is =
     subst (λ (name : List ℕ). OfFile (g.S.Shelf.holds c.args.shelf.now) name (λ text. ChecksText text c.check_file.result)) (c.deref-in-Ok-Check.ensures ∙ same) c.check_file.ensures.checked
 
 pub returns-in-Ok-Eval-clause-command : goal.returns-in-Ok-Eval-clause-command
-returns-in-Ok-Eval-clause-command g c nothing = absurd (nothing _ (c.in-Ok-Eval.ensures.ok ∙ ap (λ t. Some (asked t)) c.in-Ok-Eval.field-0-is) refl)
+returns-in-Ok-Eval-clause-command g c nothing = absurd (asks_something nothing (c.in-Ok-Eval.ensures.ok ∙ ap (λ t. Some (asked t)) c.in-Ok-Eval.field-0-is))
 
 pub eval_file-requires : goal.eval_file-requires
 eval_file-requires g c = eval_is_small (map string_bytes c.args.words.now) _ _ _ (c.in-Ok-Eval.ensures.ok ∙ ap (λ t. Some (asked t)) c.in-Ok-Eval.field-0-is)
@@ -68,3 +74,47 @@ returns-in-Ok-Eval-clause-evaluated g c file budget v is =
     subst (λ (name : List ℕ). OfFile (g.S.Shelf.holds c.args.shelf.now) name (λ text. EvaluatedText text budget (frames_of v)
     (g.L.Link.log c.args.link.now) (g.L.Link.log c.eval_file.new.link) (g.L.Link.left c.args.link.now) (g.L.Link.left c.eval_file.new.link) c.eval_file.result))
     (c.deref-in-Ok-Eval.ensures ∙ same.0) with_budget
+
+-- what each command reads
+
+pub returns-in-Ok-Run-clause-reads : goal.returns-in-Ok-Run-clause-reads
+returns-in-Ok-Run-clause-reads g c = c.run_file.ensures.reads
+
+pub returns-in-Ok-Frames-clause-reads : goal.returns-in-Ok-Frames-clause-reads
+returns-in-Ok-Frames-clause-reads g c = converted_reads _ _ _ _ _ c.write_frames.result c.write_frames.ensures.ran
+
+pub returns-in-Ok-Text-clause-reads : goal.returns-in-Ok-Text-clause-reads
+returns-in-Ok-Text-clause-reads g c = ran_reads lines_of_frames _ _ _ _ c.write_lines.result c.write_lines.ensures.ran
+
+pub returns-in-Ok-Print-clause-reads : goal.returns-in-Ok-Print-clause-reads
+returns-in-Ok-Print-clause-reads g c = c.print_file.ensures.reads
+
+pub returns-in-Ok-Check-clause-reads : goal.returns-in-Ok-Check-clause-reads
+returns-in-Ok-Check-clause-reads g c = adds_none _ _ (ReadsWell c.check_file.result) refl (unread c.check_file.result)
+
+pub returns-in-Ok-Eval-clause-reads : goal.returns-in-Ok-Eval-clause-reads
+returns-in-Ok-Eval-clause-reads g c = c.eval_file.ensures.reads
+
+pub returns-in-Ok-Gen-clause-reads : goal.returns-in-Ok-Gen-clause-reads
+returns-in-Ok-Gen-clause-reads g c = adds_none _ _ (ReadsWell Usage) refl (unread Usage)
+
+pub returns-in-Err-Usage-clause-reads : goal.returns-in-Err-Usage-clause-reads
+returns-in-Err-Usage-clause-reads g c = adds_none _ _ (ReadsWell Usage) refl (unread Usage)
+
+pub returns-in-Err-Memory-clause-reads : goal.returns-in-Err-Memory-clause-reads
+returns-in-Err-Memory-clause-reads g c = adds_none _ _ (ReadsWell Memory) refl (unread Memory)
+
+pub returns-in-Ok-Gen-clause-command : goal.returns-in-Ok-Gen-clause-command
+returns-in-Ok-Gen-clause-command g c nothing = absurd (asks_something nothing (c.in-Ok-Gen.ensures.ok ∙ ap (λ t. Some (asked t)) c.in-Ok-Gen.field-0-is))
+
+pub returns-in-Ok-Gen-clause-generated : goal.returns-in-Ok-Gen-clause-generated
+returns-in-Ok-Gen-clause-generated g c start items is =
+    let same = same_gen _ _ _ _ (sym (c.in-Ok-Gen.ensures.ok ∙ ap (λ t. Some (asked t)) c.in-Ok-Gen.field-0-is) ∙ is) in
+    subst (λ (s : ℕ). GeneratedLine s items (g.L.Link.log c.args.link.now) (g.L.Link.log c.gen_load.new.link) c.gen_load.result) same.0
+    (subst (λ (i : ℕ). GeneratedLine c.in-Ok-Gen.start i (g.L.Link.log c.args.link.now) (g.L.Link.log c.gen_load.new.link) c.gen_load.result) same.1 c.gen_load.ensures.told)
+
+pub gen_load-requires-start : goal.gen_load-requires-start
+gen_load-requires-start g c = (load_is_small (map string_bytes c.args.words.now) _ _ (c.in-Ok-Gen.ensures.ok ∙ ap (λ t. Some (asked t)) c.in-Ok-Gen.field-0-is)).0
+
+pub gen_load-requires-items : goal.gen_load-requires-items
+gen_load-requires-items g c = (load_is_small (map string_bytes c.args.words.now) _ _ (c.in-Ok-Gen.ensures.ok ∙ ap (λ t. Some (asked t)) c.in-Ok-Gen.field-0-is)).1

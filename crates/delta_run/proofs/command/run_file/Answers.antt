@@ -1,7 +1,10 @@
 -- A run of the file's text is one of the text that the shelf told.
-use Rattle.std.proofs.Common.{List, ℕ, ◌∙◌, subst}
+use Rattle.std.proofs.Common.{List, ℕ, ◌∙◌, refl, subst}
+use Rattle.delta_end.specs.declared.end.End.TheVariants.{Memory, FileFailed}
+use Rattle.delta_loop.specs.Answer.{ReadsWell}
+use Rattle.delta_loop.proofs.Returning.{adds_none, unread}
 use Rattle.delta_run.specs.Text.{RanText}
-use Rattle.delta_run.proofs.TextRuns.{ran_text}
+use Rattle.delta_run.proofs.TextRuns.{ran_text, text_reads}
 use Rattle.delta_run.proofs.command.run_file.Goals as goal
 
 pub returns-in-Ok-clause-ran : goal.returns-in-Ok-clause-ran
@@ -10,3 +13,13 @@ returns-in-Ok-clause-ran g c files tells =
     (g.L.Link.left c.args.link.now) (g.L.Link.left c.run_source.new.link) c.run_source.result)
     (c.deref.ensures.value ∙ c.in-Ok.ensures.bytes files tells)
     (ran_text c.deref.result.now c.args.budget c.args.version _ _ _ _ c.run_source.result c.run_source.ensures.ran)
+
+pub returns-in-Ok-clause-reads : goal.returns-in-Ok-clause-reads
+returns-in-Ok-clause-reads g c =
+    text_reads c.deref.result.now c.args.budget c.args.version _ _ _ _ c.run_source.result (ran_text c.deref.result.now c.args.budget c.args.version _ _ _ _ c.run_source.result c.run_source.ensures.ran)
+
+pub returns-in-Err-Memory-clause-reads : goal.returns-in-Err-Memory-clause-reads
+returns-in-Err-Memory-clause-reads g c = adds_none _ _ (ReadsWell Memory) refl (unread Memory)
+
+pub returns-in-Err-Failed-clause-reads : goal.returns-in-Err-Failed-clause-reads
+returns-in-Err-Failed-clause-reads g c = adds_none _ _ (ReadsWell FileFailed) refl (unread FileFailed)

@@ -1,11 +1,12 @@
 use Rattle.delta_end.proofs.Statuses.{two_is_usage, status_is, status_rose, status_still, note_whole}
 use Rattle.delta_text.specs.Conversion.{frames_of_lines}
 use Rattle.delta_run.specs.CommandLine.{frames_of}
-use Rattle.delta_run.proofs.TextRuns.{text_prompt, text_within, text_return, text_complete, text_refused, two_or_eight}
+use Rattle.delta_run.proofs.TextRuns.{text_prompt, text_return, text_complete, text_refused, two_or_eight}
 use Rattle.delta_run.proofs.SettledTexts.{text_settled}
 use Rattle.delta_run.proofs.Conversions.{by_either, either_well}
 use Rattle.delta_run.proofs.Lined.{lined, lines_well}
 use Rattle.delta_run.proofs.Printed.{prints_text, printed_well, refused_well}
+use Rattle.delta_run.proofs.Generated.{generates, generates_well}
 use Rattle.delta_run.proofs.Checked.{passes_accepted, refuses_unaccepted}
 use Rattle.delta_run.proofs.Evaluated.{evals_text, evals_well, stops_well, refuses_unwritable}
 use Rattle.delta_run.proofs.Owing.{owes_by}
@@ -33,7 +34,7 @@ returns-clause-owed g c = (
   owes_by c.args.words.now _ _ c.run_command-end.result _
       (λ file budget v is. record {
         prompt = λ files tells. text_prompt _ budget (frames_of v) _ _ _ _ c.run_command-end.result (c.run_command-end.ensures.ran file budget v is files tells);
-        limit = λ files tells. text_within _ budget (frames_of v) _ _ _ _ c.run_command-end.result (c.run_command-end.ensures.ran file budget v is files tells);
+        reads = c.run_command-end.ensures.reads;
         ends = λ files tells. text_return _ budget (frames_of v) _ _ _ _ c.run_command-end.result (c.run_command-end.ensures.ran file budget v is files tells);
         complete = λ files tells file_still read write note.
             text_complete _ budget (frames_of v) _ _ _ _ _ _ _ _ file_still note _ _ c.note-said.ensures.cause _ _ _ _ read write c.run_command-end.result
@@ -46,6 +47,7 @@ returns-clause-owed g c = (
             (status_is _ _ _ _ _ c.answer.ensures c.note-said.ensures.cause);
       })
       (λ file budget v is. record {
+        reads = c.run_command-end.ensures.reads;
         ends = λ files tells. evals_text _ budget (frames_of v) _ _ _ _ c.run_command-end.result (c.run_command-end.ensures.evaluated file budget v is files tells);
         complete = λ files tells file_still read write note p core accepted w all word tells_input good within.
             evals_well _ budget (frames_of v) _ _ _ _ _ _ _ _ file_still note _ _ c.note-said.ensures.cause _ _ _ _ read write p core accepted w all word tells_input good c.run_command-end.result
@@ -74,6 +76,13 @@ returns-clause-owed g c = (
         refused = λ files tells file_still write note.
             refused_well _ _ _ _ _ _ _ _ _ file_still write note _ _ c.note-said.ensures.cause c.run_command-end.result (c.run_command-end.ensures.printed file is files tells)
             c.run_command-end.ensures.file c.run_command-end.ensures.write c.answer.ensures;
+      })
+      (λ start items is. record {
+        unread = c.run_command-end.ensures.generating start items is;
+        ends = generates start items _ _ c.run_command-end.result (c.run_command-end.ensures.generated start items is);
+        complete = λ write note.
+            generates_well start items _ _ _ _ _ _ write note _ _ c.note-said.ensures.cause c.run_command-end.result (c.run_command-end.ensures.generated start items is)
+            c.run_command-end.ensures.write c.answer.ensures;
       })
       (λ is. record {
         ends = lined _ _ _ _ c.run_command-end.result (c.run_command-end.ensures.lined is);
