@@ -10,10 +10,6 @@ const IN_TURN: &str = "main(x : Int; y : Int) : Int . Int = (x; y)";
 
 const LOOP: &str = "fun loop(x : Int) : Int = loop(x)\nmain(x : Int) : Int = loop(x)";
 
-const NEST: &str =
-    "fun nest{n : Int}(x : Int) : Int = if n < 1 then x else let y = nest{n - 1}(x) in y
-main(x : Int) : Int = nest{1001}(x)";
-
 // A text that is checked, and what is told of it.
 #[derive(Clone, Copy)]
 struct Text {
@@ -127,8 +123,8 @@ fn repeated(
 fn limits_hold(alloc: Global) -> Result<bool, Fail> {
     let long = repeated(alloc, "", " ", 1_048_577, "")?;
     let marks = repeated(alloc, "main(x : Int) : Int = ", "(", 64, "x")?;
-    let tall = repeated(alloc, "main() : Int", "*", 64, " = nil")?;
     let first = repeated(alloc, "type A = Int", "*", 40, "\nmain() : A")?;
+    let tall = repeated(alloc, first.as_str(), "*", 24, " = nil")?;
     let wide = repeated(alloc, first.as_str(), "*", 23, " = nil")?;
     Ok(
         tells(
@@ -148,7 +144,7 @@ fn limits_hold(alloc: Global) -> Result<bool, Fail> {
             "check program",
             tall.as_bytes(),
             b"",
-            b"delta: program refused: TooTall at 9\n",
+            b"delta: program refused: TooTall at 62\n",
         )? && tells(
             alloc,
             "run program",
@@ -271,11 +267,6 @@ const INPUTS: &[Input] = &[
         words: "run program --budget 3",
         text: LOOP,
         note: "delta: stopped: Budget at 0\n",
-        ..FRAMES
-    },
-    Input {
-        text: NEST,
-        note: "delta: stopped: Deep at 0\n",
         ..FRAMES
     },
     Input {
