@@ -1,0 +1,349 @@
+//! The reads and the writes of the link failing in turn, the shelf failing, and the sink failing before or in a note.
+
+use crate::outside::{Answer, Given, breaks_off, holds};
+use crate::tables::{CHECK, COMMANDS, Command, GIVEN, LINES, PRINT, PRINTED, SIX, THREE};
+use std::alloc::Global;
+use std::test::Fail;
+
+// What is written before the read with a number.
+fn written_before(command: &Command, read: usize) -> &'static [u8] {
+    for (below, bytes) in command.reads {
+        if read < *below {
+            return bytes;
+        }
+    }
+    command.whole
+}
+
+// Whether a command answers as it must where a read fails, for each of them: pieces have one byte.
+fn answers_failing_reads(alloc: Global, command: &Command) -> Result<bool, Fail> {
+    let mut all = true;
+    for read in 0..=command.given.input.len() {
+        let given = Given {
+            piece: 1,
+            fail_reads: &[read as u64],
+            ..command.given
+        };
+        let answer = (
+            written_before(command, read),
+            7,
+            "delta: outside fault: input\n",
+        );
+        all = all && holds(alloc, &given, answer)?;
+    }
+    Ok(all)
+}
+
+#[test]
+fn reads_fail_in_turn(rt: HostRuntime) -> Result<(), Fail> {
+    for command in COMMANDS {
+        assert!(rt;
+            answers_failing_reads(rt.alloc(), command)?,
+            "{}",
+            command.given.words
+        );
+    }
+    Ok(())
+}
+
+// Whether a command that writes these bytes in all answers as it must where a write fails, for each of them:
+// writes take one byte.
+fn answers_failing_writes(alloc: Global, given: &Given<'_>, whole: &[u8]) -> Result<bool, Fail> {
+    let mut all = true;
+    for write in 0..whole.len() {
+        let given = Given {
+            most: 1,
+            fail_writes: &[write as u64],
+            ..*given
+        };
+        let answer = (&whole[..write], 7, "delta: outside fault: output\n");
+        all = all && holds(alloc, &given, answer)?;
+    }
+    Ok(all)
+}
+
+#[test]
+fn writes_fail_in_turn(rt: HostRuntime) -> Result<(), Fail> {
+    for command in COMMANDS {
+        let (given, whole) = (&command.given, command.whole);
+        assert!(rt;
+            answers_failing_writes(rt.alloc(), given, whole)?,
+            "{}",
+            given.words
+        );
+    }
+    assert!(rt; answers_failing_writes(rt.alloc(), &PRINT, PRINTED)?);
+    Ok(())
+}
+
+// A command, and what it must write and answer.
+type Row = (Given<'static>, Answer<'static>);
+
+// The shelf's first call fails.
+const WITHOUT_FILES: Given<'static> = Given {
+    fail_calls: &[0],
+    ..GIVEN
+};
+
+const NO_FILE: Answer<'static> = (b"", 7, "delta: outside fault: file\n");
+
+const CALLS: &[Row] = &[
+    (WITHOUT_FILES, NO_FILE),
+    (
+        Given {
+            words: "eval program",
+            ..WITHOUT_FILES
+        },
+        NO_FILE,
+    ),
+    (
+        Given {
+            words: "print program",
+            ..WITHOUT_FILES
+        },
+        NO_FILE,
+    ),
+    (
+        Given {
+            words: "check program",
+            ..WITHOUT_FILES
+        },
+        NO_FILE,
+    ),
+    (
+        Given {
+            words: "run gone",
+            ..GIVEN
+        },
+        NO_FILE,
+    ),
+    (
+        Given {
+            words: "text",
+            ..WITHOUT_FILES
+        },
+        (LINES, 0, ""),
+    ),
+    (
+        Given {
+            words: "text --frames",
+            input: LINES,
+            ..WITHOUT_FILES
+        },
+        (THREE, 0, ""),
+    ),
+    (
+        Given {
+            fail_reads: &[0],
+            ..PRINT
+        },
+        (PRINTED, 0, ""),
+    ),
+    (
+        Given {
+            fail_reads: &[0],
+            fail_writes: &[0],
+            ..CHECK
+        },
+        (b"", 0, ""),
+    ),
+];
+
+// Whether each row's command writes and answers what it must.
+fn hold(alloc: Global, rows: &[Row]) -> Result<bool, Fail> {
+    let mut all = true;
+    for (given, answer) in rows {
+        all = all && holds(alloc, given, *answer)?;
+    }
+    Ok(all)
+}
+
+#[test]
+fn shelf_fails(rt: HostRuntime) -> Result<(), Fail> {
+    assert!(rt; hold(rt.alloc(), CALLS)?);
+    Ok(())
+}
+
+// The sink fails at once.
+const SILENT: Given<'static> = Given {
+    fail_notes: &[0],
+    ..GIVEN
+};
+
+// Where there is no note status 6 is 7, and each other one stays.
+const SILENCED: &[Row] = &[
+    (SILENT, (SIX, 0, "")),
+    (
+        Given {
+            input: b"DEV1",
+            ..SILENT
+        },
+        (b"DEV1", 7, ""),
+    ),
+    (
+        Given {
+            input: b"",
+            ..SILENT
+        },
+        (b"DEV1", 4, ""),
+    ),
+    (
+        Given {
+            words: "run program --budget 0",
+            ..SILENT
+        },
+        (b"DEV1", 5, ""),
+    ),
+    (
+        Given {
+            words: "run program program",
+            ..SILENT
+        },
+        (b"", 2, ""),
+    ),
+    (
+        Given {
+            fail_reads: &[0],
+            ..SILENT
+        },
+        (b"DEV1", 7, ""),
+    ),
+    (
+        Given {
+            words: "eval program",
+            input: b"DEV1",
+            ..SILENT
+        },
+        (b"DEV1", 7, ""),
+    ),
+    (
+        Given {
+            words: "eval program --budget 1",
+            ..SILENT
+        },
+        (b"", 5, ""),
+    ),
+    (
+        Given {
+            words: "text",
+            input: b"DEV1\0",
+            ..SILENT
+        },
+        (b"", 4, ""),
+    ),
+    (
+        Given {
+            words: "text --frames",
+            input: b"end\ncat",
+            ..SILENT
+        },
+        (b"DEV1\0\x16", 4, ""),
+    ),
+    (
+        Given {
+            words: "print program",
+            text: b"main",
+            ..SILENT
+        },
+        (b"", 3, ""),
+    ),
+    (
+        Given {
+            words: "check program",
+            text: b"main",
+            ..SILENT
+        },
+        (b"", 3, ""),
+    ),
+];
+
+#[test]
+fn sink_fails_at_once(rt: HostRuntime) -> Result<(), Fail> {
+    assert!(rt; hold(rt.alloc(), SILENCED)?);
+    Ok(())
+}
+
+// The sink fails once a part of the note was written.
+const TORN: &[Row] = &[
+    (
+        Given {
+            input: b"",
+            fail_notes: &[1],
+            ..GIVEN
+        },
+        (b"DEV1", 4, "delta: input refused: Truncated at 0\n"),
+    ),
+    (
+        Given {
+            input: b"",
+            fail_notes: &[2],
+            ..GIVEN
+        },
+        (b"DEV1", 4, "delta: input refused: Truncated at 0\n"),
+    ),
+    (
+        Given {
+            words: "run program --budget 0",
+            fail_notes: &[1],
+            ..GIVEN
+        },
+        (b"DEV1", 5, "delta: stopped: Budget at 0\n"),
+    ),
+    (
+        Given {
+            words: "eval program --budget 1",
+            fail_notes: &[2],
+            ..GIVEN
+        },
+        (b"", 5, "delta: stopped: Budget at 0\n"),
+    ),
+    (
+        Given {
+            words: "text",
+            input: b"DEV1\0",
+            fail_notes: &[1],
+            ..GIVEN
+        },
+        (b"", 4, "delta: input refused: Truncated at 5\n"),
+    ),
+    (
+        Given {
+            words: "text --frames",
+            input: b"end\ncat",
+            fail_notes: &[2],
+            ..GIVEN
+        },
+        (b"DEV1\0\x16", 4, "delta: input refused: BadWord at 4\n"),
+    ),
+    (
+        Given {
+            text: b"\xff",
+            fail_notes: &[1],
+            ..PRINT
+        },
+        (b"", 3, "delta: program refused: BadUtf8 at 0\n"),
+    ),
+    (
+        Given {
+            text: b"\xff",
+            fail_notes: &[2],
+            ..CHECK
+        },
+        (b"", 3, "delta: program refused: BadUtf8 at 0\n"),
+    ),
+];
+
+// Whether each row's command writes and answers what it must, with a part of the note alone.
+fn break_off(alloc: Global, rows: &[Row]) -> Result<bool, Fail> {
+    let mut all = true;
+    for (given, answer) in rows {
+        all = all && breaks_off(alloc, given, *answer)?;
+    }
+    Ok(all)
+}
+
+#[test]
+fn sink_fails_in_a_note(rt: HostRuntime) -> Result<(), Fail> {
+    assert!(rt; break_off(rt.alloc(), TORN)?);
+    Ok(())
+}

@@ -1,0 +1,13 @@
+//! Tests of what commands do with hostile bytes, and where what is outside fails.
+#![tactic(auto)]
+
+#[cfg(test)]
+mod failing_ends;
+#[cfg(test)]
+mod hostile_input;
+#[cfg(test)]
+mod hostile_text;
+#[cfg(test)]
+mod outside;
+#[cfg(test)]
+mod tables;
