@@ -56,15 +56,15 @@ callers-more marks f bs g b l e =
     ap (λ t. calls_from marks 0 (map core_body_of t) f) (ap (λ n. take n bs) (add-one g) ∙ take-suc bs g b l ∙ ap (λ d. take g bs ++ d ∷ []) (sym e))
     ∙ ap (λ t. calls_from marks 0 t f) (map-last (take g bs) b)
     ∙ calls_from-last marks 0 (map core_body_of (take g bs)) (core_body_of b) f
-    ∙ ap (λ n. calls_from marks 0 (map core_body_of (take g bs)) f || (is_marked marks n && holds f (calls_in (core_body_of b).body))) (length-front bs g l)
+    ∙ ap (λ n. calls_from marks 0 (map core_body_of (take g bs)) f || (is_marked marks n && holds f (calls_in (core_body_of b).body))) (omega (arith, length-front bs g l))
 
 -- where one round more changes nothing, no later one does
 pub still_later : {A : Type 0} (f : A → A) (a : A) (k n : ℕ) → k ≤ n → f (repeated k f a) ≡ repeated k f a → repeated n f a ≡ repeated k f a
 still_later f a k zero l e = let none : k ≡ 0 = omega (arith, l) in ap (λ m. repeated m f a) (sym none)
-still_later f a k (suc n) l e = ⊎_elim before same (below_or_same k (suc n) (omega (arith, l)))
+still_later f a k (suc n) l e = ⊎_elim (before (λ h. still_later f a k n h e)) same (below_or_same k (suc n) (omega (arith, l)))
   where
-    before : k < suc n → repeated (suc n) f a ≡ repeated k f a
-    before h = let less : k ≤ n = omega (arith, h) in ap f (still_later f a k n less e) ∙ e
+    before : (k ≤ n → repeated n f a ≡ repeated k f a) → k < suc n → repeated (suc n) f a ≡ repeated k f a
+    before rest h = let less : k ≤ n = omega (arith, h) in ap f (rest less) ∙ e
 
     same : k ≡ suc n → repeated (suc n) f a ≡ repeated k f a
     same h = ap (λ m. repeated m f a) (sym h)

@@ -32,10 +32,10 @@ below_or_same f n l = go (ltb f n) refl
 -- a table has at each of its places what it is made of
 pub table_at : {A : Type 0} (n : ℕ) (g : ℕ → A) (d : A) (f : ℕ) → f < n → slice_index_or (tabulated n g) f d ≡ g f
 table_at zero g d f h = absurd (omega (arith, h))
-table_at (suc n) g d f h = ⊎_elim below same (below_or_same f n h)
+table_at (suc n) g d f h = ⊎_elim (below (table_at n g d f)) same (below_or_same f n h)
   where
-    below : f < n → slice_index_or (tabulated n g ++ g n ∷ []) f d ≡ g f
-    below l = let k = length-tabulated n g in let less : f < length (tabulated n g) = omega (arith, l, k) in index_longer (tabulated n g) (g n) d f less ∙ table_at n g d f l
+    below : (f < n → slice_index_or (tabulated n g) f d ≡ g f) → f < n → slice_index_or (tabulated n g ++ g n ∷ []) f d ≡ g f
+    below rest l = let k = length-tabulated n g in let less : f < length (tabulated n g) = omega (arith, l, k) in index_longer (tabulated n g) (g n) d f less ∙ rest l
 
     same : f ≡ n → slice_index_or (tabulated n g ++ g n ∷ []) f d ≡ g f
     same e = index_last (tabulated n g) (g n) d f (e ∙ sym (length-tabulated n g)) ∙ ap g (sym e)
@@ -127,7 +127,8 @@ module _ (funs : List CoreBody) (first : List Bool) (sized : length first ≡ le
       let below = marked_below marks g h in
       let number = length-rounds (length funs) in
       let less : g < length funs = omega (arith, below, number) in
-      let called : calls_from marks 0 funs f ≡ true = called_from marks 0 funs g f less h k in
+      let there : is_marked marks (0 + g) ≡ true = subst (λ n. is_marked marks n ≡ true) (omega arith) h in
+      let called : calls_from marks 0 funs f ≡ true = called_from marks 0 funs g f less there k in
       sym (ap (λ ms. is_marked ms f) still_at_last)
       ∙ (table_at (length funs) (λ n. is_marked marks n || calls_from marks 0 funs n) false f l ∙ or_second (is_marked marks f) _ called)
 

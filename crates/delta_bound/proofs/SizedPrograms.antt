@@ -2,7 +2,6 @@
 use Rattle.std.proofs.Common.{◌≡◌, ◌∙◌, ◌<◌, ◌+◌, ℕ, zero, suc, Bool, true, false, List, [], ◌∷◌, map, length, if◌then◌else◌, IsTrue, ap, refl, sym, subst, arith}
 use Rattle.std.proofs.lemmas.Bool.{ltb-true}
 use Rattle.std.specs.Prelude.{Some, None, slice_index_or}
-use Rattle.std.specs.All.{All}
 use Rattle.bunch.specs.Names.{holds}
 use Rattle.core_term.specs.declared.program.Body.{Body}
 use Rattle.core_term.specs.declared.program.Core.{Core}

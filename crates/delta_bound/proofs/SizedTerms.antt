@@ -1,8 +1,8 @@
 -- A term that counts no name without a size, and calls only functions with numbers, has a bound, and it is at most
 -- the limit.
 use mathlib.Core.Former.{Count}
-use Rattle.std.proofs.Common.{◌≡◌, ◌∙◌, ◌≤◌, ℕ, Bool, true, false, ◌||◌, List, [], ◌∷◌, ◌++◌, if◌then◌else◌, ap, refl, sym, arith, cc}
-use Rattle.std.specs.Prelude.{Option, Some, None, option_map}
+use Rattle.std.proofs.Common.{◌≡◌, ◌∙◌, ◌≤◌, ℕ, Bool, true, false, ◌||◌, List, [], ◌∷◌, ◌++◌, if◌then◌else◌, ap, refl, sym, arith}
+use Rattle.std.specs.Prelude.{⊤, Option, Some, None, option_map}
 use Rattle.stream_type.specs.StreamType.{StreamType, type_of, eps, one, int, par, cat, sum, star}
 use Rattle.bunch.specs.Names.{holds}
 use Rattle.bunch.specs.Facts.{Facts}
@@ -67,11 +67,11 @@ room_fits types before z y = go (before z y)
 -- names of which each has a size while z hasn't told have a sum
 total_told : (room : ℕ → Bound) → ((y : ℕ) → Fits (room y)) → (xs : List ℕ) → first_large room xs ≡ None → IsTold (total room xs)
 total_told room h [] e = omega arith
-total_told room h (x ∷ xs) e = go (room x) (h x) e
+total_told room h (x ∷ xs) e = go (room x) (h x) (total_told room h xs) e
   where
-    go : (a : Bound) → Fits a → or_large x a (first_large room xs) ≡ None → IsTold (both a (total room xs))
-    go None f k = absurd (cc k)
-    go (Some n) f k = both_told (Some n) (total room xs) f (total_told room h xs k)
+    go : (a : Bound) → Fits a → (first_large room xs ≡ None → IsTold (total room xs)) → or_large x a (first_large room xs) ≡ None → IsTold (both a (total room xs))
+    go None f rest k = absurd (cc k)
+    go (Some n) f rest k = both_told (Some n) (total room xs) f (rest k)
 
 -- so a case and a wait that count none without a size can hold so much at most
 placed_none : (at : ℕ) (o : Option ℕ) → placed at o ≡ None → o ≡ None
@@ -83,6 +83,17 @@ case_told at c z free e = total_told (room_of (types_of c) c.order z) (room_fits
 
 wait_told : (at : ℕ) (c : Context) (x : ℕ) (free : List ℕ) → placed at (wait_unsized c x free) ≡ None → IsTold (wait_room (types_of c) c.order x free)
 wait_told at c x free e = total_told (room_of (types_of c) c.order x) (room_fits (types_of c) c.order x) (once free) (placed_none at (wait_unsized c x free) e)
+
+-- of two searches in turn that find nothing, each finds nothing
+two_told : {P Q : Type 0} (x y : Option (ℕ × ℕ)) → (x ≡ None → P) → (y ≡ None → Q) → first_some x y ≡ None → P × Q
+two_told x y h k n = let e = first_some-none x y n in (h e.0, k e.1)
+
+-- so a case that finds nothing, itself and in its branches, has a bound where these have
+branches_told : (at : ℕ) (c : Context) (z : ℕ) (free : List ℕ) (x y : Option (ℕ × ℕ)) (a b : Bound) → (x ≡ None → IsTold a) → (y ≡ None → IsTold b)
+    → first_some (first_some (placed at (case_unsized c z free)) x) y ≡ None → IsTold (greater (case_room (types_of c) c.order z free) (greater a b))
+branches_told at c z free x y a b h k n =
+    let both = two_told (first_some (placed at (case_unsized c z free)) x) y (two_told (placed at (case_unsized c z free)) x (case_told at c z free) h) k n in
+    greater_told _ _ both.0.0 (greater_told _ _ both.0.1 both.1)
 
 module _ (funs : List CoreBody) (counts : ℕ → Bool) (numbers : ℕ → Bound) where
   -- each of the functions has a number
@@ -101,50 +112,39 @@ module _ (funs : List CoreBody) (counts : ℕ → Bool) (numbers : ℕ → Bound
     term_told at Eps c n h = omega arith
     term_told at IsUnit c n h = omega arith
     term_told at (Past m) c n h = omega arith
-    term_told at (Par' p i a q j b) c n h = both_told _ _ (first_told i a c j b c n h) (second_told i a c j b c n h)
-    term_told at (Cat' p i a q j b) c n h = greater_told _ _ (first_told i a c j b c n h) (second_told i a c j b c n h)
+    term_told at (Par' p i a q j b) c n h =
+        let both = two_told (unsized_at funs counts i a c) (unsized_at funs counts j b c) (λ k. term_told i a c k (left_told (calls_in (term_in a)) (calls_in (term_in b)) h)) (λ k. term_told j b c k (right_told (calls_in (term_in a)) (calls_in (term_in b)) h)) n in
+        both_told _ _ both.0 both.1
+    term_told at (Cat' p i a q j b) c n h =
+        let both = two_told (unsized_at funs counts i a c) (unsized_at funs counts j b c) (λ k. term_told i a c k (left_told (calls_in (term_in a)) (calls_in (term_in b)) h)) (λ k. term_told j b c k (right_told (calls_in (term_in a)) (calls_in (term_in b)) h)) n in
+        greater_told _ _ both.0 both.1
     term_told at (Inl' p i a) c n h = term_told i a c n h
     term_told at (Inr' p i a) c n h = term_told i a c n h
     term_told at Nil c n h = omega arith
-    term_told at (Cons' p i a q j b) c n h = greater_told _ _ (first_told i a c j b c n h) (second_told i a c j b c n h)
+    term_told at (Cons' p i a q j b) c n h =
+        let both = two_told (unsized_at funs counts i a c) (unsized_at funs counts j b c) (λ k. term_told i a c k (left_told (calls_in (term_in a)) (calls_in (term_in b)) h)) (λ k. term_told j b c k (right_told (calls_in (term_in a)) (calls_in (term_in b)) h)) n in
+        greater_told _ _ both.0 both.1
     term_told at (Let' x s p i a q j b) c n h =
         let d = with_let funs counts x.0 (type_of s) (term_in a) c in
-        both_told _ _ (first_told i a c j b d n h) (second_told i a c j b d n h)
+        let both = two_told (unsized_at funs counts i a c) (unsized_at funs counts j b d) (λ k. term_told i a c k (left_told (calls_in (term_in a)) (calls_in (term_in b)) h)) (λ k. term_told j b d k (right_told (calls_in (term_in a)) (calls_in (term_in b)) h)) n in
+        both_told _ _ both.0 both.1
     term_told at (LetPar' x y z p i a) c n h = term_told i a _ n h
     term_told at (LetCat' x y z p i a) c n h = term_told i a _ n h
     term_told at (CaseSum' z t x p i a y q j b) c n h =
-        let own = placed at (case_unsized c z.0 (free_names (term_in (CaseSum' z t x p i a y q j b)))) in
         let left = with_name_like x.0 (sum_left (type_at c z.0)) z.0 c in
         let right = with_name_like y.0 (sum_right (type_at c z.0)) z.0 c in
-        branches_told at c z.0 (free_names (term_in (CaseSum' z t x p i a y q j b))) i a left j b right n h
+        branches_told at c z.0 (free_names (term_in (CaseSum' z t x p i a y q j b))) (unsized_at funs counts i a left) (unsized_at funs counts j b right) _ _
+        (λ k. term_told i a left k (left_told (calls_in (term_in a)) (calls_in (term_in b)) h)) (λ k. term_told j b right k (right_told (calls_in (term_in a)) (calls_in (term_in b)) h)) n
     term_told at (CaseStar' z t p i a y ys q j b) c n h =
         let right = with_fact y.0 ys.0 (with_parts y.0 (star_item (type_at c z.0)) ys.0 (star_items (type_at c z.0)) z.0 c) in
-        branches_told at c z.0 (free_names (term_in (CaseStar' z t p i a y ys q j b))) i a c j b right n h
+        branches_told at c z.0 (free_names (term_in (CaseStar' z t p i a y ys q j b))) (unsized_at funs counts i a c) (unsized_at funs counts j b right) _ _
+        (λ k. term_told i a c k (left_told (calls_in (term_in a)) (calls_in (term_in b)) h)) (λ k. term_told j b right k (right_told (calls_in (term_in a)) (calls_in (term_in b)) h)) n
     term_told at (Wait' x t p i a) c n h =
         let free = free_names (term_in (Wait' x t p i a)) in
         let k = first_some-none (placed at (wait_unsized c x.0 free)) (unsized_at funs counts i a c) n in
         greater_told _ _ (wait_told at c x.0 free k.0) (term_told i a c k.1 h)
     term_told at (Call' f ms shape es) c n h =
         both_told _ _ (row_told es c n (λ g m. h g (or_second (holds g (f ∷ [])) (holds g (calls_among (terms_of es))) m))) (h f (or_first _ _ refl))
-
-    -- of two parts in turn
-    first_told : (i : ℕ) (a : Term) (c : Context) (j : ℕ) (b : Term) (d : Context) → first_some (unsized_at funs counts i a c) (unsized_at funs counts j b d) ≡ None
-        → AreTold (calls_in (term_in a) ++ calls_in (term_in b)) → IsTold (bound_in funs counts numbers (term_in a) c)
-    first_told i a c j b d n h = term_told i a c (first_some-none _ _ n).0 (left_told (calls_in (term_in a)) (calls_in (term_in b)) h)
-
-    second_told : (i : ℕ) (a : Term) (c : Context) (j : ℕ) (b : Term) (d : Context) → first_some (unsized_at funs counts i a c) (unsized_at funs counts j b d) ≡ None
-        → AreTold (calls_in (term_in a) ++ calls_in (term_in b)) → IsTold (bound_in funs counts numbers (term_in b) d)
-    second_told i a c j b d n h = term_told j b d (first_some-none _ _ n).1 (right_told (calls_in (term_in a)) (calls_in (term_in b)) h)
-
-    -- of a case's branches
-    branches_told : (at : ℕ) (c : Context) (z : ℕ) (free : List ℕ) (i : ℕ) (a : Term) (left : Context) (j : ℕ) (b : Term) (right : Context)
-        → first_some (first_some (placed at (case_unsized c z free)) (unsized_at funs counts i a left)) (unsized_at funs counts j b right) ≡ None → AreTold (calls_in (term_in a) ++ calls_in (term_in b))
-        → IsTold (greater (case_room (types_of c) c.order z free) (greater (bound_in funs counts numbers (term_in a) left) (bound_in funs counts numbers (term_in b) right)))
-    branches_told at c z free i a left j b right n h =
-        let k = first_some-none (first_some (placed at (case_unsized c z free)) (unsized_at funs counts i a left)) (unsized_at funs counts j b right) n in
-        let l = first_some-none (placed at (case_unsized c z free)) (unsized_at funs counts i a left) k.0 in
-        greater_told _ _ (case_told at c z free l.0)
-        (greater_told _ _ (term_told i a left l.1 (left_told (calls_in (term_in a)) (calls_in (term_in b)) h)) (term_told j b right k.1 (right_told (calls_in (term_in a)) (calls_in (term_in b)) h)))
 
     row_told : {m : Count} (es : Row_of-Node m) (c : Context) → unsized_row funs counts es c ≡ None → AreTold (calls_among (terms_of es)) → IsTold (bounds_in funs counts numbers (terms_of es) c)
     row_told end_of-Node c n h = omega arith

@@ -1,5 +1,5 @@
 -- Numbers that a round doesn't change are those after all rounds.
-use Rattle.std.proofs.Common.{◌≡◌, ◌∙◌, ◌≤◌, ◌<◌, ◌+◌, ℕ, zero, suc, Bool, true, false, take, List, [], ◌∷◌, length, if◌then◌else◌, ap, ap₂, refl, sym, subst, arith, cc}
+use Rattle.std.proofs.Common.{◌≡◌, ◌∙◌, ◌≤◌, ◌<◌, ◌+◌, ℕ, zero, suc, Bool, true, false, take, List, [], ◌∷◌, length, if◌then◌else◌, ap, ap₂, refl, sym, subst, arith}
 use Rattle.std.proofs.lemmas.Bool.{eqb-true, true≢false}
 use Rattle.std.specs.Prelude.{Some, None}
 use Rattle.core_term.specs.CoreTerm.{CoreProgram}
@@ -29,7 +29,8 @@ same_numbers f (m ∷ ms) (n ∷ ns) l h =
 
 -- the front of a row has no more marks than the row
 count_front : (ms : List Bool) (i : ℕ) → mark_count (take i ms) ≤ mark_count ms
-count_front [] i = omega arith
+count_front [] zero = omega arith
+count_front [] (suc i) = omega arith
 count_front (m ∷ ms) zero = omega arith
 count_front (true ∷ ms) (suc i) = let l = count_front ms i in omega (arith, l)
 count_front (false ∷ ms) (suc i) = count_front ms i
