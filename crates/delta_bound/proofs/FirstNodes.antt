@@ -16,7 +16,7 @@ use Rattle.core_term.specs.TypeFaults.{first_some}
 use Rattle.core_term.specs.Typing.{Context}
 use Rattle.delta_bound.specs.declared.searching.Unsized.{Unsized}
 use Rattle.delta_bound.specs.Unsized.{told, unsized_at, unsized_row, unsized_of, unsized_among, unsized_in}
-use Rattle.delta_bound.proofs.Calls.{drop-next}
+use Rattle.delta_bound.proofs.ListPlaces.{drop-next}
 
 module _ (funs : List CoreBody) (counts : ℕ → Bool) where
   row-list : (m : Count) (k : Row_of-Node m) (c : Context) → unsized_row funs counts k c ≡ unsized_among funs counts (items-the_row-Node m k) c

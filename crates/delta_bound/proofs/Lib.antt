@@ -2,11 +2,12 @@
 pub mod Known
 pub mod ParamTypes
 pub mod Totals
-pub mod Calls
+pub mod ListPlaces
 pub mod Bodies
 pub mod FirstNodes
 pub mod ReachedCalls
 pub mod MarkedRows
+pub mod AddedMarks
 pub mod SteadyNumbers
 pub mod CallsThere
 pub mod SizedTerms

@@ -9,7 +9,7 @@ use Rattle.delta_check.proofs.Joined.{node_count-one}
 use Rattle.state_bounds.specs.Bounds.{Bound}
 use Rattle.state_bounds.specs.ProgramBound.{is_same_bound, first_other, first_cycle, program_numbers, reached_marks, mark_count}
 use Rattle.state_bounds.proofs.ProgramNumbers.{length-numbers}
-use Rattle.delta_bound.proofs.Calls.{drop-next}
+use Rattle.delta_bound.proofs.ListPlaces.{drop-next}
 
 -- numbers from a place on differ first there, or in the rest
 pub other-next : (ms ns : List Bound) (i : ℕ) (m n : Bound) → i < length ms → m ≡ get_or ms i m → i < length ns → n ≡ get_or ns i n

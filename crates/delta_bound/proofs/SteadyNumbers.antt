@@ -1,11 +1,12 @@
 -- Numbers that a round doesn't change are those after all rounds.
-use Rattle.std.proofs.Common.{◌≡◌, ◌∙◌, ◌≤◌, ◌<◌, ◌+◌, ℕ, zero, suc, Bool, true, false, take, List, [], ◌∷◌, length, if◌then◌else◌, ap, ap₂, refl, sym, subst, arith}
+use Rattle.std.proofs.Common.{◌≡◌, ◌∙◌, ◌≤◌, ◌<◌, ◌+◌, ℕ, zero, suc, Bool, true, false, take, List, [], ◌∷◌, ◌++◌, length, if◌then◌else◌, ap, ap₂, refl, sym, subst, arith}
 use Rattle.std.proofs.lemmas.Bool.{eqb-true, true≢false}
-use Rattle.std.specs.Prelude.{Some, None}
+use Rattle.std.specs.Prelude.{Some, None, slice_index_or}
 use Rattle.core_term.specs.CoreTerm.{CoreProgram}
 use Rattle.state_bounds.specs.Bounds.{Bound}
 use Rattle.state_bounds.specs.ProgramBound.{is_same_bound, first_other, repeated, mark_count, first_numbers, numbers_after, reached_marks, program_numbers}
 use Rattle.state_bounds.proofs.ProgramNumbers.{length-tabulated, length-numbers}
+use Rattle.delta_bound.proofs.ListPlaces.{take-next}
 use Rattle.delta_bound.proofs.MarkedRows.{still_later}
 
 same_bound : (m n : Bound) → is_same_bound m n ≡ true → m ≡ n
@@ -47,3 +48,20 @@ steady_numbers c i ns next e k h =
     let same : ns ≡ next = same_numbers 0 ns next number h in
     let steady : round (repeated done round first) ≡ repeated done round first = ap round (sym e) ∙ (sym k ∙ (sym same ∙ e)) in
     e ∙ sym (still_later round first done (mark_count marks) (count_front marks i) steady)
+
+-- a round for each mark of a row: one mark more
+count-snoc : (ms : List Bool) (m : Bool) → mark_count (ms ++ m ∷ []) ≡ (if m then suc (mark_count ms) else mark_count ms)
+count-snoc [] true = refl
+count-snoc [] false = refl
+count-snoc (true ∷ ms) true = ap suc (count-snoc ms true)
+count-snoc (true ∷ ms) false = ap suc (count-snoc ms false)
+count-snoc (false ∷ ms) m = count-snoc ms m
+
+pub round-next : {A : Type 0} (f : A → A) (a : A) (ms : List Bool) (i : ℕ) (d : Bool) → i < length ms
+    → repeated (mark_count (take (i + 1) ms)) f a ≡ (if slice_index_or ms i d then f (repeated (mark_count (take i ms)) f a) else repeated (mark_count (take i ms)) f a)
+round-next f a ms i d h =
+    ap (λ l. repeated (mark_count l) f a) (take-next ms i d h) ∙ (ap (λ n. repeated n f a) (count-snoc (take i ms) (slice_index_or ms i d)) ∙ by (slice_index_or ms i d))
+  where
+    by : (m : Bool) → repeated (if m then suc (mark_count (take i ms)) else mark_count (take i ms)) f a ≡ (if m then f (repeated (mark_count (take i ms)) f a) else repeated (mark_count (take i ms)) f a)
+    by true = refl
+    by false = refl

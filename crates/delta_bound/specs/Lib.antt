@@ -1,5 +1,6 @@
 -- What the contracts cite.
 pub mod Scopes
+pub mod Marking
 pub mod BoundIn
 pub mod Unsized
 pub mod Refusals

@@ -1,9 +1,9 @@
 //! Which functions a program reaches by calls.
 
-ghost use Rattle.std.specs.Prelude.{◌≡◌, ◌==◌, ◌||◌, ◌<◌, ℕ, length, map, true, IfOk};
-ghost use Rattle.bunch.specs.Names.{holds};
+ghost use Rattle.std.specs.Prelude.{◌≡◌, [], ◌∷◌, map, IfOk};
 ghost use Rattle.core_term.specs.CoreTerm.{term_of, terms_from, core_of};
 ghost use Rattle.state_bounds.specs.ProgramBound.{calls_in, calls_among, is_marked, tabulated, marks_after, first_marks, reached_marks};
+ghost use Rattle.delta_bound.specs.Marking.{AddsMarks};
 
 use core_term::{Core, Node, Term};
 use std::alloc::Global;
@@ -16,11 +16,7 @@ pub fn reached(alloc: Global, c: &Core) -> Result<Vec<bool>, Memory>
 {
     let mut marks = called_first(alloc, c)?;
     for _round in 0..c.funs.len() {
-        let more = called_more(alloc, c, &marks)?;
-        if same_marks(&marks, &more) {
-            return Ok(marks);
-        }
-        marks = more;
+        marks = called_more(alloc, c, &marks)?;
     }
     Ok(marks)
 }
@@ -68,17 +64,10 @@ fn copy_marks(alloc: Global, marks: &[bool], count: usize) -> Result<Vec<bool>, 
     Ok(copy)
 }
 
-// Whether both rows of marks are the same.
-fn same_marks(marks: &[bool], others: &[bool]) -> bool
-    ensures { result ≡ true → marks.now ≡ others.now }
-{
-    marks == others
-}
-
 // Marks the functions that the term calls.
 #[cycle(marking)]
 fn mark_calls(n: &Node, marks: &mut [bool])
-    ensures { (f : ℕ) → f < length marks.old → is_marked marks.new f ≡ (is_marked marks.old f || holds f (calls_in (term_of n.now))) }
+    ensures { AddsMarks (calls_in (term_of n.now)) marks.old marks.new }
 {
     match &n.term {
         Term::Var(_) | Term::Eps | Term::Unit | Term::Nil | Term::Past(_) => {}
@@ -106,7 +95,7 @@ fn mark_calls(n: &Node, marks: &mut [bool])
 // Marks those that one of the terms calls.
 #[cycle(marking)]
 fn mark_all_calls(terms: &[Node], marks: &mut [bool])
-    ensures { (f : ℕ) → f < length marks.old → is_marked marks.new f ≡ (is_marked marks.old f || holds f (calls_among (terms_from (map term_of terms.now)))) }
+    ensures { AddsMarks (calls_among (terms_from (map term_of terms.now))) marks.old marks.new }
 {
     for term in terms {
         mark_calls(term, marks);
@@ -115,7 +104,7 @@ fn mark_all_calls(terms: &[Node], marks: &mut [bool])
 
 // Marks the function.
 fn mark(f: usize, marks: &mut [bool])
-    ensures { (g : ℕ) → g < length marks.old → is_marked marks.new g ≡ (is_marked marks.old g || g == f) }
+    ensures { AddsMarks (f ∷ []) marks.old marks.new }
 {
     if f < marks.len() {
         marks[f] = true;

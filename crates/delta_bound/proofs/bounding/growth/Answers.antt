@@ -4,11 +4,11 @@ use Rattle.delta_bound.proofs.Others.{cycle_there, funs_fit}
 use Rattle.delta_bound.proofs.Answered.{cycle_told}
 use Rattle.delta_bound.proofs.bounding.growth.Goals as goal
 
-pub cycle-requires-there : goal.cycle-requires-there
-cycle-requires-there c = cycle_there (core_of c.args.c.now) c.args.f c.requires.first
+pub cycle-requires-clause-there : goal.cycle-requires-clause-there
+cycle-requires-clause-there c = cycle_there (core_of c.args.c.now) c.args.f c.requires.first
 
-pub cycle-requires-number : goal.cycle-requires-number
-cycle-requires-number c = funs_fit (core_of c.args.c.now) c.requires.core
+pub cycle-requires-clause-number : goal.cycle-requires-clause-number
+cycle-requires-clause-number c = funs_fit (core_of c.args.c.now) c.requires.core
 
 pub returns : goal.returns
 returns c = cycle_told c.args.c.now c.args.f c.cycle.result c.requires.first c.cycle.ensures
