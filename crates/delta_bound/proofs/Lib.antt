@@ -3,12 +3,11 @@ pub mod Known
 pub mod ParamTypes
 pub mod Totals
 pub mod ListPlaces
+pub mod Calls
+pub mod MarkedRounds
 pub mod Bodies
 pub mod FirstNodes
 pub mod ReachedCalls
-pub mod MarkedRows
-pub mod AddedMarks
-pub mod SteadyNumbers
 pub mod CallsThere
 pub mod SizedTerms
 pub mod SizedPrograms

@@ -1,5 +1,5 @@
 -- Where numbers differ.
-use Rattle.std.proofs.Common.{◌≡◌, ◌∙◌, ◌<◌, ◌≤◌, ◌+◌, ◌^◌, ℕ, zero, suc, Bool, true, false, add-one, drop, get_or, List, [], ◌∷◌, map, length, if◌then◌else◌, ap, ap₂, refl, sym, subst, arith, cc}
+use Rattle.std.proofs.Common.{◌≡◌, ◌∙◌, ◌<◌, ◌≤◌, ◌+◌, ◌^◌, ℕ, zero, suc, Bool, true, false, add-one, drop, get_or, List, [], ◌∷◌, map, length, if◌then◌else◌, ap, ap₂, refl, sym, subst, arith}
 use Rattle.std.specs.Prelude.{Option, Some, None}
 use Rattle.std.specs.Borrow.{Bor}
 use Rattle.std.specs.Slice.{IsItemAt}
@@ -7,7 +7,7 @@ use Rattle.core_term.specs.CoreTerm.{CoreBody, CoreProgram, node_count}
 use Rattle.core_term.specs.FreeNames.{IsCore, nodes_of_bodies}
 use Rattle.delta_check.proofs.Joined.{node_count-one}
 use Rattle.state_bounds.specs.Bounds.{Bound}
-use Rattle.state_bounds.specs.ProgramBound.{is_same_bound, first_other, first_cycle, program_numbers, reached_marks, mark_count}
+use Rattle.state_bounds.specs.ProgramBound.{is_same_bound, first_other, first_cycle, program_numbers, numbers_after, reached_marks, mark_count}
 use Rattle.state_bounds.proofs.ProgramNumbers.{length-numbers}
 use Rattle.delta_bound.proofs.ListPlaces.{drop-next}
 
@@ -20,7 +20,7 @@ other-next ms ns i m n h k p q =
 
 -- where a list has nothing at a place, the place is past its end
 pub past_end : {X : Type 0} (xs : List X) (i : ℕ) (r : Option (Bor X)) → IsItemAt xs i r → r ≡ None → length xs ≤ i
-past_end xs i None h e = h.1.1.1.0
+past_end xs i None h e = h.3
 past_end xs i (Some x) h e = absurd (cc e)
 
 -- past one end they don't differ
@@ -44,16 +44,16 @@ first-end ms ns i h = ap (λ l. first_other i l (drop i ns)) (drop-end ms i h)
 other_below : (i : ℕ) (ms ns : List Bound) (f : ℕ) → first_other i ms ns ≡ Some f → f < i + length ms
 other_below i [] ns f e = absurd (cc e)
 other_below i (m ∷ ms) [] f e = absurd (cc e)
-other_below i (m ∷ ms) (n ∷ ns) f e = go (is_same_bound m n) e
+other_below i (m ∷ ms) (n ∷ ns) f e = go (is_same_bound m n) (other_below (suc i) ms ns f) e
   where
-    go : (b : Bool) → (if b then first_other (suc i) ms ns else Some i) ≡ Some f → f < i + suc (length ms)
-    go true k = let less = other_below (suc i) ms ns f k in omega (arith, less)
-    go false k = let same : i ≡ f = cc k in omega (arith, same)
+    go : (b : Bool) → (first_other (suc i) ms ns ≡ Some f → f < suc i + length ms) → (if b then first_other (suc i) ms ns else Some i) ≡ Some f → f < i + suc (length ms)
+    go true rest k = let less = rest k in omega (arith, less)
+    go false rest k = let same : i ≡ f = cc k in omega (arith, same)
 
 pub cycle_there : (c : CoreProgram) (f : ℕ) → first_cycle c ≡ Some f → f < length c.funs
 cycle_there c f e =
-    let less = other_below 0 _ _ f e in
-    let same = length-numbers c (reached_marks c) (mark_count (reached_marks c)) in
+    let less : f < 0 + length (program_numbers c) = other_below 0 (program_numbers c) (numbers_after c (reached_marks c) (program_numbers c)) f e in
+    let same : length (program_numbers c) ≡ length c.funs = length-numbers c (reached_marks c) (mark_count (reached_marks c)) in
     omega (arith, less, same)
 
 -- there are no more functions than nodes

@@ -60,7 +60,7 @@ module _ (c : Core) (typed : IsTypedCore (core_of c)) (sized : program_unsized c
   none_in_main = (first_some-none (unsized_from (core_of c).funs (is_inert_fun (core_of c).funs) (reached_marks (core_of c)) 0 c.funs.items) (unsized_in (core_of c).funs (is_inert_fun (core_of c).funs) c.main) sized).1
 
   -- each function that is reached has a number in each round
-  AreNumbered : List Bound → Type 0
+  abbrev AreNumbered : List Bound → Type 0
   AreNumbered ns = (f : ℕ) → is_marked (reached_marks (core_of c)) f ≡ true → f < length (core_of c).funs → IsTold (number_at ns f)
 
   there_below : (f : ℕ) → IsTrue (is_there (core_of c).funs f) → f < length (core_of c).funs
@@ -79,7 +79,8 @@ module _ (c : Core) (typed : IsTypedCore (core_of c)) (sized : program_unsized c
       let less : f < length c.funs.items = omega (arith, l, number) in
       let b = slice_index_or c.funs.items f c.main in
       let same : fun_at p.funs f ≡ core_body_of b = fun_at-map c.funs.items f c.main less in
-      let none = of_marked p.funs (is_inert_fun p.funs) marks 0 c.funs.items f c.main less none_in_funs h in
+      let marked : is_marked marks (0 + f) ≡ true = subst (λ n. is_marked marks n ≡ true) (omega arith) h in
+      let none = of_marked p.funs (is_inert_fun p.funs) marks 0 c.funs.items f c.main less none_in_funs marked in
       let body : IsTypedBody p.funs (core_body_of b) = subst (IsTypedBody p.funs) same (at_index (IsTypedBody p.funs) no_body p.funs typed.funs_typed refl f) in
       let told : IsTold (bound_of_body p (number_at ns) (core_body_of b)) =
       body_told p (number_at ns) b none

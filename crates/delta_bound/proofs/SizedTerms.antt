@@ -1,7 +1,8 @@
 -- A term that counts no name without a size, and calls only functions with numbers, has a bound, and it is at most
 -- the limit.
 use mathlib.Core.Former.{Count}
-use Rattle.std.proofs.Common.{◌≡◌, ◌∙◌, ◌≤◌, ℕ, Bool, true, false, ◌||◌, List, [], ◌∷◌, ◌++◌, if◌then◌else◌, ap, refl, sym, arith}
+use Rattle.std.proofs.Common.{◌≡◌, ◌∙◌, ◌≤◌, ℕ, Bool, true, false, ◌||◌, List, [], ◌∷◌, ◌++◌, eqb, if◌then◌else◌, ap, refl, sym, arith}
+use Rattle.std.proofs.lemmas.Bool.{eq-eqb}
 use Rattle.std.specs.Prelude.{⊤, Option, Some, None, option_map}
 use Rattle.stream_type.specs.StreamType.{StreamType, type_of, eps, one, int, par, cat, sum, star}
 use Rattle.bunch.specs.Names.{holds}
@@ -144,7 +145,7 @@ module _ (funs : List CoreBody) (counts : ℕ → Bool) (numbers : ℕ → Bound
         let k = first_some-none (placed at (wait_unsized c x.0 free)) (unsized_at funs counts i a c) n in
         greater_told _ _ (wait_told at c x.0 free k.0) (term_told i a c k.1 h)
     term_told at (Call' f ms shape es) c n h =
-        both_told _ _ (row_told es c n (λ g m. h g (or_second (holds g (f ∷ [])) (holds g (calls_among (terms_of es))) m))) (h f (or_first _ _ refl))
+        both_told _ _ (row_told es c n (λ g m. h g (or_second (eqb g f) (holds g (calls_among (terms_of es))) m))) (h f (or_first (eqb f f) (holds f (calls_among (terms_of es))) (eq-eqb f f refl)))
 
     row_told : {m : Count} (es : Row_of-Node m) (c : Context) → unsized_row funs counts es c ≡ None → AreTold (calls_among (terms_of es)) → IsTold (bounds_in funs counts numbers (terms_of es) c)
     row_told end_of-Node c n h = omega arith

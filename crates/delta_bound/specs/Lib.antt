@@ -1,6 +1,5 @@
 -- What the contracts cite.
 pub mod Scopes
-pub mod Marking
 pub mod BoundIn
 pub mod Unsized
 pub mod Refusals
