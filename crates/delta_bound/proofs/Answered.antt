@@ -1,6 +1,6 @@
 -- What is answered, from what its parts answer.
-use Rattle.std.proofs.Common.{◌≡◌, ◌∙◌, ℕ, Bool, List, ap, sym, subst}
-use Rattle.std.specs.Prelude.{Result, Ok, Err, IfOk, IfErr, Option, Some, None}
+use Rattle.std.proofs.Common.{◌≡◌, ◌∙◌, ℕ, List, ap, sym, subst}
+use Rattle.std.specs.Prelude.{Result, Ok, Err, IfOk, IfErr, Some, None}
 use Rattle.core_term.specs.declared.program.Core.{Core}
 use Rattle.core_term.specs.CoreTerm.{core_of}
 use Rattle.core_term.specs.Typing.{IsTypedCore}

@@ -1,7 +1,7 @@
 -- A typed term calls functions that are there alone.
-use Rattle.std.proofs.Common.{◌≡◌, ◌∙◌, ℕ, Bool, true, false, true≢false, ◌||◌, ⊎_elim, List, [], ◌∷◌, ◌++◌, ◌<◌, length, eqb, IsTrue, ap, refl, sym, subst}
+use Rattle.std.proofs.Common.{◌≡◌, ◌∙◌, ℕ, Bool, true, true≢false, ⊎_elim, List, [], ◌∷◌, ◌++◌, eqb, IsTrue, sym, subst}
 use Rattle.std.proofs.lemmas.Bool.{eqb-true}
-use Rattle.stream_type.specs.StreamType.{StreamType, eps, one, int, par, cat, sum, star}
+use Rattle.stream_type.specs.StreamType.{StreamType, par, cat, sum, star}
 use Rattle.bunch.specs.Names.{holds}
 use Rattle.bunch.proofs.NameLists.{holds-append}
 use Rattle.core_term.specs.CoreTerm.{CoreTerm, CoreTerms, CoreBody, var_term, eps_term, unit_term, nil_term, past_term, par_term, cat_term, cons_term, inl_term, inr_term, let_term, let_par_term, let_cat_term, case_sum_term, case_star_term, wait_term, call_term, no_terms, term_before, is_there}

@@ -1,6 +1,6 @@
 -- The first name without a size, one node more.
 use mathlib.Core.Former.{Count}
-use Rattle.std.proofs.Common.{◌≡◌, ◌∙◌, ◌<◌, ◌+◌, ℕ, Bool, List, ◌∷◌, drop, get_or, length, refl, ap, sym, add-one}
+use Rattle.std.proofs.Common.{◌≡◌, ◌∙◌, ◌<◌, ◌+◌, ℕ, Bool, List, drop, get_or, length, refl, ap}
 use Rattle.std.specs.Prelude.{Result, Ok, Err, IfOk, Option, option_map}
 use Rattle.std.specs.declared.vec.Vec.{Vec}
 use Rattle.std.specs.declared.alloc.Global.{Global}

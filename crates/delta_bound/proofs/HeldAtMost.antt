@@ -1,8 +1,8 @@
 -- Where a program has a bound, its states never hold more events.
-use Rattle.std.proofs.Common.{◌≡◌, ◌∙◌, ◌≤◌, ℕ, [], ◌∷◌, ◌++◌, ap, subst, sym, refl, arith}
+use Rattle.std.proofs.Common.{◌≤◌, ℕ, [], subst, arith}
 use Rattle.std.specs.Prelude.{Some}
-use Rattle.core_term.specs.CoreTerm.{CoreProgram, core_of}
-use Rattle.core_term.specs.Meaning.{calls_of, horizon}
+use Rattle.core_term.specs.CoreTerm.{core_of}
+use Rattle.core_term.specs.Meaning.{horizon}
 use Rattle.delta_state.specs.MachineView.{input_of}
 use Rattle.delta_state.specs.Rest.{first_state}
 use Rattle.state_bounds.specs.Bounds.{◌⊑◌}
@@ -10,7 +10,7 @@ use Rattle.state_bounds.specs.Laws.{bound_after}
 use Rattle.state_bounds.proofs.BoundOrder.{at_most_next}
 use Rattle.state_bounds.proofs.ProgramBounds.{first_holds, event_holds, machine_holds}
 use Rattle.state_bounds.proofs.ProgramNumbers.{numbers_are_enough}
-use Rattle.delta_bound.specs.Laws.{AnswersHold, HoldsAtMost, numbers_of_program}
+use Rattle.delta_bound.specs.Laws.{AnswersHold, numbers_of_program}
 
 below_horizon : (n : ℕ) → n ≤ 1000000 → n ≤ horizon
 unfolding horizon

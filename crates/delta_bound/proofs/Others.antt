@@ -1,9 +1,9 @@
 -- Where numbers differ.
-use Rattle.std.proofs.Common.{◌≡◌, ◌∙◌, ◌<◌, ◌≤◌, ◌+◌, ◌^◌, ℕ, zero, suc, Bool, true, false, add-one, drop, get_or, List, [], ◌∷◌, map, length, if◌then◌else◌, ap, ap₂, refl, sym, subst, arith}
+use Rattle.std.proofs.Common.{◌≡◌, ◌∙◌, ◌<◌, ◌≤◌, ◌+◌, ◌^◌, ℕ, zero, suc, Bool, true, false, add-one, drop, get_or, List, [], ◌∷◌, length, if◌then◌else◌, ap, ap₂, refl, sym, arith}
 use Rattle.std.specs.Prelude.{Option, Some, None}
 use Rattle.std.specs.Borrow.{Bor}
 use Rattle.std.specs.Slice.{IsItemAt}
-use Rattle.core_term.specs.CoreTerm.{CoreBody, CoreProgram, node_count}
+use Rattle.core_term.specs.CoreTerm.{CoreBody, CoreProgram}
 use Rattle.core_term.specs.FreeNames.{IsCore, nodes_of_bodies}
 use Rattle.delta_check.proofs.Joined.{node_count-one}
 use Rattle.state_bounds.specs.Bounds.{Bound}

@@ -1,5 +1,5 @@
 -- A typed program that counts no name without a size has a bound, and it is at most the limit.
-use Rattle.std.proofs.Common.{◌≡◌, ◌∙◌, ◌<◌, ◌+◌, ℕ, zero, suc, Bool, true, false, List, [], ◌∷◌, map, length, if◌then◌else◌, IsTrue, ap, refl, sym, subst, arith}
+use Rattle.std.proofs.Common.{◌≡◌, ◌∙◌, ◌<◌, ◌+◌, ℕ, zero, suc, Bool, true, List, [], ◌∷◌, map, length, if◌then◌else◌, IsTrue, ap, refl, sym, subst, arith}
 use Rattle.std.proofs.lemmas.Bool.{ltb-true}
 use Rattle.std.specs.Prelude.{Some, None, slice_index_or}
 use Rattle.bunch.specs.Names.{holds}
@@ -7,13 +7,11 @@ use Rattle.core_term.specs.declared.program.Body.{Body}
 use Rattle.core_term.specs.declared.program.Core.{Core}
 use Rattle.core_term.specs.CoreTerm.{CoreBody, CoreProgram, core_of, core_body_of, fun_at, no_body, is_there}
 use Rattle.core_term.specs.Inert.{is_inert_fun}
-use Rattle.core_term.specs.TypeFaults.{first_some}
 use Rattle.core_term.specs.Typing.{IsTypedCore, IsTypedBody, context_of}
 use Rattle.core_term.proofs.Causes.{first_some-none}
 use Rattle.core_term.proofs.TypedRuns.{at_index}
 use Rattle.state_bounds.specs.Bounds.{Bound, ◌⊑◌, limit}
-use Rattle.state_bounds.specs.ProgramBound.{bound_of_body, main_bound, calls_in, is_marked, number_at, tabulated, first_numbers, numbers_after, numbers_in, program_numbers, program_bound, reached_marks, mark_count}
-use Rattle.delta_bound.specs.BoundIn.{bound_in}
+use Rattle.state_bounds.specs.ProgramBound.{bound_of_body, calls_in, is_marked, number_at, first_numbers, numbers_after, numbers_in, program_numbers, program_bound, reached_marks, mark_count}
 use Rattle.delta_bound.specs.Unsized.{unsized_in, unsized_from, program_unsized}
 use Rattle.delta_bound.proofs.Bodies.{body-is}
 use Rattle.delta_bound.proofs.CallsThere.{calls_there}

@@ -1,9 +1,9 @@
 -- A term that counts no name without a size, and calls only functions with numbers, has a bound, and it is at most
 -- the limit.
 use mathlib.Core.Former.{Count}
-use Rattle.std.proofs.Common.{◌≡◌, ◌∙◌, ◌≤◌, ℕ, Bool, true, false, ◌||◌, List, [], ◌∷◌, ◌++◌, eqb, if◌then◌else◌, ap, refl, sym, arith}
+use Rattle.std.proofs.Common.{◌≡◌, ◌∙◌, ◌≤◌, ℕ, Bool, true, false, List, [], ◌∷◌, ◌++◌, eqb, if◌then◌else◌, refl, arith}
 use Rattle.std.proofs.lemmas.Bool.{eq-eqb}
-use Rattle.std.specs.Prelude.{⊤, Option, Some, None, option_map}
+use Rattle.std.specs.Prelude.{⊤, Option, Some, None}
 use Rattle.stream_type.specs.StreamType.{StreamType, type_of, eps, one, int, par, cat, sum, star}
 use Rattle.bunch.specs.Names.{holds}
 use Rattle.bunch.specs.Facts.{Facts}
@@ -13,7 +13,7 @@ use Rattle.core_term.specs.declared.term.Term.TheVariants.{Var, Eps, Unit as IsU
 use Rattle.core_term.specs.CoreTerm.{CoreBody, term_in, terms_of}
 use Rattle.core_term.specs.Environment.{NameTypes}
 use Rattle.core_term.specs.FreeNames.{free_names, without, once}
-use Rattle.core_term.specs.Parts.{par_left, par_right, cat_first, cat_second, sum_left, sum_right, star_item, star_items}
+use Rattle.core_term.specs.Parts.{sum_left, sum_right, star_item, star_items}
 use Rattle.core_term.specs.TypeFaults.{first_some}
 use Rattle.core_term.specs.Typing.{Context, type_at, types_of, with_name_like, with_fact, with_parts, with_let}
 use Rattle.core_term.proofs.Causes.{first_some-none}

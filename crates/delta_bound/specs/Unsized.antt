@@ -5,7 +5,7 @@
 --   in turn, and those of the main program last.
 -- - Of a node the first such name in the order of first use is told, with the node's place.
 -- - All this is read off the program's own trees, since terms as plain data have no places.
-use Rattle.std.specs.Prelude.{ℕ, suc, Bool, List, [], ◌∷◌, Option, Some, None, option_map, if◌then◌else◌}
+use Rattle.std.specs.Prelude.{ℕ, suc, Bool, List, [], ◌∷◌, Option, None, option_map, if◌then◌else◌}
 use Rattle.stream_type.specs.StreamType.{type_of}
 use Rattle.core_term.specs.declared.term.Node.{Node}
 use Rattle.core_term.specs.declared.term.Term.{Term, Row_of-Node, end_of-Node, more_of-Node}

@@ -1,5 +1,5 @@
 -- Past the end of the numbers after them there is none that differs.
-use Rattle.std.proofs.Common.{◌≡◌, ◌∙◌, ◌≤◌, length, sym}
+use Rattle.std.proofs.Common.{◌∙◌, ◌≤◌, length, sym}
 use Rattle.delta_bound.proofs.Others.{other-end, past_end}
 use Rattle.delta_bound.proofs.differing.first_other.Goals as goal
 
