@@ -1,0 +1,5 @@
+//! Tests of the bounds of programs, with ample memory.
+#![tactic(auto)]
+
+#[cfg(test)]
+mod bounds;

@@ -1,0 +1,16 @@
+-- The lemmas.
+pub mod Known
+pub mod ParamTypes
+pub mod Totals
+pub mod ListPlaces
+pub mod Calls
+pub mod MarkedRounds
+pub mod Bodies
+pub mod FirstNodes
+pub mod ReachedCalls
+pub mod CallsThere
+pub mod SizedTerms
+pub mod SizedPrograms
+pub mod HeldAtMost
+pub mod Others
+pub mod Answered

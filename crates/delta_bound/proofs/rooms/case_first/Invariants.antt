@@ -1,0 +1,14 @@
+-- None of the names so far, so the rest decide.
+use Rattle.std.proofs.Common.{◌≡◌, drop}
+use Rattle.bunch.specs.Names.{numbers_of}
+use Rattle.core_term.specs.FreeNames.{without}
+use Rattle.core_term.specs.Typing.{types_of}
+use Rattle.state_bounds.specs.ProgramBound.{first_large}
+use Rattle.state_bounds.specs.TermBounds.{room_of}
+use Rattle.delta_bound.specs.Scopes.{context_in}
+use Rattle.delta_bound.proofs.rooms.case_first.Given as goal
+
+abbrev pub invariant-loop-y : goal.invariant-loop-y
+invariant-loop-y l =
+    first_large (room_of (types_of (context_in l.scope)) (context_in l.scope).order l.z.0) (without l.z.0 (numbers_of (drop l.y-index l.names)))
+    ≡ first_large (room_of (types_of (context_in l.scope)) (context_in l.scope).order l.z.0) (without l.z.0 (numbers_of l.names))

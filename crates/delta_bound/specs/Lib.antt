@@ -1,0 +1,7 @@
+-- What the contracts cite.
+pub mod Scopes
+pub mod BoundIn
+pub mod Unsized
+pub mod Refusals
+pub mod Counted
+pub mod Laws
