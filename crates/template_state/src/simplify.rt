@@ -78,7 +78,7 @@ fn finish(alloc: Global, s: &mut Live, r: &Ty) -> Result<(), Memory>
     Ok(())
 }
 
-// The same of arguments.
+// Each of the arguments, put into a simpler form.
 #[cycle(settle)]
 #[tactic(auto, using(crate::proofs::Settling::settling))]
 fn settle_all(alloc: Global, args: &mut Arguments) -> Result<(), Memory>

@@ -1,5 +1,0 @@
--- What the contracts cite.
-pub mod Around
-pub mod Begun
-pub mod Told
-pub mod Steps
