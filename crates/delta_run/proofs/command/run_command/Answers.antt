@@ -13,6 +13,7 @@ use Rattle.delta_loop.proofs.Returning.{adds_none, ran_reads, unread}
 use Rattle.delta_text.specs.Lines.{lines_of_frames}
 use Rattle.delta_run.proofs.Budgets.{run_is_small, eval_is_small, load_is_small}
 use Rattle.delta_run.proofs.Conversions.{converted_reads}
+use Rattle.delta_run.proofs.Printed.{written_reads}
 use Rattle.delta_run.proofs.CommandLines.{same_run, same_check, same_eval, same_print, same_gen, asks_something}
 use Rattle.delta_run.proofs.command.run_command.Goals as goal
 
@@ -96,7 +97,7 @@ pub returns-in-Ok-Eval-clause-reads : goal.returns-in-Ok-Eval-clause-reads
 returns-in-Ok-Eval-clause-reads g c = c.eval_file.ensures.reads
 
 pub returns-in-Ok-Gen-clause-reads : goal.returns-in-Ok-Gen-clause-reads
-returns-in-Ok-Gen-clause-reads g c = adds_none _ _ (ReadsWell Usage) refl (unread Usage)
+returns-in-Ok-Gen-clause-reads g c = written_reads _ _ c.gen_load.result c.gen_load.ensures.told.0 c.gen_load.ensures.told.1
 
 pub returns-in-Err-Usage-clause-reads : goal.returns-in-Err-Usage-clause-reads
 returns-in-Err-Usage-clause-reads g c = adds_none _ _ (ReadsWell Usage) refl (unread Usage)
@@ -113,8 +114,8 @@ returns-in-Ok-Gen-clause-generated g c start items is =
     subst (λ (s : ℕ). GeneratedLine s items (g.L.Link.log c.args.link.now) (g.L.Link.log c.gen_load.new.link) c.gen_load.result) same.0
     (subst (λ (i : ℕ). GeneratedLine c.in-Ok-Gen.start i (g.L.Link.log c.args.link.now) (g.L.Link.log c.gen_load.new.link) c.gen_load.result) same.1 c.gen_load.ensures.told)
 
-pub gen_load-requires-start : goal.gen_load-requires-start
-gen_load-requires-start g c = (load_is_small (map string_bytes c.args.words.now) _ _ (c.in-Ok-Gen.ensures.ok ∙ ap (λ t. Some (asked t)) c.in-Ok-Gen.field-0-is)).0
+pub gen_load-requires-clause-start : goal.gen_load-requires-clause-start
+gen_load-requires-clause-start g c = (load_is_small (map string_bytes c.args.words.now) _ _ (c.in-Ok-Gen.ensures.ok ∙ ap (λ t. Some (asked t)) c.in-Ok-Gen.field-0-is)).0
 
-pub gen_load-requires-items : goal.gen_load-requires-items
-gen_load-requires-items g c = (load_is_small (map string_bytes c.args.words.now) _ _ (c.in-Ok-Gen.ensures.ok ∙ ap (λ t. Some (asked t)) c.in-Ok-Gen.field-0-is)).1
+pub gen_load-requires-clause-items : goal.gen_load-requires-clause-items
+gen_load-requires-clause-items g c = (load_is_small (map string_bytes c.args.words.now) _ _ (c.in-Ok-Gen.ensures.ok ∙ ap (λ t. Some (asked t)) c.in-Ok-Gen.field-0-is)).1
