@@ -1,6 +1,6 @@
 -- The budgets of runs and of evaluations are small, and so is a load.
 use Rattle.std.proofs.Common.{◌≡◌, ℕ, ◌≤◌, ◌<◌, ◌^◌, Bool, true, false, ◌&&◌, List, [], ◌∷◌, Option, Some, None, refl, subst, arith, if◌then◌else◌}
-use Rattle.std.specs.Prelude.{IfSome, option_and_then, option_map, nat_le, string_bytes, map}
+use Rattle.std.specs.Prelude.{IfSome, option_and_then, option_map, nat_le}
 use Rattle.std.specs.Str.Parse.{digits_value}
 use Rattle.std.proofs.lemmas.Bool.{leb-true}
 use Rattle.delta_words.specs.declared.task.Version.{Version}
@@ -9,7 +9,7 @@ use Rattle.delta_words.specs.declared.command.Command.TheVariants.{Run, Eval, Ch
 use Rattle.delta_words.specs.Numbers.{has_digits, number_within}
 use Rattle.delta_words.specs.Commands.{command_of, takes_of}
 use Rattle.delta_words.specs.CommandLine.{WrittenLine, line_of}
-use Rattle.delta_words.specs.CommandTask.{CommandTask, run, eval, check, print, text, frames, gen, budget_of, file_of, version_of, file_and_budget, text_or_frames, start_and_items, task_of_line, task_of_command, task_of}
+use Rattle.delta_words.specs.CommandTask.{CommandTask, run, eval, check, print, text, frames, gen, budget_of, file_of, version_of, file_and_budget, start_and_items, task_of_line, task_of_command, task_of}
 
 -- a run has a budget of at most 1,000,000, an evaluation one of at most 10,000; a load begins at 999,999 at most, and has at most
 -- 10,000,000 items

@@ -1,5 +1,5 @@
 -- From the end of a conversion of lines to what its caller may know.
-use Rattle.std.proofs.Common.{◌≡◌, ◌⊎◌, inl, inr, ℕ, ◌+◌, ◌≤◌, ◌^◌, List, [], Bool, true, false, Option, Some, None, Result, length, ◌∙◌, ap, sym, refl, subst, arith, length-append}
+use Rattle.std.proofs.Common.{◌≡◌, ◌⊎◌, inl, inr, ℕ, ◌≤◌, ◌^◌, List, [], Bool, true, false, Option, Some, None, Result, length, ◌∙◌, ap, sym, refl, subst, arith, length-append}
 use Rattle.port.specs.declared.link.Move.{Move}
 use Rattle.port.specs.declared.fault.IoFault.{IoFault}
 use Rattle.port.specs.Moves.{bytes_read, bytes_written}

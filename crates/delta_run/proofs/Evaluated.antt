@@ -1,5 +1,5 @@
 -- From the end of an evaluation to what its caller may know.
-use Rattle.std.proofs.Common.{◌≡◌, ◌⊎◌, inl, inr, ℕ, ◌+◌, ◌<◌, ◌≤◌, ◌^◌, List, [], Bool, true, Option, None, Some, Result, length, ◌∙◌, ap, sym, refl, subst, arith, length-append}
+use Rattle.std.proofs.Common.{◌≡◌, ◌⊎◌, inl, inr, ℕ, ◌<◌, ◌≤◌, ◌^◌, List, [], Bool, true, Option, None, Some, Result, length, ◌∙◌, ap, sym, refl, subst, arith, length-append}
 use Rattle.port.specs.declared.link.Move.{Move}
 use Rattle.port.specs.declared.fault.IoFault.{IoFault}
 use Rattle.port.specs.Faults.{HasCause}

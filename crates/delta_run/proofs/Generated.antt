@@ -1,5 +1,5 @@
 -- From the end of a run on the load to what its caller may know.
-use Rattle.std.proofs.Common.{◌≡◌, ◌⊎◌, inl, inr, ℕ, List, Option, Result}
+use Rattle.std.proofs.Common.{◌≡◌, inl, ℕ, List, Option, Result}
 use Rattle.port.specs.declared.link.Move.{Move}
 use Rattle.port.specs.declared.fault.IoFault.{IoFault}
 use Rattle.port.specs.Faults.{HasCause}

@@ -1,14 +1,12 @@
 -- A run of an accepted text that ended with 0, 4, 6 or 9 is settled by its whole input.
-use Rattle.std.proofs.Common.{◌≡◌, ℕ, List, Option, Some, ◌∙◌, ap, subst, arith}
+use Rattle.std.proofs.Common.{◌≡◌, ℕ, List, Option, ◌∙◌, ap, subst, arith}
 use Rattle.port.specs.declared.link.Move.{Move}
 use Rattle.event_frame.specs.declared.version.Version.{Version}
 use Rattle.delta_tree.specs.SyntaxTree.{ProgramTree}
-use Rattle.core_term.specs.CoreTerm.{CoreProgram}
 use Rattle.delta_end.specs.declared.end.End.{End}
 use Rattle.delta_end.specs.declared.end.End.TheVariants.{Done, Usage, Refused, Input, Budget, Deep, Open, FileFailed, ReadFailed, WriteFailed, Memory, Long}
 use Rattle.delta_end.specs.End.{status_of}
 use Rattle.delta_end.specs.Status.{IsStatus}
-use Rattle.delta_accept.specs.Acceptance.{IsWritable}
 use Rattle.delta_accept.proofs.OneAnswer.{accepted_is_one}
 use Rattle.delta_loop.specs.Meaning.{Meaning}
 use Rattle.delta_loop.specs.Loop.{Ran}

@@ -1,5 +1,5 @@
 -- From the end of a run of a text to what its caller may know.
-use Rattle.std.proofs.Common.{◌≡◌, ◌⊎◌, inl, inr, ℕ, List, [], Option, Some, None, Result, ◌∙◌, ap, sym, subst, refl, arith}
+use Rattle.std.proofs.Common.{◌≡◌, ◌⊎◌, inl, inr, ℕ, List, Option, Some, None, Result, ◌∙◌, ap, subst, refl}
 use Rattle.port.specs.declared.link.Move.{Move}
 use Rattle.port.specs.declared.fault.IoFault.{IoFault}
 use Rattle.port.specs.Faults.{HasCause}
@@ -15,7 +15,7 @@ use Rattle.delta_accept.specs.Acceptance.{IsWritable}
 use Rattle.delta_accept.proofs.OneAnswer.{accepted_is_one, writing_is_judged}
 use Rattle.delta_loop.specs.Meaning.{Meaning}
 use Rattle.delta_loop.specs.Loop.{Ran}
-use Rattle.delta_loop.specs.Answer.{Adds, IsComplete, ReadsWell}
+use Rattle.delta_loop.specs.Answer.{Adds, ReadsWell}
 use Rattle.delta_loop.proofs.Returning.{adds_none, ran_prompt, ran_reads, returned, unread}
 use Rattle.delta_loop.proofs.Completeness.{good_end, good_status}
 use Rattle.delta_output.specs.OneShot.{meaning_of}

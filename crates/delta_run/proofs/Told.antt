@@ -1,5 +1,5 @@
 -- From what a command tells to the moves that it made.
-use Rattle.std.proofs.Common.{◌≡◌, ℕ, List, [], false, Option, sym, subst}
+use Rattle.std.proofs.Common.{ℕ, List, [], false, Option, sym, subst}
 use Rattle.port.specs.declared.link.Move.{Move}
 use Rattle.delta_end.specs.declared.end.End.{End}
 use Rattle.delta_loop.specs.Answer.{Adds}
