@@ -3,3 +3,4 @@ pub mod Around
 pub mod Begun
 pub mod Told
 pub mod Steps
+pub mod CodedView

@@ -15,10 +15,11 @@ ghost use Rattle.delta_code.specs.Begun.{run_of, rest_of, runs_of, rests_of};
 use template_state::{Arguments, Later, Live};
 use bunch::Name;
 use machine_parts::holding::left;
-use machine_parts::levels::inside;
+use machine_parts::levels::deeper;
 use machine_parts::parts::{Cut, cat_types, cut_taken};
+use machine_parts::stars::as_star;
 use std::alloc::Global;
-use stream_prefix::{Prefix, StarEnd};
+use stream_prefix::Prefix;
 use stream_type::{Memory, Ty};
 
 /// What a step of a part gives. Contracts see it as a `Run` by `run_of`, and the state left by `rest_of`
@@ -62,20 +63,6 @@ pub fn quiet(output: Box<Prefix>, state: Box<Live>) -> Begun
         calls: 0,
         level: 0,
         state,
-    }
-}
-
-/// The level of a part that stands one deeper, unless it stands still. A level past 64 bits, which only
-/// an evaluation that deep would give, counts as want of memory.
-pub fn deeper(still: bool, level: u64) -> Result<u64, Memory>
-    ensures { IfOk result (λ n. n ≡ deeper still level) }
-{
-    if still || level == 0 {
-        Ok(level)
-    } else if level < u64::MAX {
-        Ok(level + 1)
-    } else {
-        Err(Memory)
     }
 }
 
@@ -146,45 +133,6 @@ pub fn starred(alloc: Global, a: Begun) -> Result<Begun, Memory>
         level: a.level,
         state: a.state,
     })
-}
-
-// A prefix of an item and the items after it as one of a star.
-#[tactic(auto, using(machine_parts::proofs::StarForms::star_forms))]
-fn as_star(alloc: Global, p: Prefix) -> Result<Box<Prefix>, Memory>
-    ensures { IfOk result (λ r. prefix_of r.value ≡ as_star (prefix_of p)) }
-{
-    match p {
-        Prefix::CatFst(a) => {
-            Ok(Box::new(alloc, Prefix::Star(Vec::new(alloc), StarEnd::First(a)))?)
-        }
-        Prefix::CatBoth(a, b) => put_before(alloc, a, b),
-        Prefix::EpsEmp
-        | Prefix::OneEmp
-        | Prefix::OneFull
-        | Prefix::IntEmp
-        | Prefix::IntFull(_)
-        | Prefix::Par(_, _)
-        | Prefix::SumEmp
-        | Prefix::Inl(_)
-        | Prefix::Inr(_)
-        | Prefix::Star(_, _) => Ok(Box::new(alloc, p)?),
-    }
-}
-
-// A whole item before the rest of a star.
-#[tactic(auto, using(machine_parts::proofs::StarForms::star_forms))]
-fn put_before(alloc: Global, item: Box<Prefix>, rest: Box<Prefix>) -> Result<Box<Prefix>, Memory>
-    ensures { IfOk result (λ r. prefix_of r.value ≡ star_rest (prefix_of item.value) (prefix_of rest.value)) }
-{
-    let mut items = Vec::new(alloc);
-    items.push(Box::into_inner(item))?;
-    match Box::into_inner(rest) {
-        Prefix::Star(mut more, end) => {
-            items.append(&mut more)?;
-            Ok(Box::new(alloc, Prefix::Star(items, end))?)
-        }
-        _ => Err(Memory),
-    }
 }
 
 /// The left side of a sum. Its only error is want of memory.
@@ -481,23 +429,4 @@ pub fn over(alloc: Global, t: &Ty, p: &Prefix) -> Result<Box<Live>, Memory>
 {
     let ty = left(alloc, t, p)?;
     Ok(Box::new(alloc, Live::Sink(ty))?)
-}
-
-/// The greatest level from below of what follows the head of a let, which stands one deeper where the head is
-/// no name and isn't whole.
-pub fn after_head(is_name: bool, head: &Prefix, levels: u64) -> u64
-    ensures { result ≡ below (is_name || is_maximal (prefix_of head.now)) levels }
-{
-    if is_name || stream_prefix::maximal(head) {
-        levels
-    } else {
-        inside(levels)
-    }
-}
-
-/// That of a body on its arguments.
-pub fn on_arguments(are_shut: bool, levels: u64) -> u64
-    ensures { result ≡ below are_shut levels }
-{
-    if are_shut { levels } else { inside(levels) }
 }

@@ -1,6 +1,6 @@
 //! Templates made of programs, each body once.
 
-ghost use Rattle.std.specs.Prelude.{◌≡◌, map, IfOk};
+ghost use Rattle.std.specs.Prelude.{◌≡◌, map, string_bytes, IfOk};
 ghost use Rattle.stream_type.specs.StreamType.{type_of};
 ghost use Rattle.hist_value.specs.HistExpr.{expr_of};
 ghost use Rattle.core_term.specs.CoreTerm.{let_term, case_sum_term, case_star_term, wait_term, call_term, term_of, term_in, terms_from, typed_names_of, core_body_of, core_of};
@@ -198,6 +198,17 @@ fn copy_exprs(alloc: Global, exprs: &[Expr]) -> Result<Vec<Expr>, Memory>
     let mut copies = Vec::new(alloc);
     for expr in exprs {
         copies.push(copy_expr(alloc, expr)?)?;
+    }
+    Ok(copies)
+}
+
+/// The texts of a program's names, once more. Its only error is want of memory.
+pub fn copy_texts(alloc: Global, texts: &[String]) -> Result<Vec<String>, Memory>
+    ensures { IfOk result (λ r. map string_bytes r.items ≡ map string_bytes texts.now) }
+{
+    let mut copies = Vec::new(alloc);
+    for text in texts {
+        copies.push(String::from_str(alloc, text)?)?;
     }
     Ok(copies)
 }

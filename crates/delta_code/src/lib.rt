@@ -6,10 +6,11 @@ mod begun;
 mod compiling;
 mod entering;
 mod free;
+mod machine;
 mod seeing;
 mod starting;
 mod stepping;
 mod still;
 mod told;
 
-pub use compiling::compile;
+pub use machine::Coded;

@@ -1,6 +1,6 @@
 //! The values that code sees, and code that isn't reached.
 
-ghost use Rattle.std.specs.Prelude.{◌≡◌, ◌∷◌, map, IfOk};
+ghost use Rattle.std.specs.Prelude.{◌≡◌, [], ◌∷◌, map, IfOk};
 ghost use Rattle.stream_type.specs.StreamType.{type_of};
 ghost use Rattle.stream_prefix.specs.Tree.{prefix_of};
 ghost use Rattle.hist_value.specs.HistExpr.{expr_of};
@@ -82,10 +82,10 @@ pub fn known(alloc: Global, past: &[(Name, Ty)], values: &[Value]) -> Result<Rc<
     ensures { IfOk result (λ v. known_in v.value ≡ known_of (typed_names_of past.now) (map hist_value_of values.now)) }
 {
     let Some((param, rest)) = past.split_first() else {
-        return Ok(Rc::new(alloc, Past::None)?);
+        return nothing_known(alloc);
     };
     let Some((first, others)) = values.split_first() else {
-        return Ok(Rc::new(alloc, Past::None)?);
+        return nothing_known(alloc);
     };
     let after = known(alloc, rest, others)?;
     let v = copy_value(alloc, first)?;
@@ -102,4 +102,11 @@ pub fn later(code: &Rc<Op>, past: &Rc<Past>, depth: u64) -> Result<Later, Memory
     let code = code.clone()?;
     let past = past.clone()?;
     Ok(Later { code, past, depth })
+}
+
+/// No names. Its only error is want of memory.
+pub fn nothing_known(alloc: Global) -> Result<Rc<Past>, Memory>
+    ensures { IfOk result (λ v. known_in v.value ≡ []) }
+{
+    Ok(Rc::new(alloc, Past::None)?)
 }

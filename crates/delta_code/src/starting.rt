@@ -25,8 +25,8 @@ ghost use Rattle.delta_code.specs.Begun.{run_of, rest_of, runs_of, rests_of};
 ghost use Rattle.delta_code.specs.Steps.{funs_of, op_run, op_rest, ops_run, ops_rest};
 
 use crate::begun::{
-    Begun, Passed, after_head, aliased, both, bound, called, cut, first, in_two, left_side,
-    no_arguments, on_arguments, one_call, parted, right_side, rowed, run_before, second, starred, state_before,
+    Begun, Passed, aliased, both, bound, called, cut, first, in_two, left_side,
+    no_arguments, one_call, parted, right_side, rowed, run_before, second, starred, state_before,
 };
 use template_state::{Code, Op, Operands};
 use crate::entering::{body_at, entered, missing, params_of};
@@ -36,7 +36,7 @@ use crate::seeing::{knowing, later, value_in, values_in};
 use crate::still::{at_once, named, no_items, over_at, waiting};
 use bunch::Name;
 use machine_parts::holding::taken;
-use machine_parts::levels::inside;
+use machine_parts::levels::{after_head, inside, on_arguments};
 use machine_parts::entry::Entry;
 use machine_parts::parts::{
     Sided, Taken, cat_types, first_part, items_after, par_parts, par_types, second_part,

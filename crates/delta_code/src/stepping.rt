@@ -16,7 +16,7 @@ ghost use Rattle.delta_code.specs.Begun.{run_of, rest_of};
 ghost use Rattle.delta_code.specs.Told.{told, left_after};
 ghost use Rattle.delta_code.specs.Steps.{funs_of, live_run, live_rest, lives_run, lives_rest};
 
-use crate::begun::{Begun, after_head, aliased, in_two, on_arguments, rowed};
+use crate::begun::{Begun, aliased, in_two, rowed};
 use template_state::Code;
 use template_state::{Arguments, Later, Live};
 use crate::seeing::knowing;
@@ -25,8 +25,8 @@ use crate::told::{
     AllTold, Gone, Told, both, bound, first, framed, none_told, quiet, second, told_before,
 };
 use bunch::Name;
-use machine_parts::holding::{joined, left as left_of};
-use machine_parts::levels::inside;
+use machine_parts::holding::{left as left_of, more};
+use machine_parts::levels::{after_head, inside, on_arguments};
 use machine_parts::entry::Entry;
 use machine_parts::parts::{
     Cut, Sided, Taken, cat_types, copied, cut_taken, first_part, items_after, nothing_yet, par_parts, par_types,
@@ -522,25 +522,12 @@ fn goes(begun: Begun) -> Gone
 }
 
 // What comes is put behind what is held.
-fn hold<'a>(alloc: Global, held: &mut [Entry], scope: &'a Scope<'a>) -> Result<(), Memory>
-    ensures { OnOk result (map entry_in held.new ≡ held_more (map entry_in held.old) (streams_in scope.now)) }
+#[inline(never)]
+fn hold<'a>(alloc: Global, held: &mut Vec<Entry>, scope: &'a Scope<'a>) -> Result<(), Memory>
+    ensures { OnOk result (map entry_in held.new.items ≡ held_more (map entry_in held.old.items) (streams_in scope.now)) }
 {
-    for entry in held.iter_mut() {
-        hold_one(alloc, entry, scope)?;
-    }
-    Ok(())
-}
-
-// What comes on one name.
-fn hold_one<'a>(alloc: Global, entry: &mut Entry, scope: &'a Scope<'a>) -> Result<(), Memory>
-    ensures name { OnOk result (entry.new.name ≡ entry.old.name) }
-    ensures ty { OnOk result (type_of entry.new.ty ≡ type_of entry.old.ty) }
-    ensures prefix { OnOk result (prefix_of entry.new.prefix ≡ join (prefix_of entry.old.prefix) (streams_in scope.now entry.old.name.0)) }
-{
-    let next = stream_at(scope, entry.name, &Prefix::EpsEmp);
-    let next = stream_prefix::copy(alloc, next)?;
-    let longer = joined(alloc, &entry.ty, &entry.prefix, next)?;
-    entry.prefix = longer;
+    let longer = more(alloc, held, scope)?;
+    *held = longer;
     Ok(())
 }
 

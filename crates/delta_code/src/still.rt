@@ -15,8 +15,9 @@ use template_state::Live;
 use bunch::Name;
 use machine_parts::parts::{copied, nothing_yet};
 use machine_parts::scope::{Scope, stream_at};
+use machine_parts::stars::over_star;
 use std::alloc::Global;
-use stream_prefix::{Prefix, StarEnd};
+use stream_prefix::Prefix;
 use stream_type::{Memory, Ty};
 
 /// A name: what comes on it, and the name again. Its only error is want of memory.
@@ -48,14 +49,6 @@ pub fn no_items(alloc: Global) -> Result<Begun, Memory>
     ensures rest { IfOk result (λ r. rest_of r ≡ sink eps) }
 {
     at_once(alloc, over_star(alloc))
-}
-
-// A star that is over.
-#[tactic(auto, using(machine_parts::proofs::StarForms::star_forms))]
-fn over_star(alloc: Global) -> Prefix
-    ensures { prefix_of result ≡ star_done }
-{
-    Prefix::Star(Vec::new(alloc), StarEnd::Done)
 }
 
 /// Nothing of a type that is null, and its state again. Its only error is want of memory.

@@ -8,7 +8,8 @@ ghost use Rattle.delta_state.specs.StateTree.{StateTree};
 ghost use Rattle.delta_code.specs.Told.{told, left_after};
 ghost use Rattle.delta_code.specs.Begun.{run_of, rest_of};
 
-use crate::begun::{Begun, deeper};
+use crate::begun::Begun;
+use machine_parts::levels::deeper;
 use template_state::Live;
 use std::alloc::Global;
 use stream_prefix::Prefix;
