@@ -1,5 +1,5 @@
 -- Where a part has a call at a level that is too great, so has the whole.
-use Rattle.std.proofs.Common.{◌≡◌, ℕ, ◌-◌, ◌<◌, max, Bool, true, false, true≢false, ◌||◌, sym, subst, arith}
+use Rattle.std.proofs.Common.{◌≡◌, ℕ, ◌-◌, ◌<◌, ◌≤◌, max, Bool, true, false, true≢false, ◌||◌, sym, subst, arith}
 use Rattle.stream_prefix.specs.StreamPrefix.{is_maximal}
 use Rattle.core_term.specs.Run.{Run, Runs, deeper, cat_run, cat_run_at, let_run, frame_run, call_run}
 use Rattle.machine_parts.specs.Levels.{below}
@@ -55,6 +55,32 @@ cat_deep_second a x y n e m h = subst (λ (z : Run). n < (cat_run z y).level) e 
     go : (w : Bool) → w ≡ true → n < (cat_run_at w a y).level
     go true q = omega (arith, h)
     go false q = absurd (true≢false (sym q))
+
+-- where no part has a call at a level that is too great, neither has the whole
+deeper_within : (still : Bool) (n m : ℕ) → m ≤ below still n → deeper still m ≤ n
+deeper_within true n m h = h
+deeper_within false n m h = omega (arith, h)
+
+both_within : (n x y : ℕ) → x ≤ n → y ≤ n → max x y ≤ n
+both_within n x y h k = omega (arith, h, k)
+
+pub let_within : (is_name : Bool) (r a b : Run) (n m l : ℕ) → r ≡ let_run is_name a b → m ≡ n - 1 → l ≡ below (is_name || is_maximal a.out) n → a.level ≤ m → b.level ≤ l → r.level ≤ n
+let_within is_name r a b n m l e f g h k =
+    let one = deeper_within false n a.level (subst (λ (x : ℕ). a.level ≤ x) f h) in
+    let two = deeper_within (is_name || is_maximal a.out) n b.level (subst (λ (x : ℕ). b.level ≤ x) g k) in
+    subst (λ (z : Run). z.level ≤ n) (sym e) (both_within n _ _ one two)
+
+pub frame_within : (as' : Runs) (r b : Run) (n m l : ℕ) → r ≡ frame_run as' b → m ≡ n - 1 → l ≡ below as'.are_shut n → as'.level ≤ m → b.level ≤ l → r.level ≤ n
+frame_within as' r b n m l e f g h k =
+    let one = deeper_within false n as'.level (subst (λ (x : ℕ). as'.level ≤ x) f h) in
+    let two = deeper_within as'.are_shut n b.level (subst (λ (x : ℕ). b.level ≤ x) g k) in
+    subst (λ (z : Run). z.level ≤ n) (sym e) (both_within n _ _ one two)
+
+pub call_within : (as' : Runs) (r b : Run) (n m l : ℕ) → r ≡ call_run as' b → 0 < n → m ≡ n - 1 → l ≡ below as'.are_shut n → as'.level ≤ m → b.level ≤ l → r.level ≤ n
+call_within as' r b n m l e p f g h k =
+    let one = deeper_within false n as'.level (subst (λ (x : ℕ). as'.level ≤ x) f h) in
+    let two = deeper_within as'.are_shut n b.level (subst (λ (x : ℕ). b.level ≤ x) g k) in
+    subst (λ (z : Run). z.level ≤ n) (sym e) (both_within n 1 _ p (both_within n _ _ one two))
 
 -- for functions over lets, frames, calls, and one after the other
 pub ruleset let_deep = (let_deep_head, let_deep_body)

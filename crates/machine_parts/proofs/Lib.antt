@@ -3,7 +3,7 @@ pub mod Past
 pub mod StarForms
 pub mod Runs
 pub mod Deeper
-pub mod Held
+pub mod HeldAndComing
 pub mod Entering
 pub mod Awaiting
 pub mod StandingTrees

@@ -16,7 +16,7 @@ use Rattle.machine_parts.specs.Scope.{types_in, streams_in}
 use Rattle.delta_step.specs.Reached.{rest_of, runs_of}
 use Rattle.delta_step.specs.Steps.{funs_in, state_rest}
 use Rattle.machine_parts.specs.Parameters.{parameters}
-use Rattle.machine_parts.proofs.Held.{body_runs, body_rests, body_deep}
+use Rattle.machine_parts.proofs.HeldAndComing.{body_runs, body_rests, body_deep}
 use Rattle.delta_step.proofs.stepping.+step.Goals as goal
 
 pub step-returns-in-Cat-clause-rest : goal.step-returns-in-Cat-clause-rest
