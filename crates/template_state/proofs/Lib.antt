@@ -1,5 +1,7 @@
 -- The lemmas.
 mod NamesInLists
 mod Putting
+mod PassedOnce
+mod UsedArguments
 mod Joining
 mod Settling

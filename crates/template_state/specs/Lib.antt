@@ -1,3 +1,4 @@
 -- What the contracts cite.
 pub mod Readers
 pub mod Templates
+pub mod Passing

@@ -5,8 +5,7 @@ ghost use Rattle.delta_state.specs.PlainState.{without_marks, arguments_without_
 ghost use Rattle.template_state.specs.Readers.{state_in, held_in, arguments_in};
 
 use crate::live::{Arguments, Live};
-use machine_parts::entry::Entry;
-use delta_state::word_len;
+use machine_parts::held::words_len;
 
 /// The number of events in the canonical words of all that the state holds: `events_held` in `delta_state`,
 /// or the greatest number of 64 bits where that is less.
@@ -35,17 +34,6 @@ fn held_by_all(args: &Arguments) -> u64
     match args {
         Arguments::None => 0,
         Arguments::Before(_, _, a, others) => held_events(a).saturating_add(held_by_all(others)),
-    }
-}
-
-// The number of events in the canonical words of held prefixes.
-#[tactic(auto, using(delta_state::proofs::Counts::counts))]
-fn words_len(held: &[Entry]) -> u64
-    ensures { result ≡ capped (events_in (plain_held (held_in held.now))) }
-{
-    match held.split_first() {
-        None => 0,
-        Some((one, others)) => word_len(&one.prefix).saturating_add(words_len(others)),
     }
 }
 

@@ -1,11 +1,12 @@
-//! Frames that become one.
+//! Frames that become one, and arguments that go.
 
-ghost use Rattle.std.specs.Prelude.{◌≡◌, true, false, IfOk, IfSome, OnOk};
+ghost use Rattle.std.specs.Prelude.{◌≡◌, true, IfOk, OnOk};
 ghost use Rattle.bunch.specs.Names.{holds};
 ghost use Rattle.stream_type.specs.StreamType.{StreamType};
 ghost use Rattle.delta_state.specs.StateTree.{argument_at, free_in_state};
-ghost use Rattle.state_rewriting.specs.Rewriting.{SimplerBy, is_plain, are_plain, passed_on, composed, without_argument};
+ghost use Rattle.state_rewriting.specs.Rewriting.{SimplerBy, is_plain, are_plain, names_passed, passed_on, composed};
 ghost use Rattle.template_state.specs.Readers.{state_in, arguments_in};
+ghost use Rattle.template_state.specs.Passing.{passes_once, IsTakenFrom, ServesAfter, only_used};
 
 use crate::live::{Arguments, Live};
 use crate::uses::uses;
@@ -32,7 +33,7 @@ fn plain(s: &Live) -> bool
     }
 }
 
-// Whether all arguments are.
+// Whether all arguments are names or finished.
 fn all_plain(args: &Arguments) -> bool
     ensures { result ≡ are_plain (arguments_in args.now) }
 {
@@ -42,11 +43,90 @@ fn all_plain(args: &Arguments) -> bool
     }
 }
 
-// One more of a name or of what is finished.
-fn copy_plain(alloc: Global, s: &Live) -> Result<Live, Memory>
-    ensures { IfOk result (λ r. state_in r ≡ state_in s.now) }
+// Whether the argument of a parameter is a name or finished. One that isn't there counts as finished.
+fn plain_at(args: &Arguments, u: Name) -> bool
+    ensures { result ≡ is_plain (argument_at (arguments_in args.now) u.0) }
 {
-    match s {
+    match args {
+        Arguments::None => true,
+        Arguments::Before(x, _, a, others) => {
+            if u.0 == x.0 {
+                plain(a)
+            } else {
+                plain_at(others, u)
+            }
+        }
+    }
+}
+
+// Whether a name stands as one of the arguments.
+fn passes(args: &Arguments, u: Name) -> bool
+    ensures { result ≡ holds u.0 (names_passed (arguments_in args.now)) }
+{
+    match args {
+        Arguments::None => false,
+        Arguments::Before(_, _, a, others) => match &**a {
+            Live::Var(v) => u.0 == v.0 || passes(others, u),
+            Live::Sink(_)
+            | Live::Par(_, _)
+            | Live::Cat(_, _)
+            | Live::Let(_, _, _, _)
+            | Live::LetPar(_, _, _, _)
+            | Live::LetCat(_, _, _, _)
+            | Live::CaseSum(_, _, _, _, _, _, _)
+            | Live::CaseStar(_, _, _, _, _, _, _)
+            | Live::Wait(_, _, _, _)
+            | Live::Frame(_, _) => passes(others, u),
+        },
+    }
+}
+
+// Whether each argument of a body that is neither a name nor finished is passed on at most once by those of a
+// call inside it.
+fn pass_once(args: &Arguments, inner: &Arguments) -> bool
+    ensures { result ≡ passes_once (arguments_in args.now) (names_passed (arguments_in inner.now)) }
+{
+    match inner {
+        Arguments::None => true,
+        Arguments::Before(_, _, a, others) => match &**a {
+            Live::Var(u) => (plain_at(args, *u) || !passes(others, *u)) && pass_once(args, others),
+            Live::Sink(_)
+            | Live::Par(_, _)
+            | Live::Cat(_, _)
+            | Live::Let(_, _, _, _)
+            | Live::LetPar(_, _, _, _)
+            | Live::LetCat(_, _, _, _)
+            | Live::CaseSum(_, _, _, _, _, _, _)
+            | Live::CaseStar(_, _, _, _, _, _, _)
+            | Live::Wait(_, _, _, _)
+            | Live::Frame(_, _) => pass_once(args, others),
+        },
+    }
+}
+
+// The argument of a parameter, which stays where it was if it is a name or finished, and is moved out if not.
+fn take(alloc: Global, args: &mut Arguments, u: Name) -> Result<Live, Memory>
+    ensures taken { IfOk result (λ r. state_in r ≡ argument_at (arguments_in args.old) u.0) }
+    ensures left { OnOk result (IsTakenFrom (arguments_in args.old) u.0 (arguments_in args.new)) }
+{
+    match args {
+        Arguments::None => Ok(Live::Sink(Ty::Eps)),
+        Arguments::Before(x, _, a, others) => {
+            if u.0 == x.0 {
+                take_one(alloc, a)
+            } else {
+                take(alloc, others, u)
+            }
+        }
+    }
+}
+
+// One argument, which stays if it is a name or finished.
+fn take_one(alloc: Global, a: &mut Live) -> Result<Live, Memory>
+    ensures taken { IfOk result (λ r. state_in r ≡ state_in a.old) }
+    ensures left { OnOk result (is_plain (state_in a.old) ≡ true → state_in a.new ≡ state_in a.old) }
+{
+    match a {
         Live::Sink(t) => Ok(Live::Sink(stream_type::copy(alloc, t)?)),
         Live::Var(x) => Ok(Live::Var(*x)),
         Live::Par(_, _)
@@ -57,31 +137,15 @@ fn copy_plain(alloc: Global, s: &Live) -> Result<Live, Memory>
         | Live::CaseSum(_, _, _, _, _, _, _)
         | Live::CaseStar(_, _, _, _, _, _, _)
         | Live::Wait(_, _, _, _)
-        | Live::Frame(_, _) => Err(Memory),
+        | Live::Frame(_, _) => Ok(mem::replace(a, Live::Sink(Ty::Eps))),
     }
 }
 
-// One more of the argument of a parameter, where all arguments are names or finished.
-fn argument(alloc: Global, args: &Arguments, u: Name) -> Result<Live, Memory>
-    ensures { IfOk result (λ r. state_in r ≡ argument_at (arguments_in args.now) u.0) }
-{
-    match args {
-        Arguments::None => Ok(Live::Sink(Ty::Eps)),
-        Arguments::Before(x, _, a, others) => {
-            if u.0 == x.0 {
-                copy_plain(alloc, a)
-            } else {
-                argument(alloc, others, u)
-            }
-        }
-    }
-}
-
-// The arguments of a call inside a body, on those of that body.
-#[tactic(auto, using(crate::proofs::Joining::joining))]
-fn compose(alloc: Global, args: &Arguments, inner: &mut Arguments) -> Result<(), Memory>
-    requires { are_plain (arguments_in inner.old) ≡ true }
-    ensures { OnOk result (arguments_in inner.new ≡ composed (arguments_in args.now) (arguments_in inner.old)) }
+// The arguments of a call inside a body, on those of that body, of which each that is moved stands once.
+fn compose(alloc: Global, args: &mut Arguments, inner: &mut Arguments) -> Result<(), Memory>
+    requires plain { are_plain (arguments_in inner.old) ≡ true }
+    requires once { passes_once (arguments_in args.old) (names_passed (arguments_in inner.old)) ≡ true }
+    ensures { OnOk result (arguments_in inner.new ≡ composed (arguments_in args.old) (arguments_in inner.old)) }
 {
     match inner {
         Arguments::None => Ok(()),
@@ -93,25 +157,26 @@ fn compose(alloc: Global, args: &Arguments, inner: &mut Arguments) -> Result<(),
 }
 
 // One of them.
-fn pass_on(alloc: Global, args: &Arguments, a: &mut Live) -> Result<(), Memory>
-    ensures { OnOk result (state_in a.new ≡ passed_on (arguments_in args.now) (state_in a.old)) }
+fn pass_on(alloc: Global, args: &mut Arguments, a: &mut Live) -> Result<(), Memory>
+    ensures passed { OnOk result (state_in a.new ≡ passed_on (arguments_in args.old) (state_in a.old)) }
+    ensures left { OnOk result (ServesAfter (arguments_in args.old) (state_in a.old) (arguments_in args.new)) }
 {
     if let Live::Var(u) = a {
-        let passed = argument(alloc, args, *u)?;
+        let passed = take(alloc, args, *u)?;
         *a = passed;
     }
     Ok(())
 }
 
-// A frame whose body is a frame becomes one with it, where all arguments of both are names or finished. Its
-// only error is want of memory.
+// A frame whose body is a frame becomes one with it, where all arguments of the inner one are names or finished,
+// and each other argument of the outer one is passed on at most once. Its only error is want of memory.
 #[tactic(auto, using(crate::proofs::Joining::joining))]
 fn join_frames(alloc: Global, s: &mut Live) -> Result<(), Memory>
     ensures { OnOk result ((q : StreamType) → SimplerBy q (state_in s.old) (state_in s.new)) }
 {
     if let Live::Frame(args, b) = s {
         if let Live::Frame(inner, _) = &mut **b {
-            if all_plain(args) && all_plain(inner) {
+            if all_plain(inner) && pass_once(args, inner) {
                 compose(alloc, args, inner)?;
                 let joined = mem::replace(&mut **b, Live::Var(Name(0)));
                 *s = joined;
@@ -121,58 +186,35 @@ fn join_frames(alloc: Global, s: &mut Live) -> Result<(), Memory>
     Ok(())
 }
 
-// A parameter whose name isn't used in the body.
-#[tactic(auto, using(crate::proofs::Joining::joining))]
-fn unused_parameter(args: &Arguments, body: &Live) -> Option<Name>
-    ensures { IfSome result (λ u. holds u.0 (free_in_state (state_in body.now)) ≡ false) }
+// The arguments of the parameters that are used in the body.
+fn keep_used(args: &mut Arguments, body: &Live)
+    ensures { arguments_in args.new ≡ only_used (free_in_state (state_in body.now)) (arguments_in args.old) }
 {
-    match args {
-        Arguments::None => None,
-        Arguments::Before(x, _, _, others) => {
-            if uses(body, *x) {
-                unused_parameter(others, body)
-            } else {
-                Some(*x)
-            }
+    if let Arguments::Before(x, _, _, others) = args {
+        keep_used(others, body);
+        if !uses(body, *x) {
+            let rest = mem::replace(&mut **others, Arguments::None);
+            *args = rest;
         }
     }
 }
 
-// The arguments less those of a parameter.
-fn remove(args: &mut Arguments, u: Name)
-    ensures { arguments_in args.new ≡ without_argument u.0 (arguments_in args.old) }
-{
-    match args {
-        Arguments::None => {}
-        Arguments::Before(x, _, _, others) => {
-            remove(others, u);
-            if x.0 == u.0 {
-                let rest = mem::replace(&mut **others, Arguments::None);
-                *args = rest;
-            }
-        }
-    }
-}
-
-// A frame loses the arguments of a parameter that isn't used.
+// A frame loses the arguments of the parameters that aren't used.
 #[tactic(auto, using(crate::proofs::Joining::joining))]
-fn drop_argument(s: &mut Live)
+fn drop_arguments(s: &mut Live)
     ensures { (q : StreamType) → SimplerBy q (state_in s.old) (state_in s.new) }
 {
     if let Live::Frame(args, b) = s {
-        if let Some(u) = unused_parameter(args, b) {
-            remove(args, u);
-        }
+        keep_used(args, b);
     }
 }
 
-/// A frame whose parts are settled: arguments of a parameter that isn't used go, and it becomes one with the
+/// A frame whose parts are settled: arguments of parameters that aren't used go, and it becomes one with the
 /// frame that is its body. Its only error is want of memory.
 #[tactic(auto, using(crate::proofs::Joining::joining))]
 pub fn settle_frame(alloc: Global, s: &mut Live) -> Result<(), Memory>
     ensures { OnOk result ((q : StreamType) → SimplerBy q (state_in s.old) (state_in s.new)) }
 {
-    drop_argument(s);
-    join_frames(alloc, s)?;
-    Ok(())
+    drop_arguments(s);
+    join_frames(alloc, s)
 }

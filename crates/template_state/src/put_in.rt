@@ -64,24 +64,22 @@ fn put_in_arguments(args: &mut Arguments, y: Name, z: Name)
     match args {
         Arguments::None => {}
         Arguments::Before(_, _, a, others) => {
-            put_argument(a, y, z);
+            put_name(a, y, z);
+            rename(a, y, z);
             put_in_arguments(others, y, z);
         }
     }
 }
 
-// The same in one argument, which itself may be y.
-#[cycle(put_name)]
+// An argument that is y becomes z.
 #[tactic(auto, using(crate::proofs::Putting::putting))]
-fn put_argument(a: &mut Live, y: Name, z: Name)
+fn rename(a: &mut Live, y: Name, z: Name)
     ensures { (r : StreamType) → ReplacedBy (y.0 ∷ (z.0 ∷ [])) (IsAlias y.0 z.0) r (state_in a.old) (state_in a.new) }
 {
     if let Live::Var(x) = a {
         if x.0 == y.0 {
             *x = z;
         }
-    } else {
-        put_name(a, y, z);
     }
 }
 

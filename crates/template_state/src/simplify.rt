@@ -1,7 +1,7 @@
 //! States put into a simpler form, in place.
 
-ghost use Rattle.std.specs.Prelude.{◌≡◌, [], OnOk};
-ghost use Rattle.stream_type.specs.StreamType.{StreamType, type_of};
+ghost use Rattle.std.specs.Prelude.{◌≡◌, true, [], OnOk};
+ghost use Rattle.stream_type.specs.StreamType.{StreamType, type_of, null_of};
 ghost use Rattle.state_rewriting.specs.Rewriting.{SimplerBy, ReplacedArgumentsBy, Rewritten};
 ghost use Rattle.template_state.specs.Readers.{state_in, arguments_in};
 
@@ -23,9 +23,7 @@ pub fn settle(alloc: Global, s: &mut Live, r: &Ty) -> Result<(), Memory>
     ensures { OnOk result (SimplerBy (type_of r.now) (state_in s.old) (state_in s.new)) }
 {
     if stream_type::null(r) {
-        let left = stream_type::copy(alloc, r)?;
-        *s = Live::Sink(left);
-        return Ok(());
+        return finish(alloc, s, r);
     }
     match s {
         Live::Sink(_)
@@ -39,7 +37,7 @@ pub fn settle(alloc: Global, s: &mut Live, r: &Ty) -> Result<(), Memory>
             settle(alloc, b, right)
         }
         Live::Cat(a, _) => {
-            let first = first_type(&*r, &Ty::Eps);
+            let (first, _) = cat_types(&*r, &Ty::Eps);
             settle(alloc, a, first)
         }
         Live::Let(_, t, a, b) => {
@@ -64,6 +62,20 @@ pub fn settle(alloc: Global, s: &mut Live, r: &Ty) -> Result<(), Memory>
             settle_frame(alloc, s)
         }
     }
+}
+
+// A state of which nothing more comes.
+#[tactic(auto, using(crate::proofs::Settling::settling))]
+fn finish(alloc: Global, s: &mut Live, r: &Ty) -> Result<(), Memory>
+    requires { null_of (type_of r.now) ≡ true }
+    ensures { OnOk result (SimplerBy (type_of r.now) (state_in s.old) (state_in s.new)) }
+{
+    if let Live::Sink(_) = s {
+        return Ok(());
+    }
+    let left = stream_type::copy(alloc, r)?;
+    *s = Live::Sink(left);
+    Ok(())
 }
 
 // The same of arguments.
