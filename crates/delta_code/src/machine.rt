@@ -7,13 +7,13 @@ ghost use Rattle.stream_prefix.specs.Tree.{prefix_of};
 ghost use Rattle.core_term.specs.CoreTerm.{core_of};
 ghost use Rattle.delta_state.specs.Stands.{input_type};
 ghost use Rattle.machine_parts.specs.AwaitedTree.{awaited_in, whole_of, entries_on, awaited_after};
-ghost use Rattle.main_steps.specs.Laws.{first_run_on, first_state_on, run_on, state_on};
+ghost use Rattle.main_steps.specs.Laws.{first_run_on, first_state_on};
 ghost use Rattle.state_rewriting.specs.Rewriting.{SimplerBy};
 ghost use Rattle.template_state.specs.Readers.{state_in};
 ghost use Rattle.delta_code.specs.Begun.{run_of, rest_of};
 ghost use Rattle.delta_code.specs.Told.{told};
 ghost use Rattle.template_state.specs.Templates.{bodies_in, body_in};
-ghost use Rattle.delta_code.specs.CodedView.{program_of, view_of, CodedStands, coded_stands_after};
+ghost use Rattle.delta_code.specs.CodedView.{run_awaiting, rest_awaiting, program_of, view_of, CodedStands, coded_stands_after};
 
 use crate::begun::Begun;
 use crate::compiling::{compile, copy_texts};
@@ -83,7 +83,15 @@ impl Machine for Coded {
 
     fn step(&mut self, alloc: Global, x: &Event) -> Result<Prefix, StepRefusal> {
         let next = event_boxed(alloc, &self.input, x)?;
-        let told = next_run(alloc, self, &next)?;
+        let told = next_run(
+            alloc,
+            &self.code,
+            self.budget,
+            &self.awaited,
+            &self.output,
+            &mut self.state,
+            &next,
+        )?;
         Ok(advance(alloc, self, &next, told)?)
     }
 
@@ -149,26 +157,26 @@ fn settled(alloc: Global, state: Box<Live>, output: &Ty) -> Result<Box<Live>, Me
     Ok(state)
 }
 
-// The run of the machine's state on what comes next; the state is then what is left of it.
-fn next_run(alloc: Global, machine: &mut Coded, next: &Prefix) -> Result<Told, StepRefusal>
-    ensures run { IfOk result (λ r. told r ≡ run_on (program_of machine.old) (state_in machine.old.state.value) (type_of machine.old.output.value) (entries_on (awaited_in machine.old.awaited.value) (prefix_of next.now))) }
-    ensures rest { OnOk result (state_in machine.new.state.value ≡ state_on (program_of machine.old) (state_in machine.old.state.value) (type_of machine.old.output.value) (entries_on (awaited_in machine.old.awaited.value) (prefix_of next.now))) }
-    ensures counted { IfOk result (λ r. r.calls ≤ machine.old.budget) }
-    ensures costly { (n : ℕ) → IsErrOf result (StepRefusal.Budget n) → (n ≡ machine.old.budget) × (n < (run_on (program_of machine.old) (state_in machine.old.state.value) (type_of machine.old.output.value) (entries_on (awaited_in machine.old.awaited.value) (prefix_of next.now))).calls) }
-    ensures deep { (n : ℕ) → IsErrOf result (StepRefusal.Deep n) → (n ≡ 1001) × (1001 < (run_on (program_of machine.old) (state_in machine.old.state.value) (type_of machine.old.output.value) (entries_on (awaited_in machine.old.awaited.value) (prefix_of next.now))).level) }
+// The run of a state on what comes next, where so much is awaited and this type is left of its output; the state
+// is then what is left of it.
+fn next_run(
+    alloc: Global,
+    code: &Code,
+    budget: u64,
+    awaited: &Awaited,
+    output: &Ty,
+    state: &mut Live,
+    next: &Prefix,
+) -> Result<Told, StepRefusal>
+    ensures run { IfOk result (λ r. told r ≡ run_awaiting code.now (state_in state.old) (type_of output.now) (awaited_in awaited.now) (prefix_of next.now)) }
+    ensures rest { OnOk result (state_in state.new ≡ rest_awaiting code.now (state_in state.old) (type_of output.now) (awaited_in awaited.now) (prefix_of next.now)) }
+    ensures counted { IfOk result (λ r. r.calls ≤ budget) }
+    ensures costly { (n : ℕ) → IsErrOf result (StepRefusal.Budget n) → (n ≡ budget) × (n < (run_awaiting code.now (state_in state.old) (type_of output.now) (awaited_in awaited.now) (prefix_of next.now)).calls) }
+    ensures deep { (n : ℕ) → IsErrOf result (StepRefusal.Deep n) → (n ≡ 1001) × (1001 < (run_awaiting code.now (state_in state.old) (type_of output.now) (awaited_in awaited.now) (prefix_of next.now)).level) }
 {
-    let entries = entries(alloc, &machine.awaited, next)?;
+    let entries = entries(alloc, awaited, next)?;
     let scope = Scope::Names(&entries);
-    let budget = machine.budget;
-    match step(
-        alloc,
-        &machine.code,
-        &scope,
-        &mut machine.state,
-        &machine.output,
-        budget,
-        LEVELS,
-    ) {
+    match step(alloc, code, &scope, state, output, budget, LEVELS) {
         Ok(told) => Ok(told),
         Err(stop) => Err(refusal(stop, budget)),
     }

@@ -249,7 +249,7 @@ fn step_row<'a>(
 }
 
 // A case on a sum, on what was held and what comes.
-#[tactic(auto, using(machine_parts::proofs::Held::held_forms))]
+#[tactic(auto, using(machine_parts::proofs::HeldAndComing::held_forms))]
 #[inline(never)]
 fn step_sum<'a>(
     alloc: Global,
@@ -291,7 +291,7 @@ fn step_sum<'a>(
 }
 
 // A case on a star, on what was held and what comes.
-#[tactic(auto, using(machine_parts::proofs::Held::held_forms))]
+#[tactic(auto, using(machine_parts::proofs::HeldAndComing::held_forms))]
 #[inline(never)]
 fn step_star<'a>(
     alloc: Global,
@@ -339,7 +339,7 @@ fn step_star<'a>(
 }
 
 // A wait, on what was held and what comes.
-#[tactic(auto, using(machine_parts::proofs::Held::held_forms, machine_parts::proofs::Runs::waits))]
+#[tactic(auto, using(machine_parts::proofs::HeldAndComing::held_forms, machine_parts::proofs::Runs::waits))]
 #[inline(never)]
 fn step_wait<'a>(
     alloc: Global,
@@ -368,7 +368,7 @@ fn step_wait<'a>(
 
 // A body on its arguments.
 #[cycle(step)]
-#[tactic(auto, using(machine_parts::proofs::Held::frames, machine_parts::proofs::Deeper::frame_deep))]
+#[tactic(auto, using(machine_parts::proofs::HeldAndComing::frames, machine_parts::proofs::Deeper::frame_deep))]
 #[inline(never)]
 fn step_frame<'a>(
     alloc: Global,
