@@ -91,12 +91,24 @@ fn form(alloc: Global, t: &Term) -> Result<Op, Memory>
             let (a, b) = both(alloc, a, b)?;
             Ok(Op::Cons(a, b))
         }
-        Term::Let(x, s, a, b) => form_let(alloc, *x, s, a, b),
+        Term::Let(x, s, a, b) => {
+            let (a, b) = both(alloc, a, b)?;
+            bound(alloc, *x, s, a, b)
+        }
         Term::LetPar(x, y, z, a) => Ok(Op::LetPar(*x, *y, *z, op(alloc, a)?)),
         Term::LetCat(x, y, z, a) => Ok(Op::LetCat(*x, *y, *z, op(alloc, a)?)),
-        Term::CaseSum(z, t, x, a, y, b) => form_sum(alloc, *z, t, *x, a, *y, b),
-        Term::CaseStar(z, t, a, y, ys, b) => form_star(alloc, *z, t, a, *y, *ys, b),
-        Term::Wait(x, t, a) => form_wait(alloc, *x, t, a),
+        Term::CaseSum(z, t, x, a, y, b) => {
+            let (a, b) = both(alloc, a, b)?;
+            on_sum(alloc, *z, t, *x, a, *y, b)
+        }
+        Term::CaseStar(z, t, a, y, ys, b) => {
+            let (a, b) = both(alloc, a, b)?;
+            on_star(alloc, *z, t, a, *y, *ys, b)
+        }
+        Term::Wait(x, t, a) => {
+            let a = op(alloc, a)?;
+            waiting(alloc, *x, t, a)
+        }
         Term::Call(f, ms, es) => form_call(alloc, es, ms, *f),
     }
 }
@@ -108,54 +120,6 @@ fn both(alloc: Global, a: &Node, b: &Node) -> Result<(Rc<Op>, Rc<Op>), Memory>
 {
     let first = op(alloc, a)?;
     Ok((first, op(alloc, b)?))
-}
-
-#[cycle(op)]
-fn form_let(alloc: Global, x: Name, s: &Ty, a: &Node, b: &Node) -> Result<Op, Memory>
-    ensures { IfOk result (λ r. op_term r ≡ let_term x.0 (type_of s.now) (term_of a.now) (term_of b.now)) }
-{
-    let (a, b) = both(alloc, a, b)?;
-    Ok(Op::Let(x, stream_type::copy(alloc, s)?, a, b))
-}
-
-#[cycle(op)]
-fn form_sum(
-    alloc: Global,
-    z: Name,
-    t: &Ty,
-    x: Name,
-    a: &Node,
-    y: Name,
-    b: &Node,
-) -> Result<Op, Memory>
-    ensures { IfOk result (λ r. op_term r ≡ case_sum_term z.0 (type_of t.now) x.0 (term_of a.now) y.0 (term_of b.now)) }
-{
-    let (a, b) = both(alloc, a, b)?;
-    Ok(Op::CaseSum(z, stream_type::copy(alloc, t)?, x, a, y, b))
-}
-
-#[cycle(op)]
-fn form_star(
-    alloc: Global,
-    z: Name,
-    t: &Ty,
-    a: &Node,
-    y: Name,
-    ys: Name,
-    b: &Node,
-) -> Result<Op, Memory>
-    ensures { IfOk result (λ r. op_term r ≡ case_star_term z.0 (type_of t.now) (term_of a.now) y.0 ys.0 (term_of b.now)) }
-{
-    let (a, b) = both(alloc, a, b)?;
-    Ok(Op::CaseStar(z, stream_type::copy(alloc, t)?, a, y, ys, b))
-}
-
-#[cycle(op)]
-fn form_wait(alloc: Global, x: Name, t: &Ty, a: &Node) -> Result<Op, Memory>
-    ensures { IfOk result (λ r. op_term r ≡ wait_term x.0 (type_of t.now) (term_of a.now)) }
-{
-    let a = op(alloc, a)?;
-    Ok(Op::Wait(x, stream_type::copy(alloc, t)?, a))
 }
 
 #[cycle(op)]
@@ -176,6 +140,54 @@ fn ops(alloc: Global, nodes: &[Node]) -> Result<Vec<Rc<Op>>, Memory>
         made.push(op(alloc, node)?)?;
     }
     Ok(made)
+}
+
+// A let of these.
+fn bound(alloc: Global, x: Name, s: &Ty, a: Rc<Op>, b: Rc<Op>) -> Result<Op, Memory>
+    ensures { IfOk result (λ r. op_term r ≡ let_term x.0 (type_of s.now) (op_term a.value) (op_term b.value)) }
+{
+    let ty = stream_type::copy(alloc, s)?;
+    Ok(Op::Let(x, ty, a, b))
+}
+
+// A case on a sum of these.
+fn on_sum(
+    alloc: Global,
+    z: Name,
+    t: &Ty,
+    x: Name,
+    a: Rc<Op>,
+    y: Name,
+    b: Rc<Op>,
+) -> Result<Op, Memory>
+    ensures { IfOk result (λ r. op_term r ≡ case_sum_term z.0 (type_of t.now) x.0 (op_term a.value) y.0 (op_term b.value)) }
+{
+    let ty = stream_type::copy(alloc, t)?;
+    Ok(Op::CaseSum(z, ty, x, a, y, b))
+}
+
+// A case on a star of these.
+fn on_star(
+    alloc: Global,
+    z: Name,
+    t: &Ty,
+    a: Rc<Op>,
+    y: Name,
+    ys: Name,
+    b: Rc<Op>,
+) -> Result<Op, Memory>
+    ensures { IfOk result (λ r. op_term r ≡ case_star_term z.0 (type_of t.now) (op_term a.value) y.0 ys.0 (op_term b.value)) }
+{
+    let ty = stream_type::copy(alloc, t)?;
+    Ok(Op::CaseStar(z, ty, a, y, ys, b))
+}
+
+// A wait of these.
+fn waiting(alloc: Global, x: Name, t: &Ty, a: Rc<Op>) -> Result<Op, Memory>
+    ensures { IfOk result (λ r. op_term r ≡ wait_term x.0 (type_of t.now) (op_term a.value)) }
+{
+    let ty = stream_type::copy(alloc, t)?;
+    Ok(Op::Wait(x, ty, a))
 }
 
 // Terms in a row as the arguments of a call.

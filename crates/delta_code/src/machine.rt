@@ -5,6 +5,8 @@ ghost use Rattle.stream_type.specs.StreamType.{type_of};
 ghost use Rattle.stream_prefix.specs.StreamPrefix.{emp, der};
 ghost use Rattle.stream_prefix.specs.Tree.{prefix_of};
 ghost use Rattle.core_term.specs.CoreTerm.{core_of};
+ghost use Rattle.delta_state.specs.PlainState.{state_of};
+ghost use Rattle.delta_state.specs.PlaceTree.{place_of};
 ghost use Rattle.delta_state.specs.Stands.{input_type};
 ghost use Rattle.machine_parts.specs.AwaitedTree.{awaited_in, whole_of, entries_on, awaited_after};
 ghost use Rattle.main_steps.specs.Laws.{first_run_on, first_state_on};
@@ -22,16 +24,17 @@ use crate::starting::start;
 use crate::stepping::step;
 use crate::told::Told;
 use core_term::{Checked, Core};
-use delta_state::{Machine, StepRefusal};
+use delta_state::{Machine, Place, State, StepRefusal};
 use event_word::Event;
 use machine_parts::awaited::{Awaited, entries, go_on, whole};
 use machine_parts::boxes::{copy_boxed, event_boxed, left_boxed};
+use machine_parts::place::place;
 use machine_parts::scope::Scope;
 use machine_parts::stop::{HORIZON, LEVELS, refusal};
 use std::alloc::Global;
 use stream_prefix::{Prefix, empty};
 use stream_type::{Memory, Ty};
-use template_state::{Code, Live, count_states, held_events, settle};
+use template_state::{Code, Live, count_states, held_events, plain, settle};
 
 /// The compiled machine: it owns the templates of its program, and its state, which is changed in place. To the
 /// contracts of machines it is its `view_of`, and it stands for its program as `CodedStands` says
@@ -49,6 +52,18 @@ pub struct Coded {
     output: Box<Ty>,
     events: u64,
     spent: u64,
+}
+
+impl Coded {
+    /// Its state without marks, and its place. Its only error is want of memory.
+    pub fn to_state(&self, alloc: Global) -> Result<(State, Place), Memory>
+        ensures state { IfOk result (λ r. state_of r.0 ≡ (view_of self.now).state) }
+        ensures place { IfOk result (λ r. place_of r.1 ≡ (view_of self.now).place) }
+    {
+        let state = plain(alloc, &self.state)?;
+        let place = place(alloc, &self.awaited)?;
+        Ok((Box::into_inner(state), place))
+    }
 }
 
 impl Machine for Coded {

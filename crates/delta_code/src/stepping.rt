@@ -53,9 +53,9 @@ pub fn step<'a>(
     left: u64,
     levels: u64,
 ) -> Result<Told, Stop>
-    ensures run { IfOk result (λ a. told a ≡ live_run code.now scope.now (state_in s.old) (type_of r.now)) }
+    ensures run { IfOk result (λ g. told g ≡ live_run code.now scope.now (state_in s.old) (type_of r.now)) }
     ensures rest { OnOk result (state_in s.new ≡ live_rest code.now scope.now (state_in s.old) (type_of r.now)) }
-    ensures counted { IfOk result (λ a. a.calls ≤ left) }
+    ensures counted { IfOk result (λ g. g.calls ≤ left) }
     ensures spent { IfErr result (λ e. e ≡ Stop.Spent → left < (live_run code.now scope.now (state_in s.old) (type_of r.now)).calls) }
     ensures deep { IfErr result (λ e. e ≡ Stop.Deep → levels < (live_run code.now scope.now (state_in s.old) (type_of r.now)).level) }
 {
@@ -96,10 +96,14 @@ fn put(s: &mut Live, gone: Gone) -> Told
     ensures told { told result ≡ told gone.told }
     ensures state { state_in s.new ≡ left_after gone.state (state_in s.old) }
 {
-    if let Some(state) = gone.state {
-        *s = Box::into_inner(state);
+    let Gone { told, state } = gone;
+    match state {
+        Some(state) => {
+            *s = Box::into_inner(state);
+            told
+        }
+        None => told,
     }
-    gone.told
 }
 
 // Both at once.
@@ -116,9 +120,9 @@ fn step_both<'a>(
     left: u64,
     levels: u64,
 ) -> Result<Told, Stop>
-    ensures run { IfOk result (λ a. told a ≡ live_run code.now scope.now (par_state (state_in a.old) (state_in b.old)) (type_of r.now)) }
+    ensures run { IfOk result (λ g. told g ≡ live_run code.now scope.now (par_state (state_in a.old) (state_in b.old)) (type_of r.now)) }
     ensures rest { OnOk result (par_state (state_in a.new) (state_in b.new) ≡ live_rest code.now scope.now (par_state (state_in a.old) (state_in b.old)) (type_of r.now)) }
-    ensures counted { IfOk result (λ a. a.calls ≤ left) }
+    ensures counted { IfOk result (λ g. g.calls ≤ left) }
     ensures spent { IfErr result (λ e. e ≡ Stop.Spent → left < (live_run code.now scope.now (par_state (state_in a.old) (state_in b.old)) (type_of r.now)).calls) }
     ensures deep { IfErr result (λ e. e ≡ Stop.Deep → levels < (live_run code.now scope.now (par_state (state_in a.old) (state_in b.old)) (type_of r.now)).level) }
 {
@@ -142,9 +146,9 @@ fn step_in_turn<'a>(
     left: u64,
     levels: u64,
 ) -> Result<Gone, Stop>
-    ensures run { IfOk result (λ a. told a.told ≡ live_run code.now scope.now (cat_state (state_in a.old) (later_in l.now)) (type_of r.now)) }
-    ensures rest { IfOk result (λ a. left_after a.state (cat_state (state_in a.new) (later_in l.now)) ≡ live_rest code.now scope.now (cat_state (state_in a.old) (later_in l.now)) (type_of r.now)) }
-    ensures counted { IfOk result (λ a. a.told.calls ≤ left) }
+    ensures run { IfOk result (λ g. told g.told ≡ live_run code.now scope.now (cat_state (state_in a.old) (later_in l.now)) (type_of r.now)) }
+    ensures rest { IfOk result (λ g. left_after g.state (cat_state (state_in a.new) (later_in l.now)) ≡ live_rest code.now scope.now (cat_state (state_in a.old) (later_in l.now)) (type_of r.now)) }
+    ensures counted { IfOk result (λ g. g.told.calls ≤ left) }
     ensures spent { IfErr result (λ e. e ≡ Stop.Spent → left < (live_run code.now scope.now (cat_state (state_in a.old) (later_in l.now)) (type_of r.now)).calls) }
     ensures deep { IfErr result (λ e. e ≡ Stop.Deep → levels < (live_run code.now scope.now (cat_state (state_in a.old) (later_in l.now)) (type_of r.now)).level) }
 {
@@ -173,9 +177,9 @@ fn step_let<'a>(
     left: u64,
     levels: u64,
 ) -> Result<Told, Stop>
-    ensures run { IfOk result (λ a. told a ≡ live_run code.now scope.now (let_state x.0 (type_of t.old) (state_in a.old) (state_in b.old)) (type_of r.now)) }
+    ensures run { IfOk result (λ g. told g ≡ live_run code.now scope.now (let_state x.0 (type_of t.old) (state_in a.old) (state_in b.old)) (type_of r.now)) }
     ensures rest { OnOk result (let_state x.0 (type_of t.new) (state_in a.new) (state_in b.new) ≡ live_rest code.now scope.now (let_state x.0 (type_of t.old) (state_in a.old) (state_in b.old)) (type_of r.now)) }
-    ensures counted { IfOk result (λ a. a.calls ≤ left) }
+    ensures counted { IfOk result (λ g. g.calls ≤ left) }
     ensures spent { IfErr result (λ e. e ≡ Stop.Spent → left < (live_run code.now scope.now (let_state x.0 (type_of t.old) (state_in a.old) (state_in b.old)) (type_of r.now)).calls) }
     ensures deep { IfErr result (λ e. e ≡ Stop.Deep → levels < (live_run code.now scope.now (let_state x.0 (type_of t.old) (state_in a.old) (state_in b.old)) (type_of r.now)).level) }
 {
@@ -204,9 +208,9 @@ fn step_pair<'a>(
     left: u64,
     levels: u64,
 ) -> Result<Told, Stop>
-    ensures run { IfOk result (λ a. told a ≡ live_run code.now scope.now (let_par_state x.0 y.0 z.0 (state_in a.old)) (type_of r.now)) }
+    ensures run { IfOk result (λ g. told g ≡ live_run code.now scope.now (let_par_state x.0 y.0 z.0 (state_in a.old)) (type_of r.now)) }
     ensures rest { OnOk result (let_par_state x.0 y.0 z.0 (state_in a.new) ≡ live_rest code.now scope.now (let_par_state x.0 y.0 z.0 (state_in a.old)) (type_of r.now)) }
-    ensures counted { IfOk result (λ a. a.calls ≤ left) }
+    ensures counted { IfOk result (λ g. g.calls ≤ left) }
     ensures spent { IfErr result (λ e. e ≡ Stop.Spent → left < (live_run code.now scope.now (let_par_state x.0 y.0 z.0 (state_in a.old)) (type_of r.now)).calls) }
     ensures deep { IfErr result (λ e. e ≡ Stop.Deep → levels < (live_run code.now scope.now (let_par_state x.0 y.0 z.0 (state_in a.old)) (type_of r.now)).level) }
 {
@@ -232,9 +236,9 @@ fn step_row<'a>(
     left: u64,
     levels: u64,
 ) -> Result<Gone, Stop>
-    ensures run { IfOk result (λ a. told a.told ≡ live_run code.now scope.now (let_cat_state x.0 y.0 z.0 (state_in a.old)) (type_of r.now)) }
-    ensures rest { IfOk result (λ a. left_after a.state (let_cat_state x.0 y.0 z.0 (state_in a.new)) ≡ live_rest code.now scope.now (let_cat_state x.0 y.0 z.0 (state_in a.old)) (type_of r.now)) }
-    ensures counted { IfOk result (λ a. a.told.calls ≤ left) }
+    ensures run { IfOk result (λ g. told g.told ≡ live_run code.now scope.now (let_cat_state x.0 y.0 z.0 (state_in a.old)) (type_of r.now)) }
+    ensures rest { IfOk result (λ g. left_after g.state (let_cat_state x.0 y.0 z.0 (state_in a.new)) ≡ live_rest code.now scope.now (let_cat_state x.0 y.0 z.0 (state_in a.old)) (type_of r.now)) }
+    ensures counted { IfOk result (λ g. g.told.calls ≤ left) }
     ensures spent { IfErr result (λ e. e ≡ Stop.Spent → left < (live_run code.now scope.now (let_cat_state x.0 y.0 z.0 (state_in a.old)) (type_of r.now)).calls) }
     ensures deep { IfErr result (λ e. e ≡ Stop.Deep → levels < (live_run code.now scope.now (let_cat_state x.0 y.0 z.0 (state_in a.old)) (type_of r.now)).level) }
 {
@@ -244,8 +248,8 @@ fn step_row<'a>(
     let v = second_part(alloc, t, p)?;
     let outer = Scope::Stream(x, s, first_part(p, &Prefix::EpsEmp), scope);
     let inner = Scope::Stream(y, t, &v, &outer);
-    let told = step(alloc, code, &inner, a, r, left, levels)?;
-    Ok(cut(alloc, x, y, z, ty, p, a, told)?)
+    let given = step(alloc, code, &inner, a, r, left, levels)?;
+    Ok(cut(alloc, x, y, z, ty, p, a, given)?)
 }
 
 // A case on a sum, on what was held and what comes.
@@ -266,9 +270,9 @@ fn step_sum<'a>(
     left: u64,
     levels: u64,
 ) -> Result<Gone, Stop>
-    ensures run { IfOk result (λ a. told a.told ≡ live_run code.now scope.now (sum_state z.0 (type_of t.now) (map entry_in held.old.items) x.0 (later_in l.now) y.0 (later_in m.now)) (type_of r.now)) }
-    ensures rest { IfOk result (λ a. left_after a.state (sum_state z.0 (type_of t.now) (map entry_in held.new.items) x.0 (later_in l.now) y.0 (later_in m.now)) ≡ live_rest code.now scope.now (sum_state z.0 (type_of t.now) (map entry_in held.old.items) x.0 (later_in l.now) y.0 (later_in m.now)) (type_of r.now)) }
-    ensures counted { IfOk result (λ a. a.told.calls ≤ left) }
+    ensures run { IfOk result (λ g. told g.told ≡ live_run code.now scope.now (sum_state z.0 (type_of t.now) (map entry_in held.old.items) x.0 (later_in l.now) y.0 (later_in m.now)) (type_of r.now)) }
+    ensures rest { IfOk result (λ g. left_after g.state (sum_state z.0 (type_of t.now) (map entry_in held.new.items) x.0 (later_in l.now) y.0 (later_in m.now)) ≡ live_rest code.now scope.now (sum_state z.0 (type_of t.now) (map entry_in held.old.items) x.0 (later_in l.now) y.0 (later_in m.now)) (type_of r.now)) }
+    ensures counted { IfOk result (λ g. g.told.calls ≤ left) }
     ensures spent { IfErr result (λ e. e ≡ Stop.Spent → left < (live_run code.now scope.now (sum_state z.0 (type_of t.now) (map entry_in held.old.items) x.0 (later_in l.now) y.0 (later_in m.now)) (type_of r.now)).calls) }
     ensures deep { IfErr result (λ e. e ≡ Stop.Deep → levels < (live_run code.now scope.now (sum_state z.0 (type_of t.now) (map entry_in held.old.items) x.0 (later_in l.now) y.0 (later_in m.now)) (type_of r.now)).level) }
 {
@@ -308,9 +312,9 @@ fn step_star<'a>(
     left: u64,
     levels: u64,
 ) -> Result<Gone, Stop>
-    ensures run { IfOk result (λ a. told a.told ≡ live_run code.now scope.now (star_state z.0 (type_of t.now) (map entry_in held.old.items) (later_in l.now) y.0 ys.0 (later_in m.now)) (type_of r.now)) }
-    ensures rest { IfOk result (λ a. left_after a.state (star_state z.0 (type_of t.now) (map entry_in held.new.items) (later_in l.now) y.0 ys.0 (later_in m.now)) ≡ live_rest code.now scope.now (star_state z.0 (type_of t.now) (map entry_in held.old.items) (later_in l.now) y.0 ys.0 (later_in m.now)) (type_of r.now)) }
-    ensures counted { IfOk result (λ a. a.told.calls ≤ left) }
+    ensures run { IfOk result (λ g. told g.told ≡ live_run code.now scope.now (star_state z.0 (type_of t.now) (map entry_in held.old.items) (later_in l.now) y.0 ys.0 (later_in m.now)) (type_of r.now)) }
+    ensures rest { IfOk result (λ g. left_after g.state (star_state z.0 (type_of t.now) (map entry_in held.new.items) (later_in l.now) y.0 ys.0 (later_in m.now)) ≡ live_rest code.now scope.now (star_state z.0 (type_of t.now) (map entry_in held.old.items) (later_in l.now) y.0 ys.0 (later_in m.now)) (type_of r.now)) }
+    ensures counted { IfOk result (λ g. g.told.calls ≤ left) }
     ensures spent { IfErr result (λ e. e ≡ Stop.Spent → left < (live_run code.now scope.now (star_state z.0 (type_of t.now) (map entry_in held.old.items) (later_in l.now) y.0 ys.0 (later_in m.now)) (type_of r.now)).calls) }
     ensures deep { IfErr result (λ e. e ≡ Stop.Deep → levels < (live_run code.now scope.now (star_state z.0 (type_of t.now) (map entry_in held.old.items) (later_in l.now) y.0 ys.0 (later_in m.now)) (type_of r.now)).level) }
 {
@@ -353,9 +357,9 @@ fn step_wait<'a>(
     left: u64,
     levels: u64,
 ) -> Result<Gone, Stop>
-    ensures run { IfOk result (λ a. told a.told ≡ live_run code.now scope.now (wait_state x.0 (type_of t.now) (map entry_in held.old.items) (later_in l.now)) (type_of r.now)) }
-    ensures rest { IfOk result (λ a. left_after a.state (wait_state x.0 (type_of t.now) (map entry_in held.new.items) (later_in l.now)) ≡ live_rest code.now scope.now (wait_state x.0 (type_of t.now) (map entry_in held.old.items) (later_in l.now)) (type_of r.now)) }
-    ensures counted { IfOk result (λ a. a.told.calls ≤ left) }
+    ensures run { IfOk result (λ g. told g.told ≡ live_run code.now scope.now (wait_state x.0 (type_of t.now) (map entry_in held.old.items) (later_in l.now)) (type_of r.now)) }
+    ensures rest { IfOk result (λ g. left_after g.state (wait_state x.0 (type_of t.now) (map entry_in held.new.items) (later_in l.now)) ≡ live_rest code.now scope.now (wait_state x.0 (type_of t.now) (map entry_in held.old.items) (later_in l.now)) (type_of r.now)) }
+    ensures counted { IfOk result (λ g. g.told.calls ≤ left) }
     ensures spent { IfErr result (λ e. e ≡ Stop.Spent → left < (live_run code.now scope.now (wait_state x.0 (type_of t.now) (map entry_in held.old.items) (later_in l.now)) (type_of r.now)).calls) }
     ensures deep { IfErr result (λ e. e ≡ Stop.Deep → levels < (live_run code.now scope.now (wait_state x.0 (type_of t.now) (map entry_in held.old.items) (later_in l.now)) (type_of r.now)).level) }
 {
@@ -380,9 +384,9 @@ fn step_frame<'a>(
     left: u64,
     levels: u64,
 ) -> Result<Told, Stop>
-    ensures run { IfOk result (λ a. told a ≡ live_run code.now scope.now (frame_state (arguments_in args.old) (state_in a.old)) (type_of r.now)) }
+    ensures run { IfOk result (λ g. told g ≡ live_run code.now scope.now (frame_state (arguments_in args.old) (state_in a.old)) (type_of r.now)) }
     ensures rest { OnOk result (frame_state (arguments_in args.new) (state_in a.new) ≡ live_rest code.now scope.now (frame_state (arguments_in args.old) (state_in a.old)) (type_of r.now)) }
-    ensures counted { IfOk result (λ a. a.calls ≤ left) }
+    ensures counted { IfOk result (λ g. g.calls ≤ left) }
     ensures spent { IfErr result (λ e. e ≡ Stop.Spent → left < (live_run code.now scope.now (frame_state (arguments_in args.old) (state_in a.old)) (type_of r.now)).calls) }
     ensures deep { IfErr result (λ e. e ≡ Stop.Deep → levels < (live_run code.now scope.now (frame_state (arguments_in args.old) (state_in a.old)) (type_of r.now)).level) }
 {
@@ -410,7 +414,7 @@ fn step_arguments<'a>(
     ensures runs { IfOk result (λ a. (a.calls ≡ (lives_run code.now scope.now (arguments_in args.old)).calls) × ((a.level ≡ (lives_run code.now scope.now (arguments_in args.old)).level) × (a.are_shut ≡ (lives_run code.now scope.now (arguments_in args.old)).are_shut))) }
     ensures entries { OnOk result (map entry_in found.new.items ≡ map entry_in found.old.items ++ parameters (arguments_in args.old) (lives_run code.now scope.now (arguments_in args.old)).outs) }
     ensures rests { OnOk result (arguments_in args.new ≡ lives_rest code.now scope.now (arguments_in args.old)) }
-    ensures counted { IfOk result (λ a. a.calls ≤ left) }
+    ensures counted { IfOk result (λ g. g.calls ≤ left) }
     ensures spent { IfErr result (λ e. e ≡ Stop.Spent → left < (lives_run code.now scope.now (arguments_in args.old)).calls) }
     ensures deep { IfErr result (λ e. e ≡ Stop.Deep → levels < (lives_run code.now scope.now (arguments_in args.old)).level) }
 {
@@ -442,7 +446,7 @@ fn open<'a>(
 ) -> Result<Begun, Stop>
     ensures run { IfOk result (λ a. run_of a ≡ run_later (funs_of code.now) (later_in l.now) (types_in scope.now) (type_of r.now) (streams_in scope.now)) }
     ensures rest { IfOk result (λ a. rest_of a ≡ rest_later (funs_of code.now) (later_in l.now) (types_in scope.now) (type_of r.now) (streams_in scope.now)) }
-    ensures counted { IfOk result (λ a. a.calls ≤ left) }
+    ensures counted { IfOk result (λ g. g.calls ≤ left) }
     ensures spent { IfErr result (λ e. e ≡ Stop.Spent → left < (run_later (funs_of code.now) (later_in l.now) (types_in scope.now) (type_of r.now) (streams_in scope.now)).calls) }
     ensures deep { IfErr result (λ e. e ≡ Stop.Deep → levels < (run_later (funs_of code.now) (later_in l.now) (types_in scope.now) (type_of r.now) (streams_in scope.now)).level) }
 {
@@ -477,7 +481,7 @@ fn open_known(
 ) -> Result<Begun, Stop>
     ensures run { IfOk result (λ a. run_of a ≡ run_later (funs_of code.now) (knowing x.0 (types_held (map entry_in held.now) x.0) (value_of (prefixes_held (map entry_in held.now) x.0)) (later_in l.now)) (types_held (map entry_in held.now)) (type_of r.now) (prefixes_held (map entry_in held.now))) }
     ensures rest { IfOk result (λ a. rest_of a ≡ rest_later (funs_of code.now) (knowing x.0 (types_held (map entry_in held.now) x.0) (value_of (prefixes_held (map entry_in held.now) x.0)) (later_in l.now)) (types_held (map entry_in held.now)) (type_of r.now) (prefixes_held (map entry_in held.now))) }
-    ensures counted { IfOk result (λ a. a.calls ≤ left) }
+    ensures counted { IfOk result (λ g. g.calls ≤ left) }
     ensures spent { IfErr result (λ e. e ≡ Stop.Spent → left < (run_later (funs_of code.now) (knowing x.0 (types_held (map entry_in held.now) x.0) (value_of (prefixes_held (map entry_in held.now) x.0)) (later_in l.now)) (types_held (map entry_in held.now)) (type_of r.now) (prefixes_held (map entry_in held.now))).calls) }
     ensures deep { IfErr result (λ e. e ≡ Stop.Deep → levels < (run_later (funs_of code.now) (knowing x.0 (types_held (map entry_in held.now) x.0) (value_of (prefixes_held (map entry_in held.now) x.0)) (later_in l.now)) (types_held (map entry_in held.now)) (type_of r.now) (prefixes_held (map entry_in held.now))).level) }
 {
@@ -498,11 +502,14 @@ fn is_name(s: &Live) -> bool
 }
 
 // What stands there stays.
-fn stays(told: Told) -> Gone
-    ensures told { told result.told ≡ told told }
+fn stays(given: Told) -> Gone
+    ensures told { told result.told ≡ told given }
     ensures none { result.state ≡ Option.None }
 {
-    Gone { told, state: None }
+    Gone {
+        told: given,
+        state: None,
+    }
 }
 
 // Another state takes its place.
@@ -540,21 +547,21 @@ fn cut(
     s: &Ty,
     p: &Prefix,
     a: &mut Live,
-    told: Told,
+    given: Told,
 ) -> Result<Gone, Memory>
-    ensures run { IfOk result (λ g. told g.told ≡ told told) }
+    ensures run { IfOk result (λ g. told g.told ≡ told given) }
     ensures rest { IfOk result (λ g. left_after g.state (let_cat_state x.0 y.0 z.0 (state_in a.new)) ≡ cut_state x.0 y.0 z.0 (type_of s.now) (prefix_of p.now) (state_in a.old)) }
 {
     let (t, u) = cat_types(s, &Ty::Eps);
     match cut_taken(p) {
-        Cut::Before => Ok(stays(told)),
+        Cut::Before => Ok(stays(given)),
         Cut::After(p, q) => {
             let inner = mem::replace(a, Live::Var(Name(0)));
             let state = Box::new(alloc, inner)?;
             let begun = Begun {
-                output: told.output,
-                calls: told.calls,
-                level: told.level,
+                output: given.output,
+                calls: given.calls,
+                level: given.level,
                 state,
             };
             Ok(goes(in_two(alloc, x, t, p, y, u, q, z, begun)?))

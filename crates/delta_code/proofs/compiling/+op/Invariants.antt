@@ -18,18 +18,6 @@ decreases-form l = 6 * size-Term l.t.now
 abbrev pub decreases-both : goal.decreases-both
 decreases-both l = max (6 * size-Node l.a.now) (6 * size-Node l.b.now) + 3
 
-abbrev pub decreases-form_let : goal.decreases-form_let
-decreases-form_let l = max (6 * size-Node l.a.now) (6 * size-Node l.b.now) + 4
-
-abbrev pub decreases-form_sum : goal.decreases-form_sum
-decreases-form_sum l = max (6 * size-Node l.a.now) (6 * size-Node l.b.now) + 4
-
-abbrev pub decreases-form_star : goal.decreases-form_star
-decreases-form_star l = max (6 * size-Node l.a.now) (6 * size-Node l.b.now) + 4
-
-abbrev pub decreases-form_wait : goal.decreases-form_wait
-decreases-form_wait l = 6 * size-Node l.a.now + 3
-
 abbrev pub decreases-form_call : goal.decreases-form_call
 decreases-form_call l = 6 * goal.size-form_call l + 3
 
