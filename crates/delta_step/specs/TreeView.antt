@@ -1,15 +1,13 @@
 -- What the plain machine is to the contracts of machines, and what it is for it to stand for its program.
-use Rattle.std.specs.Prelude.{ℕ, ◌≡◌, ◌≤◌, List, refl}
-use Rattle.stream_type.specs.StreamType.{StreamType, type_of}
+use Rattle.std.specs.Prelude.{List, refl}
+use Rattle.stream_type.specs.StreamType.{type_of}
 use Rattle.event_word.specs.StreamEvent.{StreamEvent}
-use Rattle.core_term.specs.CoreTerm.{CoreProgram, core_of}
-use Rattle.delta_state.specs.StateTree.{StateTree}
+use Rattle.core_term.specs.CoreTerm.{core_of}
 use Rattle.delta_state.specs.PlainState.{without_marks}
-use Rattle.delta_state.specs.PlaceTree.{place_at}
-use Rattle.delta_state.specs.MachineView.{MachineView, StandsAfter, input_of}
-use Rattle.main_steps.specs.Keeping.{Keeps}
+use Rattle.delta_state.specs.MachineView.{MachineView, StandsAfter}
+use Rattle.machine_parts.specs.KeepsAll.{KeepsAll}
 use Rattle.delta_step.specs.Marked.{state_in}
-use Rattle.machine_parts.specs.AwaitedTree.{AwaitedTree, awaited_in, left_of, place_in}
+use Rattle.machine_parts.specs.AwaitedTree.{awaited_in, place_in}
 use Rattle.delta_step.specs.declared.machine.Tree.{Tree}
 
 -- its program, its state without marks, its place, and what it counts

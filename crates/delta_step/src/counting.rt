@@ -84,5 +84,3 @@ fn count_all(arguments: &[Argument]) -> u64
         }
     }
 }
-
-use machine_parts::entry::Entry;

@@ -69,7 +69,7 @@ fn cat(alloc: Global, a: Box<State>, l: &Code) -> Result<Box<State>, Memory>
     ensures { IfOk result (λ r. state_of r.value ≡ plain_cat (state_of a.value) (plain_later (code_in l.now))) }
 {
     let l = plain_code(alloc, l)?;
-    Ok(Box::new(alloc, State::Cat(a, l))?)
+    Ok(Box::new(alloc, State::Cat(a, Box::into_inner(l)))?)
 }
 
 // A case on a sum.
@@ -89,6 +89,8 @@ fn sum(
     let one = plain_code(alloc, l)?;
     let two = plain_code(alloc, m)?;
     let t = stream_type::copy(alloc, t)?;
+    let one = Box::into_inner(one);
+    let two = Box::into_inner(two);
     Ok(Box::new(alloc, State::CaseSum(z, t, held, x, one, y, two))?)
 }
 
@@ -109,6 +111,8 @@ fn star(
     let one = plain_code(alloc, l)?;
     let two = plain_code(alloc, m)?;
     let t = stream_type::copy(alloc, t)?;
+    let one = Box::into_inner(one);
+    let two = Box::into_inner(two);
     Ok(Box::new(alloc, State::CaseStar(z, t, held, one, y, ys, two))?)
 }
 
@@ -119,7 +123,7 @@ fn wait(alloc: Global, x: Name, t: &Ty, held: &[Entry], l: &Code) -> Result<Box<
     let held = plain_entries(alloc, held)?;
     let one = plain_code(alloc, l)?;
     let t = stream_type::copy(alloc, t)?;
-    Ok(Box::new(alloc, State::Wait(x, t, held, one))?)
+    Ok(Box::new(alloc, State::Wait(x, t, held, Box::into_inner(one)))?)
 }
 
 // Arguments.
@@ -142,13 +146,13 @@ fn plain_all(alloc: Global, args: &[Argument]) -> Result<Vec<PlainArgument>, Mem
 }
 
 // Code.
-fn plain_code(alloc: Global, l: &Code) -> Result<Later, Memory>
-    ensures { IfOk result (λ r. later_of r ≡ plain_later (code_in l.now)) }
+fn plain_code(alloc: Global, l: &Code) -> Result<Box<Later>, Memory>
+    ensures { IfOk result (λ r. later_of r.value ≡ plain_later (code_in l.now)) }
 {
     let past = plain_past(alloc, &l.past)?;
     let term = core_term::copy(alloc, &l.term)?;
     let depth = l.depth;
-    Ok(Later { term, past, depth })
+    Ok(Box::new(alloc, Later { term, past, depth })?)
 }
 
 // Known names.

@@ -1,11 +1,11 @@
 -- What stands in a state is what its tree has, and a frame's body runs on entries for its parameters.
-use Rattle.std.proofs.Common.{◌≡◌, ◌-◌, ◌<◌, List, map, IfOk, sym, ap, ap₂, ◌∙◌, subst, arith}
+use Rattle.std.proofs.Common.{◌≡◌, ◌-◌, ◌<◌, ◌||◌, List, map, IfOk, sym, ap, ap₂, ◌∙◌, subst, arith}
 use Rattle.std.proofs.lemmas.Result.{err_from_is_err_and}
 use Rattle.stream_type.specs.StreamType.{type_of}
 use Rattle.stream_prefix.specs.declared.prefix.Prefix.{Prefix}
 use Rattle.stream_prefix.specs.Tree.{prefix_of}
 use Rattle.core_term.specs.Run.{Run}
-use Rattle.delta_state.specs.StateTree.{StateTree, cat_state, star_state, wait_state, frame_state}
+use Rattle.delta_state.specs.StateTree.{StateTree, cat_state, frame_state}
 use Rattle.delta_state.specs.StateMeaning.{run_arguments}
 use Rattle.delta_step.specs.declared.marked.Marked.{Marked}
 use Rattle.machine_parts.specs.declared.entry.Entry.{Entry}
@@ -13,30 +13,19 @@ use Rattle.delta_step.specs.declared.reached.Reached.{Reached}
 use Rattle.delta_step.specs.Marked.{state_in, code_in, arguments_from}
 use Rattle.machine_parts.specs.Entry.{entry_in}
 use Rattle.machine_parts.specs.Scope.{types_in, streams_in}
-use Rattle.delta_step.specs.Reached.{rest_of, runs_of}
+use Rattle.delta_step.specs.Reached.{run_of, rest_of, runs_of}
 use Rattle.delta_step.specs.Steps.{funs_in, state_rest}
 use Rattle.machine_parts.specs.Parameters.{parameters}
 use Rattle.machine_parts.proofs.HeldAndComing.{body_runs, body_rests, body_deep}
+use Rattle.machine_parts.proofs.Deeper.{let_within, frame_within}
+use Rattle.machine_parts.specs.Levels.{below}
+use Rattle.stream_prefix.specs.StreamPrefix.{is_maximal}
 use Rattle.delta_step.proofs.stepping.+step.Goals as goal
 
 pub step-returns-in-Cat-clause-rest : goal.step-returns-in-Cat-clause-rest
 step-returns-in-Cat-clause-rest t c =
     let is : state_in c.args.s.now ≡ cat_state (state_in c.deref-in-Cat.result.now) (code_in c.in-Cat.l) = ap state_in c.in-Cat.is ∙ ap (λ (m : Marked). cat_state (state_in m) (code_in c.in-Cat.l)) (sym c.deref-in-Cat.ensures) in
     subst (λ (x : StateTree). IfOk c.step_in_turn.result (λ (a : Reached). rest_of a ≡ state_rest c.args.core.now c.args.scope.now x (type_of c.args.r.now))) (sym is) c.step_in_turn.ensures.rest
-
-pub step-returns-in-CaseStar-clause-rest : goal.step-returns-in-CaseStar-clause-rest
-step-returns-in-CaseStar-clause-rest t c =
-    let i = c.in-CaseStar in
-    let is : state_in c.args.s.now ≡ star_state i.z.0 (type_of i.t) (map entry_in c.deref-in-CaseStar.result.now) (code_in i.l) i.y.0 i.ys.0 (code_in i.m) =
-    ap state_in i.is ∙ ap (λ (es : List Entry). star_state i.z.0 (type_of i.t) (map entry_in es) (code_in i.l) i.y.0 i.ys.0 (code_in i.m)) (sym c.deref-in-CaseStar.ensures.value) in
-    subst (λ (x : StateTree). IfOk c.step_star.result (λ (a : Reached). rest_of a ≡ state_rest c.args.core.now c.args.scope.now x (type_of c.args.r.now))) (sym is) c.step_star.ensures.rest
-
-pub step-returns-in-Wait-clause-rest : goal.step-returns-in-Wait-clause-rest
-step-returns-in-Wait-clause-rest t c =
-    let i = c.in-Wait in
-    let is : state_in c.args.s.now ≡ wait_state i.x.0 (type_of i.t) (map entry_in c.deref-in-Wait.result.now) (code_in i.l) =
-    ap state_in i.is ∙ ap (λ (es : List Entry). wait_state i.x.0 (type_of i.t) (map entry_in es) (code_in i.l)) (sym c.deref-in-Wait.ensures.value) in
-    subst (λ (x : StateTree). IfOk c.step_wait.result (λ (a : Reached). rest_of a ≡ state_rest c.args.core.now c.args.scope.now x (type_of c.args.r.now))) (sym is) c.step_wait.ensures.rest
 
 pub step_frame-returns-in_err-body-clause-spent : goal.step_frame-returns-in_err-body-clause-spent
 step_frame-returns-in_err-body-clause-spent t c =
@@ -70,3 +59,13 @@ step_frame-returns-clause-rest t c =
     let names : es ≡ parameters args (runs_of reached).outs = ap (λ (l : List Entry). map entry_in l) c.deref-2.ensures.value ∙ (c.in_ok-entries.ensures ∙ ap (λ (l : List Prefix). parameters args (map prefix_of l)) c.deref.ensures.value) in
     let same = body_rests (funs_in c.args.core.now) args (types_in c.args.scope.now) (streams_in c.args.scope.now) (runs_of reached) es c.in_ok-arguments.ensures.runs names (state_in c.args.a.now) (type_of c.args.r.now) in
     c.in_ok-framed.ensures.rest ∙ ap₂ frame_state c.in_ok-arguments.ensures.rests (c.in_ok-body.ensures.rest ∙ same)
+
+pub step_let-returns-clause-shallow : goal.step_let-returns-clause-shallow
+step_let-returns-clause-shallow t c =
+    let head = c.in_ok-head.head in
+    let after : c.after_head-after.result ≡ below (c.is_name-2.result || is_maximal (prefix_of head.output.value)) c.args.levels = cc in
+    let_within c.is_name-2.result _ (run_of head) (run_of c.in_ok-body.body) _ _ _ c.in_ok-bound.ensures.run c.inside.ensures after c.in_ok-head.ensures.shallow c.in_ok-body.ensures.shallow
+
+pub step_frame-returns-clause-shallow : goal.step_frame-returns-clause-shallow
+step_frame-returns-clause-shallow t c =
+    frame_within (runs_of c.in_ok-arguments.arguments) _ (run_of c.in_ok-body.body) _ _ _ c.in_ok-framed.ensures.run c.inside.ensures c.on_arguments-on_those.ensures c.in_ok-arguments.ensures.shallow c.in_ok-body.ensures.shallow
