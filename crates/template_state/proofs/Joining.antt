@@ -1,5 +1,5 @@
 -- Frames that become one, and arguments that go, for any type that is left.
-use Rattle.std.proofs.Common.{◌≡◌, ℕ, true, subst, sym}
+use Rattle.std.proofs.Common.{◌≡◌, true, subst, sym}
 use Rattle.stream_type.specs.StreamType.{StreamType}
 use Rattle.delta_state.specs.StateTree.{StateTree, ArgumentTrees, frame_state, free_in_state}
 use Rattle.state_rewriting.proofs.RewritingsInside.{by_same, by_then}

@@ -5,7 +5,7 @@ use Rattle.bunch.specs.Names.{holds}
 use Rattle.core_term.specs.Parts.{par_left, par_right, cat_first}
 use Rattle.delta_state.specs.StateTree.{LaterTree, StateTree, ArgumentTrees, par_state, cat_state, let_state, let_par_state, let_cat_state, frame_state, no_arguments, argument_before, var_state}
 use Rattle.state_rewriting.specs.Rewriting.{ReplacedBy, ReplacedArgumentsBy, as_it_is, as_they_are, one_more, here, IsAlias, IsPair, alias_for, pair_for}
-use Rattle.state_rewriting.proofs.RewritingsInside.{by_same, by_par, by_cat, by_let, by_bound, by_let_par, by_let_cat, by_arguments, by_before}
+use Rattle.state_rewriting.proofs.RewritingsInside.{by_same, by_then, by_par, by_cat, by_let, by_bound, by_let_par, by_let_cat, by_arguments, by_before}
 
 pub put_nothing : {names : List ℕ} {R : StreamType → StateTree → StateTree → Type 0} {a b : StateTree} → a ≡ b → (r : StreamType) → ReplacedBy names R r a b
 put_nothing e r = by_same e
@@ -40,6 +40,10 @@ put_none = as_they_are
 pub put_before : {names : List ℕ} {R : StreamType → StateTree → StateTree → Type 0} {x : ℕ} {t : StreamType} {a b : StateTree} {args others : ArgumentTrees} → ((r : StreamType) → ReplacedBy names R r a b) → ReplacedArgumentsBy names R args others
     → ReplacedArgumentsBy names R (argument_before x t a args) (argument_before x t b others)
 put_before {t = t} h k = by_before (h t) k
+
+-- one after the other
+pub put_in_turn : {names : List ℕ} {R : StreamType → StateTree → StateTree → Type 0} {a b e : StateTree} → ((r : StreamType) → ReplacedBy names R r a b) → ((r : StreamType) → ReplacedBy names R r b e) → (r : StreamType) → ReplacedBy names R r a e
+put_in_turn h k r = by_then (h r) (k r)
 
 -- y itself
 pub put_alias : (x y z : ℕ) → x ≡ y → (r : StreamType) → ReplacedBy (y ∷ (z ∷ [])) (IsAlias y z) r (var_state x) (var_state z)

@@ -1,5 +1,5 @@
 -- Frames that lose the arguments of parameters that aren't used.
-use Rattle.std.proofs.Common.{◌≡◌, ◌∙◌, ℕ, Bool, true, false, true≢false, not, ◌&&◌, ◌||◌, List, [], ◌∷◌, eqb, if◌then◌else◌, ap, refl, subst, sym}
+use Rattle.std.proofs.Common.{◌≡◌, ◌∙◌, ℕ, Bool, true, false, not, ◌&&◌, ◌||◌, List, [], ◌∷◌, eqb, if◌then◌else◌, ap, refl, subst, sym}
 use Rattle.std.proofs.lemmas.Bool.{eqb-true, not-true}
 use Rattle.stream_type.specs.StreamType.{StreamType}
 use Rattle.bunch.specs.Names.{holds}
@@ -11,7 +11,7 @@ use Rattle.state_rewriting.proofs.RewritingsInside.{by_then}
 use Rattle.template_state.specs.Passing.{only_used}
 
 -- the arguments less those of several parameters, one after the other
-less : List ℕ → ArgumentTrees → ArgumentTrees
+abbrev less : List ℕ → ArgumentTrees → ArgumentTrees
 less [] args = args
 less (u ∷ us) args = less us (without_argument u args)
 
@@ -26,15 +26,15 @@ less_none (u ∷ us) = less_none us
 
 less_before : (us : List ℕ) (x : ℕ) (t : StreamType) (s : StateTree) (args : ArgumentTrees) → less us (argument_before x t s args) ≡ (if holds x us then less us args else argument_before x t s (less us args))
 less_before [] x t s args = refl
-less_before (u ∷ us) x t s args = go (eqb x u)
+less_before (u ∷ us) x t s args = go (eqb x u) (less_before us x t s (without_argument u args))
   where
-    go : (b : Bool) → less us (if b then without_argument u args else argument_before x t s (without_argument u args))
-        ≡ (if (b || holds x us) then less us (without_argument u args) else argument_before x t s (less us (without_argument u args)))
-    go true = refl
-    go false = less_before us x t s (without_argument u args)
+    go : (b : Bool) → less us (argument_before x t s (without_argument u args)) ≡ (if holds x us then less us (without_argument u args) else argument_before x t s (less us (without_argument u args)))
+        → less us (if b then without_argument u args else argument_before x t s (without_argument u args)) ≡ (if (b || holds x us) then less us (without_argument u args) else argument_before x t s (less us (without_argument u args)))
+    go true h = refl
+    go false h = h
 
 -- the names of a list that aren't in another one
-unused_of : List ℕ → List ℕ → List ℕ
+abbrev unused_of : List ℕ → List ℕ → List ℕ
 unused_of fs [] = []
 unused_of fs (x ∷ xs) = if holds x fs then unused_of fs xs else x ∷ unused_of fs xs
 
@@ -71,10 +71,13 @@ used_is_simpler a args q =
   where
     fs : List ℕ
     fs = free_in_state a
+
     us : List ℕ
     us = unused_of fs (argument_names args)
+
     gone : (u : ℕ) → holds u us ≡ true → holds u fs ≡ false
     gone u m = not-true (holds u fs) (and_first (not (holds u fs)) (holds u (argument_names args)) (sym (holds_unused fs (argument_names args) u) ∙ m))
+
     left : (x : ℕ) → holds x (argument_names args) ≡ true → holds x us ≡ not (holds x fs)
     left x m = holds_unused fs (argument_names args) x ∙ (ap (λ d. not (holds x fs) && d) m ∙ and_true (not (holds x fs)))
       where

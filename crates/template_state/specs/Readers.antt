@@ -3,7 +3,6 @@ use Rattle.std.specs.Prelude.{List, [], ◌∷◌, map}
 use Rattle.std.specs.declared.rc.Rc.{Rc}
 use Rattle.std.specs.declared.alloc.Global.{Global}
 use Rattle.stream_type.specs.StreamType.{type_of}
-use Rattle.stream_prefix.specs.Tree.{prefix_of}
 use Rattle.hist_value.specs.HistExpr.{expr_of}
 use Rattle.hist_value.specs.HistValue.{hist_value_of}
 use Rattle.core_term.specs.CoreTerm.{CoreTerm, CoreTerms, var_term, eps_term, unit_term, nil_term, past_term, par_term, cat_term, cons_term, inl_term, inr_term, let_term, let_par_term, let_cat_term, case_sum_term, case_star_term, wait_term, call_term, no_terms, term_before}

@@ -8,15 +8,15 @@ ghost use Rattle.state_rewriting.specs.Rewriting.{SimplerBy, is_plain, are_plain
 ghost use Rattle.template_state.specs.Readers.{state_in, arguments_in};
 ghost use Rattle.template_state.specs.Passing.{passes_once, IsTakenFrom, ServesAfter, only_used};
 
-use crate::live::{Arguments, Live};
-use crate::uses::uses;
+use crate::live::{Arguments, Live, put};
+use crate::names_used::uses;
 use bunch::Name;
 use std::alloc::Global;
 use std::mem;
 use stream_type::{Memory, Ty};
 
 // Whether a state is a name or finished.
-fn plain(s: &Live) -> bool
+fn plain_one(s: &Live) -> bool
     ensures { result ≡ is_plain (state_in s.now) }
 {
     match s {
@@ -39,7 +39,7 @@ fn all_plain(args: &Arguments) -> bool
 {
     match args {
         Arguments::None => true,
-        Arguments::Before(_, _, a, others) => plain(a) && all_plain(others),
+        Arguments::Before(_, _, a, others) => plain_one(a) && all_plain(others),
     }
 }
 
@@ -51,7 +51,7 @@ fn plain_at(args: &Arguments, u: Name) -> bool
         Arguments::None => true,
         Arguments::Before(x, _, a, others) => {
             if u.0 == x.0 {
-                plain(a)
+                plain_one(a)
             } else {
                 plain_at(others, u)
             }
@@ -163,7 +163,7 @@ fn pass_on(alloc: Global, args: &mut Arguments, a: &mut Live) -> Result<(), Memo
 {
     if let Live::Var(u) = a {
         let passed = take(alloc, args, *u)?;
-        *a = passed;
+        put(a, passed);
     }
     Ok(())
 }
@@ -179,7 +179,7 @@ fn join_frames(alloc: Global, s: &mut Live) -> Result<(), Memory>
             if all_plain(inner) && pass_once(args, inner) {
                 compose(alloc, args, inner)?;
                 let joined = mem::replace(&mut **b, Live::Var(Name(0)));
-                *s = joined;
+                put(s, joined);
             }
         }
     }

@@ -1,9 +1,11 @@
 //! States over templates.
 
+ghost use Rattle.std.specs.Prelude.{◌≡◌};
+
 use crate::code::Op;
 use bunch::Name;
-use machine_parts::entry::Entry;
 use hist_value::Value;
+use machine_parts::entry::Entry;
 use std::rc::Rc;
 use stream_type::Ty;
 
@@ -66,4 +68,12 @@ pub enum Arguments {
     None,
     /// One before others.
     Before(Name, Ty, Box<Live>, Box<Arguments>),
+}
+
+/// Puts another state in the place of this one, which goes.
+#[inline(never)]
+pub fn put(s: &mut Live, other: Live)
+    ensures { s.new ≡ other }
+{
+    *s = other;
 }

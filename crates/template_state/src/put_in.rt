@@ -7,7 +7,7 @@ ghost use Rattle.state_rewriting.specs.Rewriting.{ReplacedBy, ReplacedArgumentsB
 ghost use Rattle.delta_state.specs.StateTree.{var_state};
 ghost use Rattle.template_state.specs.Readers.{state_in, arguments_in};
 
-use crate::live::{Arguments, Live};
+use crate::live::{Arguments, Live, put};
 use bunch::Name;
 
 // Whether the name is another than both.
@@ -64,11 +64,19 @@ fn put_in_arguments(args: &mut Arguments, y: Name, z: Name)
     match args {
         Arguments::None => {}
         Arguments::Before(_, _, a, others) => {
-            put_name(a, y, z);
-            rename(a, y, z);
+            put_in_argument(a, y, z);
             put_in_arguments(others, y, z);
         }
     }
+}
+
+// The same in one argument, which itself may be y.
+#[cycle(put_name)]
+fn put_in_argument(a: &mut Live, y: Name, z: Name)
+    ensures { (r : StreamType) → ReplacedBy (y.0 ∷ (z.0 ∷ [])) (IsAlias y.0 z.0) r (state_in a.old) (state_in a.new) }
+{
+    put_name(a, y, z);
+    rename(a, y, z);
 }
 
 // An argument that is y becomes z.
@@ -124,7 +132,7 @@ pub fn put_pair(s: &mut Live, x: Name, y: Name, z: Name)
         | Live::Wait(_, _, _, _) => {}
         Live::Par(a, b) => {
             if is_name(a, x) && is_name(b, y) {
-                *s = Live::Var(z);
+                put(s, Live::Var(z));
             } else {
                 put_pair(a, x, y, z);
                 put_pair(b, x, y, z);

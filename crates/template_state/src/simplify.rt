@@ -6,11 +6,11 @@ ghost use Rattle.state_rewriting.specs.Rewriting.{SimplerBy, ReplacedArgumentsBy
 ghost use Rattle.template_state.specs.Readers.{state_in, arguments_in};
 
 use crate::join::settle_frame;
-use crate::live::{Arguments, Live};
+use crate::live::{Arguments, Live, put};
+use crate::names_used::uses;
 use crate::put_in::{put_name, put_pair};
-use machine_parts::parts::{cat_types, par_types};
-use crate::uses::uses;
 use bunch::Name;
+use machine_parts::parts::{cat_types, par_types};
 use std::alloc::Global;
 use std::mem;
 use stream_type::{Memory, Ty};
@@ -74,7 +74,7 @@ fn finish(alloc: Global, s: &mut Live, r: &Ty) -> Result<(), Memory>
         return Ok(());
     }
     let left = stream_type::copy(alloc, r)?;
-    *s = Live::Sink(left);
+    put(s, Live::Sink(left));
     Ok(())
 }
 
@@ -124,7 +124,7 @@ fn drop_unused(s: &mut Live)
     if let Live::Let(x, _, _, b) = s {
         if !uses(b, *x) {
             let inner = mem::replace(&mut **b, Live::Var(Name(0)));
-            *s = inner;
+            put(s, inner);
         }
     }
 }
@@ -138,7 +138,7 @@ fn drop_renamed(s: &mut Live)
         if let Live::Var(y) = &**b {
             if y.0 == x.0 {
                 let inner = mem::replace(&mut **a, Live::Var(Name(0)));
-                *s = inner;
+                put(s, inner);
             }
         }
     }
@@ -173,7 +173,7 @@ fn drop_pair(s: &mut Live)
     if let Live::LetPar(x, y, _, a) = s {
         if !uses(a, *x) && !uses(a, *y) {
             let inner = mem::replace(&mut **a, Live::Var(Name(0)));
-            *s = inner;
+            put(s, inner);
         }
     }
 }
@@ -186,7 +186,7 @@ fn drop_row(s: &mut Live)
     if let Live::LetCat(x, y, _, a) = s {
         if !uses(a, *x) && !uses(a, *y) {
             let inner = mem::replace(&mut **a, Live::Var(Name(0)));
-            *s = inner;
+            put(s, inner);
         }
     }
 }

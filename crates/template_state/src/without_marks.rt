@@ -6,7 +6,7 @@ ghost use Rattle.delta_state.specs.PlainState.{state_of, later_of, held_of, past
 ghost use Rattle.template_state.specs.Readers.{known_in, later_in, held_in, state_in, arguments_in};
 
 use crate::live::{Arguments, Later, Live, Past};
-use crate::node::node;
+use crate::terms::node;
 use bunch::Name;
 use delta_state::{Argument as PlainArgument, Held, Later as PlainLater, State};
 use hist_value::{Value, copy_value};
@@ -70,7 +70,7 @@ fn cat(alloc: Global, a: Box<State>, l: &Later) -> Result<Box<State>, Memory>
     ensures { IfOk result (λ r. state_of r.value ≡ plain_cat (state_of a.value) (plain_later (later_in l.now))) }
 {
     let l = plain_code(alloc, l)?;
-    Ok(Box::new(alloc, State::Cat(a, l))?)
+    Ok(Box::new(alloc, State::Cat(a, Box::into_inner(l)))?)
 }
 
 // A case on a sum.
@@ -90,6 +90,7 @@ fn sum(
     let one = plain_code(alloc, l)?;
     let two = plain_code(alloc, m)?;
     let t = stream_type::copy(alloc, t)?;
+    let (one, two) = (Box::into_inner(one), Box::into_inner(two));
     Ok(Box::new(alloc, State::CaseSum(z, t, held, x, one, y, two))?)
 }
 
@@ -110,6 +111,7 @@ fn star(
     let one = plain_code(alloc, l)?;
     let two = plain_code(alloc, m)?;
     let t = stream_type::copy(alloc, t)?;
+    let (one, two) = (Box::into_inner(one), Box::into_inner(two));
     Ok(Box::new(alloc, State::CaseStar(z, t, held, one, y, ys, two))?)
 }
 
@@ -120,7 +122,7 @@ fn wait(alloc: Global, x: Name, t: &Ty, held: &[Entry], l: &Later) -> Result<Box
     let held = plain_entries(alloc, held)?;
     let one = plain_code(alloc, l)?;
     let t = stream_type::copy(alloc, t)?;
-    Ok(Box::new(alloc, State::Wait(x, t, held, one))?)
+    Ok(Box::new(alloc, State::Wait(x, t, held, Box::into_inner(one)))?)
 }
 
 // Arguments.
@@ -142,15 +144,16 @@ fn plain_all(alloc: Global, args: &Arguments) -> Result<Vec<PlainArgument>, Memo
     Ok(found)
 }
 
-// Code.
-fn plain_code(alloc: Global, l: &Later) -> Result<PlainLater, Memory>
-    ensures { IfOk result (λ r. later_of r ≡ plain_later (later_in l.now)) }
+// Code, with its term as a tree of its own.
+fn plain_code(alloc: Global, l: &Later) -> Result<Box<PlainLater>, Memory>
+    ensures { IfOk result (λ r. later_of r.value ≡ plain_later (later_in l.now)) }
 {
     let mut past = Vec::new(alloc);
     add_known(alloc, &l.past, &mut past)?;
-    let term = Box::into_inner(node(alloc, &l.code)?);
+    let term = node(alloc, &l.code)?;
     let depth = l.depth;
-    Ok(PlainLater { term, past, depth })
+    let term = Box::into_inner(term);
+    Ok(Box::new(alloc, PlainLater { term, past, depth })?)
 }
 
 // Adds known names, the last one first.
