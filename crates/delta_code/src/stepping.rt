@@ -186,7 +186,7 @@ fn step_let<'a>(
     let is_name = is_name(a);
     let head = step(alloc, code, scope, a, t, left, inside(levels))?;
     let after = after_head(is_name, &head.output, levels);
-    let inner = Scope::Stream(x, t, &head.output, scope);
+    let inner = Scope::Stream(x, &*t, &head.output, &*scope);
     let body = step(alloc, code, &inner, b, r, left - head.calls, after)?;
     let over = left_of(alloc, t, &head.output)?;
     *t = over;
@@ -214,11 +214,12 @@ fn step_pair<'a>(
     ensures spent { IfErr result (λ e. e ≡ Stop.Spent → left < (live_run code.now scope.now (let_par_state x.0 y.0 z.0 (state_in a.old)) (type_of r.now)).calls) }
     ensures deep { IfErr result (λ e. e ≡ Stop.Deep → levels < (live_run code.now scope.now (let_par_state x.0 y.0 z.0 (state_in a.old)) (type_of r.now)).level) }
 {
-    let (s, t) = par_types(type_at(scope, z, &Ty::Eps), &Ty::Eps);
-    let (u, v) = par_parts(stream_at(scope, z, &Prefix::EpsEmp), &Prefix::EpsEmp);
-    let outer = Scope::Stream(x, s, u, scope);
+    let (s, t) = par_types(type_at(&*scope, z, &Ty::Eps), &Ty::Eps);
+    let (u, v) = par_parts(stream_at(&*scope, z, &Prefix::EpsEmp), &Prefix::EpsEmp);
+    let outer = Scope::Stream(x, s, u, &*scope);
     let inner = Scope::Stream(y, t, v, &outer);
-    step(alloc, code, &inner, a, r, left, levels)
+    let given = step(alloc, code, &inner, a, r, left, levels)?;
+    Ok(given)
 }
 
 // `let (x; y) = z`.
@@ -242,11 +243,11 @@ fn step_row<'a>(
     ensures spent { IfErr result (λ e. e ≡ Stop.Spent → left < (live_run code.now scope.now (let_cat_state x.0 y.0 z.0 (state_in a.old)) (type_of r.now)).calls) }
     ensures deep { IfErr result (λ e. e ≡ Stop.Deep → levels < (live_run code.now scope.now (let_cat_state x.0 y.0 z.0 (state_in a.old)) (type_of r.now)).level) }
 {
-    let ty = type_at(scope, z, &Ty::Eps);
-    let p = stream_at(scope, z, &Prefix::EpsEmp);
+    let ty = type_at(&*scope, z, &Ty::Eps);
+    let p = stream_at(&*scope, z, &Prefix::EpsEmp);
     let (s, t) = cat_types(ty, &Ty::Eps);
     let v = second_part(alloc, t, p)?;
-    let outer = Scope::Stream(x, s, first_part(p, &Prefix::EpsEmp), scope);
+    let outer = Scope::Stream(x, s, first_part(p, &Prefix::EpsEmp), &*scope);
     let inner = Scope::Stream(y, t, &v, &outer);
     let given = step(alloc, code, &inner, a, r, left, levels)?;
     Ok(cut(alloc, x, y, z, ty, p, a, given)?)
