@@ -505,7 +505,8 @@ fn is_name(s: &Live) -> bool
 // What stands there stays.
 fn stays(given: Told) -> Gone
     ensures told { told result.told ≡ told given }
-    ensures none { result.state ≡ Option.None }
+    ensures state { (s : StateTree) → left_after result.state s ≡ s }
+    ensures counted { result.told.calls ≡ given.calls }
 {
     Gone {
         told: given,
