@@ -65,8 +65,9 @@ start_let-returns-in_err-body-clause-deep t c =
     let after : c.after_head-after.result ≡ below (is_var (op_term a.a.now.value) || is_maximal (prefix_of c.in_ok-head.head.output.value)) a.levels =
     c.after_head-after.ensures ∙ ap₂ (λ (v : Bool) (p : Prefix). below (v || is_maximal (prefix_of p)) a.levels) named c.deref-3.ensures in
     let exit = err_from_is_err_and c.from_residual-in_err-body.result c.from_residual-in_err-body.ensures.1 in
-    rw (exit.1, exit.2) (λ q. let_deep_body (is_var (op_term a.a.now.value)) (run_of c.in_ok-head.head) first _ a.levels _ c.in_ok-head.ensures.run after
-    (subst (λ (p : StreamPrefix). c.after_head-after.result < (run_at funs a.k (op_term a.b.now.value) (put a.x.0 (type_of a.s.now) (types_in a.scope.now)) (type_of a.r.now) (put a.x.0 p (streams_in a.scope.now)) past).level) out (c.in_err-body.ensures.deep q)))
+    let run_after : StreamPrefix → Run = λ p. run_at funs a.k (op_term a.b.now.value) (put a.x.0 (type_of a.s.now) (types_in a.scope.now)) (type_of a.r.now) (put a.x.0 p (streams_in a.scope.now)) past in
+    rw (exit.1, exit.2) (λ q. let_deep_body (is_var (op_term a.a.now.value)) (run_of c.in_ok-head.head) first (run_after first.out) a.levels c.after_head-after.result c.in_ok-head.ensures.run after
+    (subst (λ (p : StreamPrefix). c.after_head-after.result < (run_after p).level) out (c.in_err-body.ensures.deep q)))
 
 pub start_body-returns-then-left-eq0-clause-spent : goal.start_body-returns-then-left-eq0-clause-spent
 start_body-returns-then-left-eq0-clause-spent t c =

@@ -1,5 +1,6 @@
 -- What the machine holds at its start is what it has to keep, and what it stops for is the program's.
 use Rattle.std.proofs.Common.{◌≡◌, ◌<◌, Err, List, [], map, string_bytes, sym, ap, ◌∙◌, subst}
+use Rattle.std.specs.declared.alloc.Global.{Global}
 use Rattle.std.specs.declared.string.String.{String}
 use Rattle.stream_type.specs.declared.ty.Ty.{Ty}
 use Rattle.stream_type.specs.StreamType.{type_of}
@@ -42,7 +43,7 @@ pub returns-clause-program : goal.returns-clause-program
 returns-clause-program c =
     let d = core_of c.core-core.result.now in
     let code = c.in_ok-code.code.value in
-    let texts : map string_bytes c.in_ok-texts.texts.items ≡ d.texts = c.in_ok-texts.ensures ∙ ap (λ (l : List String). map string_bytes l) c.deref-4.ensures.value in
+    let texts : map string_bytes c.in_ok-texts.texts.items ≡ d.texts = c.in_ok-texts.ensures ∙ ap (λ (l : List (String Global)). map string_bytes l) c.deref-4.ensures.value in
     same_program d (bodies_in code) (body_in code.main) (map string_bytes c.in_ok-texts.texts.items) c.in_ok-code.ensures.funs c.in_ok-code.ensures.main texts ∙ ap (λ (k : Core). core_of k) c.core-core.ensures.program
 
 pub returns-clause-stands : goal.returns-clause-stands
@@ -51,7 +52,7 @@ returns-clause-stands c =
     let same = ap (λ (k : Core). core_of k) c.core-core.ensures.program in
     let code = c.in_ok-code.code.value in
     let begun = c.in_ok-run.run' in
-    let texts : map string_bytes c.in_ok-texts.texts.items ≡ d.texts = c.in_ok-texts.ensures ∙ ap (λ (l : List String). map string_bytes l) c.deref-4.ensures.value in
+    let texts : map string_bytes c.in_ok-texts.texts.items ≡ d.texts = c.in_ok-texts.ensures ∙ ap (λ (l : List (String Global)). map string_bytes l) c.deref-4.ensures.value in
     let program : CoreProgram = record { funs = bodies_in code; main = body_in code.main; texts = map string_bytes c.in_ok-texts.texts.items } in
     let kept = begins_with d (record { is_core = c.core-core.ensures.core; is_typed = c.core-core.ensures.typed }) c.args.budget (run_of begun) (rest_of begun) c.in_ok-run.ensures.run c.in_ok-run.ensures.rest c.in_ok-run.ensures.counted c.requires.budget
     program (awaited_in c.in_ok-awaited.awaited.value) (type_of c.in_ok-input.input.value) (type_of c.in_ok-output.output.value)
