@@ -49,7 +49,8 @@ const DOWN: &str = "fun down{n : Int}(u : 1) : Int = if n < 1 then {7} else down
 main(x : Int) : Int = wait x in down{x}(())";
 
 // `nest` calls itself in the head of a let, one level deeper each time; main's own call stands at level 0.
-const NEST: &str = "fun nest{n : Int}(x : Int) : Int = if n < 1 then x else let y = nest{n - 1}(x) in y
+const NEST: &str =
+    "fun nest{n : Int}(x : Int) : Int = if n < 1 then x else let y = nest{n - 1}(x) in y
 main(x : Int) : Int = nest{200}(x)";
 
 const AFTER_NOTHING: &str = "main(x : eps; y : Int) : Int = y";
