@@ -12,7 +12,6 @@ ghost use Rattle.machine_parts.specs.Levels.{below};
 ghost use Rattle.template_state.specs.Readers.{state_in, later_in, arguments_in};
 ghost use Rattle.delta_code.specs.Begun.{run_of, rest_of, runs_of, rests_of};
 
-use template_state::{Arguments, Later, Live};
 use bunch::Name;
 use machine_parts::holding::left;
 use machine_parts::levels::deeper;
@@ -21,6 +20,7 @@ use machine_parts::stars::as_star;
 use std::alloc::Global;
 use stream_prefix::Prefix;
 use stream_type::{Memory, Ty};
+use template_state::{Arguments, Later, Live};
 
 /// What a step of a part gives. Contracts see it as a `Run` by `run_of`, and the state left by `rest_of`
 /// (`specs/Begun.antt`).
@@ -210,12 +210,7 @@ pub fn no_arguments(alloc: Global) -> Result<Passed, Memory>
 
 /// An argument in front of others, without its state. Its only error is want of memory.
 #[inline(never)]
-pub fn run_before(
-    alloc: Global,
-    is_name: bool,
-    a: &Begun,
-    others: Passed,
-) -> Result<Passed, Memory>
+pub fn run_before(alloc: Global, is_name: bool, a: &Begun, others: Passed) -> Result<Passed, Memory>
     requires { a.now.calls + others.calls < 2 ^ 64 }
     ensures runs { IfOk result (λ r. runs_of r ≡ run_before is_name (run_of a.now) (runs_of others)) }
     ensures rests { IfOk result (λ r. rests_of r ≡ rests_of others) }

@@ -7,13 +7,13 @@ ghost use Rattle.core_term.specs.CoreTerm.{let_term, case_sum_term, case_star_te
 ghost use Rattle.template_state.specs.Readers.{op_term, shared_term, operand_terms};
 ghost use Rattle.template_state.specs.Templates.{body_in, bodies_in};
 
-use template_state::{Code, Op, Operands, Template};
 use bunch::Name;
 use core_term::{Body, Core, Node, Term};
 use hist_value::{Expr, copy_expr};
 use std::alloc::Global;
 use std::rc::Rc;
 use stream_type::{Memory, Ty};
+use template_state::{Code, Op, Operands, Template};
 
 /// The templates of a program. Its only error is want of memory.
 pub fn compile(alloc: Global, c: &Core) -> Result<Code, Memory>

@@ -18,18 +18,17 @@ ghost use Rattle.delta_code.specs.Begun.{run_of, rest_of};
 ghost use Rattle.delta_code.specs.Steps.{funs_of};
 
 use crate::begun::{Begun, one_call};
-use template_state::{Code, Template};
-use template_state::Past;
 use crate::seeing::known;
 use crate::still::at_once;
 use bunch::Name;
+use hist_value::Value;
 use machine_parts::entry::Entry;
 use machine_parts::params::{bound, leaves};
-use hist_value::Value;
 use std::alloc::Global;
 use std::rc::Rc;
 use stream_prefix::Prefix;
 use stream_type::{Memory, Ty};
+use template_state::{Code, Past, Template};
 
 /// What a called body sees.
 #[derive(Drop)]

@@ -8,10 +8,10 @@ ghost use Rattle.template_state.specs.Readers.{op_term, operand_terms};
 ghost use Rattle.delta_code.specs.Around.{names_around};
 
 use crate::around::{Around, is_around};
-use template_state::{Op, Operands};
 use bunch::Name;
 use std::alloc::Global;
 use stream_type::Memory;
+use template_state::{Op, Operands};
 
 /// The stream names that occur free in the term, each once, in the order of first use: `once` of
 /// `free_names` in `specs/FreeNames.antt`. Its only error is want of memory.

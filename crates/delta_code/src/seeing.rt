@@ -15,14 +15,13 @@ ghost use Rattle.delta_state.specs.StateTree.{LaterTree, Known as KnownName};
 ghost use Rattle.delta_state.specs.Rest.{known_of};
 ghost use Rattle.template_state.specs.Readers.{op_term, known_in, later_in};
 
-use template_state::Op;
-use template_state::{Later, Past};
 use bunch::Name;
 use hist_value::{Expr, Value, copy_value, value, value_of};
 use std::alloc::Global;
 use std::rc::Rc;
 use stream_prefix::Prefix;
 use stream_type::{Memory, Ty};
+use template_state::{Later, Op, Past};
 
 /// The value of a historical expression. Its only error is want of memory.
 pub fn value_in(alloc: Global, past: &Past, m: &Expr) -> Result<Value, Memory>

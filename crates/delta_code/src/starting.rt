@@ -25,30 +25,29 @@ ghost use Rattle.delta_code.specs.Begun.{run_of, rest_of, runs_of, rests_of};
 ghost use Rattle.delta_code.specs.Steps.{funs_of, op_run, op_rest, ops_run, ops_rest};
 
 use crate::begun::{
-    Begun, Passed, aliased, both, bound, called, cut, first, in_two, left_side,
-    no_arguments, one_call, parted, right_side, rowed, run_before, second, starred, state_before,
+    Begun, Passed, aliased, both, bound, called, cut, first, in_two, left_side, no_arguments,
+    one_call, parted, right_side, rowed, run_before, second, starred, state_before,
 };
-use template_state::{Code, Op, Operands};
 use crate::entering::{body_at, entered, missing, params_of};
 use crate::free::free;
-use template_state::{Live, Past};
 use crate::seeing::{knowing, later, value_in, values_in};
 use crate::still::{at_once, named, no_items, over_at, waiting};
 use bunch::Name;
+use hist_value::{Expr, Value, full};
+use machine_parts::entry::Entry;
 use machine_parts::holding::taken;
 use machine_parts::levels::{after_head, inside, on_arguments};
-use machine_parts::entry::Entry;
 use machine_parts::parts::{
     Sided, Taken, cat_types, first_part, items_after, par_parts, par_types, second_part,
     side_taken, star_begun, star_taken, star_types, sum_types,
 };
 use machine_parts::scope::{Scope, stream_at, type_at};
 use machine_parts::stop::Stop;
-use hist_value::{Expr, Value, full};
 use std::alloc::Global;
 use std::rc::Rc;
 use stream_prefix::{Prefix, maximal};
 use stream_type::{Memory, Ty};
+use template_state::{Code, Live, Op, Operands, Past};
 
 /// What a term gives in its scope, with its type, and what is left of it, where it makes at most as many
 /// calls as are left, none of them at a greater level from below than `levels`: `run_at` in `core_term` and
@@ -90,9 +89,7 @@ pub fn start<'a>(
         Op::Cons(a, b) => start_cons(alloc, code, k, scope, past, a, b, r, left, levels),
         Op::Inl(a) => start_left(alloc, code, k, scope, past, a, r, left, levels),
         Op::Inr(a) => start_right(alloc, code, k, scope, past, a, r, left, levels),
-        Op::Let(x, s, a, b) => start_let(
-            alloc, code, k, scope, past, *x, s, a, b, r, left, levels,
-        ),
+        Op::Let(x, s, a, b) => start_let(alloc, code, k, scope, past, *x, s, a, b, r, left, levels),
         Op::LetPar(x, y, z, a) => {
             start_pair(alloc, code, k, scope, past, *x, *y, *z, a, r, left, levels)
         }
@@ -109,9 +106,7 @@ pub fn start<'a>(
                 alloc, code, k, scope, past, n, *z, t, a, *y, *ys, b, r, left, levels,
             )
         }
-        Op::Wait(x, t, a) => start_wait(
-            alloc, code, k, scope, past, n, *x, t, a, r, left, levels,
-        ),
+        Op::Wait(x, t, a) => start_wait(alloc, code, k, scope, past, n, *x, t, a, r, left, levels),
         Op::Call(f, ms, es) => start_call(alloc, code, k, scope, past, *f, ms, es, left, levels),
     }
 }

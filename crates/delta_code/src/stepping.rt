@@ -17,20 +17,18 @@ ghost use Rattle.delta_code.specs.Told.{told, left_after};
 ghost use Rattle.delta_code.specs.Steps.{funs_of, live_run, live_rest, lives_run, lives_rest};
 
 use crate::begun::{Begun, aliased, in_two, rowed};
-use template_state::Code;
-use template_state::{Arguments, Later, Live};
 use crate::seeing::knowing;
 use crate::starting::start;
 use crate::told::{
     AllTold, Gone, Told, both, bound, first, framed, none_told, quiet, second, told_before,
 };
 use bunch::Name;
+use machine_parts::entry::Entry;
 use machine_parts::holding::{left as left_of, more};
 use machine_parts::levels::{after_head, inside, on_arguments};
-use machine_parts::entry::Entry;
 use machine_parts::parts::{
-    Cut, Sided, Taken, cat_types, copied, cut_taken, first_part, items_after, nothing_yet, par_parts, par_types,
-    second_part, side_taken, star_begun, star_taken, star_types, sum_types,
+    Cut, Sided, Taken, cat_types, copied, cut_taken, first_part, items_after, nothing_yet,
+    par_parts, par_types, second_part, side_taken, star_begun, star_taken, star_types, sum_types,
 };
 use machine_parts::scope::{Scope, stream_at, type_at};
 use machine_parts::stop::Stop;
@@ -38,6 +36,7 @@ use std::alloc::Global;
 use std::mem;
 use stream_prefix::{Prefix, maximal};
 use stream_type::{Memory, Ty};
+use template_state::{Arguments, Code, Later, Live};
 
 /// What a state gives in its scope, with what is left of its type, where it makes at most as many calls as are
 /// left, none of them at a greater level from below than `levels`; it then is what is left of it: `run_state`
@@ -76,11 +75,15 @@ pub fn step<'a>(
             Ok(put(s, gone))
         }
         Live::CaseSum(z, t, held, x, l, y, m) => {
-            let gone = step_sum(alloc, code, scope, *z, t, held, *x, l, *y, m, r, left, levels)?;
+            let gone = step_sum(
+                alloc, code, scope, *z, t, held, *x, l, *y, m, r, left, levels,
+            )?;
             Ok(put(s, gone))
         }
         Live::CaseStar(z, t, held, l, y, ys, m) => {
-            let gone = step_star(alloc, code, scope, *z, t, held, l, *y, *ys, m, r, left, levels)?;
+            let gone = step_star(
+                alloc, code, scope, *z, t, held, l, *y, *ys, m, r, left, levels,
+            )?;
             Ok(put(s, gone))
         }
         Live::Wait(x, t, held, l) => {

@@ -11,7 +11,6 @@ ghost use Rattle.machine_parts.specs.Scope.{streams_in};
 ghost use Rattle.delta_code.specs.Begun.{run_of, rest_of};
 
 use crate::begun::{Begun, over, quiet};
-use template_state::Live;
 use bunch::Name;
 use machine_parts::parts::{copied, nothing_yet};
 use machine_parts::scope::{Scope, stream_at};
@@ -19,6 +18,7 @@ use machine_parts::stars::over_star;
 use std::alloc::Global;
 use stream_prefix::Prefix;
 use stream_type::{Memory, Ty};
+use template_state::Live;
 
 /// A name: what comes on it, and the name again. Its only error is want of memory.
 #[inline(never)]

@@ -10,10 +10,10 @@ ghost use Rattle.delta_code.specs.Begun.{run_of, rest_of};
 
 use crate::begun::Begun;
 use machine_parts::levels::deeper;
-use template_state::Live;
 use std::alloc::Global;
 use stream_prefix::Prefix;
 use stream_type::Memory;
+use template_state::Live;
 
 /// What a step gives. Contracts see it as a `Run` by `told` (`specs/Told.antt`).
 #[derive(Drop)]
