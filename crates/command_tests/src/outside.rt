@@ -1,6 +1,7 @@
 //! What a command is given, and what it writes.
 
 use delta_run::delta;
+use delta_state::Machine;
 use delta_step::Tree;
 use port::{Link, MemLink, MemShelf, MemSink, Move};
 use std::alloc::Global;
@@ -57,5 +58,16 @@ pub fn outcome(
     link: &mut MemLink,
     notes: &mut MemSink,
 ) -> u8 {
-    delta::<Tree, _, _, _>(alloc, words, shelf, link, notes)
+    outcome_on::<Tree>(alloc, words, shelf, link, notes)
+}
+
+/// The status of a command line, with programs run on a machine.
+pub fn outcome_on<M: Machine>(
+    alloc: Global,
+    words: &[String],
+    shelf: &mut MemShelf,
+    link: &mut MemLink,
+    notes: &mut MemSink,
+) -> u8 {
+    delta::<M, _, _, _>(alloc, words, shelf, link, notes)
 }

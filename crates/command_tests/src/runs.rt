@@ -1,6 +1,9 @@
 //! Programs run event by event. Inputs and outputs are event lines; each output was worked out by hand.
 
-use crate::outside::{link, outcome, words, written};
+use crate::outside::{link, outcome, outcome_on, words, written};
+use delta_code::Coded;
+use delta_state::Machine;
+use delta_step::Tree;
 use port::{MemLink, MemShelf, MemSink, Move};
 use std::alloc::Global;
 use std::test::Fail;
@@ -106,14 +109,20 @@ fn due(alloc: Global, row: &Row) -> Result<Vec<u8>, Fail> {
     }
 }
 
-// Whether a row's run, on pieces of such a size, writes and answers what it must.
+// Whether a row's run, on pieces of such a size, writes and answers what it must, on the plain machine and on the
+// compiled one.
 fn holds(alloc: Global, row: &Row, piece: usize) -> Result<bool, Fail> {
+    Ok(holds_on::<Tree>(alloc, row, piece)? && holds_on::<Coded>(alloc, row, piece)?)
+}
+
+// The same on one machine.
+fn holds_on<M: Machine>(alloc: Global, row: &Row, piece: usize) -> Result<bool, Fail> {
     let given = words(alloc, row.words)?;
     let frames = frames_of(alloc, row.input)?;
     let mut shelf = shelf_of(alloc, row.text)?;
     let mut link = link(alloc, &frames, piece, 4096)?;
     let mut notes = MemSink::new(alloc, Vec::new(alloc));
-    let status = outcome(alloc, &given, &mut shelf, &mut link, &mut notes);
+    let status = outcome_on::<M>(alloc, &given, &mut shelf, &mut link, &mut notes);
     let told = notes.bytes() == row.note.as_bytes() && status == row.status;
     let bytes = written(alloc, &link)?;
     Ok(told && bytes.as_slice() == due(alloc, row)?.as_slice())

@@ -1,0 +1,50 @@
+-- The program of code, its first run, and what a machine keeps once its state is put into a simpler form.
+use Rattle.std.proofs.Common.{◌≡◌, ℕ, List, [], sym, subst}
+use Rattle.stream_type.specs.StreamType.{StreamType}
+use Rattle.stream_prefix.proofs.Derivations.{is_prefix}
+use Rattle.event_word.specs.StreamEvent.{StreamEvent}
+use Rattle.event_word.proofs.Words.{word_derives}
+use Rattle.core_term.specs.CoreTerm.{CoreBody, CoreProgram, fun_at}
+use Rattle.core_term.specs.Meaning.{run_at, horizon}
+use Rattle.delta_state.specs.StateTree.{Known, HeldName, StateTree}
+use Rattle.delta_state.specs.StateMeaning.{past_in, types_held, prefixes_held}
+use Rattle.delta_state.specs.Rest.{rest_at}
+use Rattle.delta_state.specs.Stands.{input_type, depth_after}
+use Rattle.delta_state.specs.MachineView.{input_of}
+use Rattle.main_steps.specs.Laws.{first_run_on, first_state_on}
+use Rattle.state_rewriting.specs.Rewriting.{SimplerBy}
+use Rattle.state_rewriting.proofs.SimplerStates.{simpler_stands_for}
+use Rattle.machine_parts.specs.AwaitedTree.{AwaitedTree}
+use Rattle.machine_parts.specs.KeepsAll.{KeepsAll}
+
+-- a program is that of its parts
+pub same_program : (c : CoreProgram) (funs : List CoreBody) (main : CoreBody) (texts : List (List ℕ)) → funs ≡ c.funs → main ≡ c.main → texts ≡ c.texts → record { funs = funs; main = main; texts = texts } ≡ c
+same_program c funs main texts e f g = λ i. record { funs = e i; main = f i; texts = g i }
+
+-- the run of its main on these names, with all the depth there is and no value known, and what is left of it
+pub same_run : (c : CoreProgram) (funs : List CoreBody) (k : ℕ) (main : CoreBody) (past : List Known) (es fs : List HeldName) → funs ≡ c.funs → k ≡ horizon → main ≡ c.main → past ≡ [] → es ≡ fs
+    → run_at (fun_at funs) k main.body (types_held es) main.result (prefixes_held es) (past_in past) ≡ first_run_on c fs
+same_run c funs k main past es fs e h f g is = λ i. run_at (fun_at (e i)) (h i) (f i).body (types_held (is i)) (f i).result (prefixes_held (is i)) (past_in (g i))
+
+pub same_rest : (c : CoreProgram) (funs : List CoreBody) (k : ℕ) (main : CoreBody) (past : List Known) (es fs : List HeldName) → funs ≡ c.funs → k ≡ horizon → main ≡ c.main → past ≡ [] → es ≡ fs
+    → rest_at (fun_at funs) k main.body (types_held es) main.result (prefixes_held es) past ≡ first_state_on c fs
+same_rest c funs k main past es fs e h f g is = λ i. rest_at (fun_at (e i)) (h i) (f i).body (types_held (is i)) (f i).result (prefixes_held (is i)) (g i)
+
+-- a machine keeps what it kept with a simpler state in place of its own
+pub keeps_simpler : (c : CoreProgram) (budget : ℕ) (s t : StateTree) (a : AwaitedTree) (input output : StreamType) (events spent : ℕ) (word : List StreamEvent) → KeepsAll c budget s a input output events spent word → SimplerBy output s t
+    → KeepsAll c budget t a input output events spent word
+keeps_simpler c budget s t a input output events spent word h simpler = record {
+  keeps = record {
+    runnable = h.keeps.runnable;
+    is_word = h.keeps.is_word;
+    stands_for = simpler_stands_for c (depth_after events) (input_of c word) s t h.keeps.runnable.is_typed.funs_typed (is_prefix (word_derives (input_type c) word h.keeps.is_word)) h.keeps.stands_for (subst (λ (r : StreamType). SimplerBy r s t) h.keeps.is_output simpler);
+    is_came = h.keeps.is_came;
+    is_input = h.keeps.is_input;
+    is_output = h.keeps.is_output;
+    is_count = h.keeps.is_count;
+  };
+  awaits = h.awaits;
+  is_place = h.is_place;
+  in_budget = h.in_budget;
+  in_limit = h.in_limit;
+}

@@ -1,0 +1,61 @@
+-- A frame's body runs on entries for its parameters.
+use Rattle.std.proofs.Common.{◌≡◌, ◌-◌, ◌<◌, map, sym, ap, ap₂, ◌∙◌, subst, arith, rules}
+use Rattle.std.proofs.lemmas.Result.{err_from_is_err_and}
+use Rattle.stream_type.specs.StreamType.{type_of}
+use Rattle.core_term.specs.Run.{Run, frame_run}
+use Rattle.delta_state.specs.StateTree.{frame_state}
+use Rattle.machine_parts.specs.Entry.{entry_in}
+use Rattle.machine_parts.specs.Parameters.{parameters}
+use Rattle.machine_parts.specs.Scope.{types_in, streams_in}
+use Rattle.machine_parts.specs.Levels.{below}
+use Rattle.machine_parts.proofs.HeldAndComing.{body_runs, body_rests, body_deep}
+use Rattle.template_state.specs.Readers.{state_in, arguments_in}
+use Rattle.delta_code.specs.Steps.{funs_of, lives_run}
+use Rattle.delta_code.proofs.stepping.+step.Goals as goal
+
+pub step_frame-returns-in_err-body-clause-spent : goal.step_frame-returns-in_err-body-clause-spent
+step_frame-returns-in_err-body-clause-spent t c =
+    let a = c.args in
+    let args = arguments_in a.args.now in
+    let runs = lives_run a.code.now a.scope.now args in
+    let es = map entry_in c.deref.result.now in
+    let names : es ≡ parameters args runs.outs = search rules in
+    let same = body_runs (funs_of a.code.now) args (types_in a.scope.now) (streams_in a.scope.now) runs es (λ i. runs) names (state_in a.a.now) (type_of a.r.now) in
+    let counted : c.in_ok-arguments.arguments.calls ≡ runs.calls = c.in_ok-arguments.ensures.runs.0 in
+    let exit = err_from_is_err_and c.from_residual-in_err-body.result c.from_residual-in_err-body.ensures.1 in
+    rw (exit.1, exit.2) (λ q.
+    let less = subst (λ (z : Run). a.left - c.in_ok-arguments.arguments.calls < z.calls) same (c.in_err-body.ensures.spent q) in
+    let few = c.in_ok-arguments.ensures.counted in
+    omega (arith, less, few, counted))
+
+pub step_frame-returns-in_err-body-clause-deep : goal.step_frame-returns-in_err-body-clause-deep
+step_frame-returns-in_err-body-clause-deep t c =
+    let a = c.args in
+    let args = arguments_in a.args.now in
+    let runs = lives_run a.code.now a.scope.now args in
+    let es = map entry_in c.deref.result.now in
+    let names : es ≡ parameters args runs.outs = search rules in
+    let levels : c.on_arguments-on_those.result ≡ below runs.are_shut a.levels = c.on_arguments-on_those.ensures ∙ ap (λ b. below b a.levels) c.in_ok-arguments.ensures.runs.1.1 in
+    let exit = err_from_is_err_and c.from_residual-in_err-body.result c.from_residual-in_err-body.ensures.1 in
+    rw (exit.1, exit.2) (λ q. body_deep (funs_of a.code.now) args (types_in a.scope.now) (streams_in a.scope.now) runs es (λ i. runs) names (state_in a.a.now) (type_of a.r.now) a.levels c.on_arguments-on_those.result levels (c.in_err-body.ensures.deep q))
+
+pub step_frame-returns-clause-run : goal.step_frame-returns-clause-run
+step_frame-returns-clause-run t c =
+    let a = c.args in
+    let args = arguments_in a.args.now in
+    let runs = lives_run a.code.now a.scope.now args in
+    let es = map entry_in c.deref.result.now in
+    let names : es ≡ parameters args runs.outs = search rules in
+    let same = body_runs (funs_of a.code.now) args (types_in a.scope.now) (streams_in a.scope.now) runs es (λ i. runs) names (state_in a.a.now) (type_of a.r.now) in
+    let told = c.in_ok-arguments.ensures.runs in
+    c.in_ok-framed.ensures runs (sym told.0) (sym told.1.0) (sym told.1.1) ∙ ap (frame_run runs) (c.in_ok-body.ensures.run ∙ same)
+
+pub step_frame-returns-clause-rest : goal.step_frame-returns-clause-rest
+step_frame-returns-clause-rest t c =
+    let a = c.args in
+    let args = arguments_in a.args.now in
+    let runs = lives_run a.code.now a.scope.now args in
+    let es = map entry_in c.deref.result.now in
+    let names : es ≡ parameters args runs.outs = search rules in
+    let same = body_rests (funs_of a.code.now) args (types_in a.scope.now) (streams_in a.scope.now) runs es (λ i. runs) names (state_in a.a.now) (type_of a.r.now) in
+    ap₂ frame_state c.in_ok-arguments.ensures.rests (c.in_ok-body.ensures.rest ∙ same)

@@ -1,0 +1,52 @@
+-- What the compiled machine is to the contracts of machines, and what it is for it to stand for its program.
+use Rattle.std.specs.Prelude.{List, map, refl, string_bytes}
+use Rattle.stream_type.specs.StreamType.{StreamType, type_of}
+use Rattle.stream_prefix.specs.StreamPrefix.{StreamPrefix}
+use Rattle.event_word.specs.StreamEvent.{StreamEvent}
+use Rattle.core_term.specs.CoreTerm.{CoreProgram}
+use Rattle.core_term.specs.Run.{Run}
+use Rattle.delta_state.specs.StateTree.{StateTree}
+use Rattle.delta_state.specs.StateMeaning.{types_held, prefixes_held, run_state}
+use Rattle.delta_state.specs.Rest.{rest_of}
+use Rattle.delta_state.specs.PlainState.{without_marks}
+use Rattle.delta_state.specs.MachineView.{MachineView, StandsAfter}
+use Rattle.machine_parts.specs.AwaitedTree.{AwaitedTree, awaited_in, entries_on, place_in}
+use Rattle.machine_parts.specs.KeepsAll.{KeepsAll}
+use Rattle.template_state.specs.declared.code.Code.{Code}
+use Rattle.template_state.specs.Readers.{state_in}
+use Rattle.template_state.specs.Templates.{bodies_in, body_in}
+use Rattle.delta_code.specs.Steps.{funs_of}
+use Rattle.delta_code.specs.declared.machine.Coded.{Coded}
+
+-- the run of a state over the functions of this code, and what is left of it, where so much is awaited of the
+-- input and this comes of it
+abbrev pub run_awaiting : Code → StateTree → StreamType → AwaitedTree → StreamPrefix → Run
+run_awaiting c s r a d = run_state (funs_of c) s (types_held (entries_on a d)) r (prefixes_held (entries_on a d))
+
+abbrev pub rest_awaiting : Code → StateTree → StreamType → AwaitedTree → StreamPrefix → StateTree
+rest_awaiting c s r a d = rest_of (funs_of c) s (types_held (entries_on a d)) r (prefixes_held (entries_on a d))
+
+-- the program of a machine's code, with the texts of its names
+abbrev pub program_of : Coded → CoreProgram
+program_of m = record { funs = bodies_in m.code.value; main = body_in m.code.value.main; texts = map string_bytes m.texts.items }
+
+-- its program, its state without marks, its place, and what it counts
+abbrev pub view_of : Coded → MachineView
+view_of m = record { program = program_of m; budget = m.budget; state = without_marks (state_in m.state.value); place = place_in (awaited_in m.awaited.value); events = m.events; spent = m.spent }
+
+-- it stands for its program after the word
+abbrev pub CodedStands : Coded → List StreamEvent → Type 0
+CodedStands m word = KeepsAll (program_of m) m.budget (state_in m.state.value) (awaited_in m.awaited.value) (type_of m.input.value) (type_of m.output.value) m.events m.spent word
+
+-- and so as machines have to
+abbrev pub coded_stands_after : (m : Coded) (word : List StreamEvent) → CodedStands m word → StandsAfter (view_of m) word
+coded_stands_after m word s = record {
+  is_word = s.keeps.is_word;
+  marked = state_in m.state.value;
+  is_state = refl;
+  stands_for = s.keeps.stands_for;
+  is_place = s.is_place;
+  is_count = s.keeps.is_count;
+  in_budget = s.in_budget;
+  in_limit = s.in_limit;
+}

@@ -1,0 +1,6 @@
+-- What the contracts cite.
+pub mod Around
+pub mod Begun
+pub mod Told
+pub mod Steps
+pub mod CodedView

@@ -1,0 +1,16 @@
+//! The compiled machine: a program whose code is made once, and whose state is changed in place.
+#![tactic(auto)]
+
+mod around;
+mod begun;
+mod compiling;
+mod entering;
+mod free;
+mod machine;
+mod seeing;
+mod starting;
+mod stepping;
+mod still;
+mod told;
+
+pub use machine::Coded;
