@@ -1,8 +1,8 @@
 //! The command `delta`: standard input and output as the link, standard error as the sink, and files by path.
 #![tactic(auto)]
 
+use delta_code::Coded;
 use delta_run::delta;
-use delta_step::Tree;
 use port::{DirShelf, StdLink, StdSink};
 use std::process::ExitCode;
 use std::{env, io};
@@ -27,5 +27,5 @@ fn main(rt: HostRuntime) -> ExitCode {
     let mut link = StdLink::new(rt.stdin(), rt.stdout());
     let mut notes = StdSink::new(rt.stderr());
     let mut shelf = DirShelf::new(alloc, rt);
-    ExitCode::from(delta::<Tree, _, _, _>(alloc, &words, &mut shelf, &mut link, &mut notes))
+    ExitCode::from(delta::<Coded, _, _, _>(alloc, &words, &mut shelf, &mut link, &mut notes))
 }
