@@ -32,9 +32,18 @@ fn is_cycle(alloc: Global, text: &[u8], number: u32, place: u32) -> Result<bool,
 #[test]
 fn programs_have_their_bounds(rt: HostRuntime) -> Result<(), Fail> {
     let rows: [(&[u8], u64); 4] = [
-        (b"fun twice(xs : Int*) : Int* = case xs of { nil => nil | y :: ys => wait y in ({y * 2} :: twice(ys)) } main(xs : Int*) : Int* = twice(xs)", 1),
-        (b"main(z : 1 + 1, y : Int) : Int + Int = case z of { inl a => inl y | inr b => inr y }", 1),
-        (b"main(z : 1 + 1; y : Int) : Int + Int = case z of { inl a => inl y | inr b => inr y }", 0),
+        (
+            b"fun twice(xs : Int*) : Int* = case xs of { nil => nil | y :: ys => wait y in ({y * 2} :: twice(ys)) } main(xs : Int*) : Int* = twice(xs)",
+            1,
+        ),
+        (
+            b"main(z : 1 + 1, y : Int) : Int + Int = case z of { inl a => inl y | inr b => inr y }",
+            1,
+        ),
+        (
+            b"main(z : 1 + 1; y : Int) : Int + Int = case z of { inl a => inl y | inr b => inr y }",
+            0,
+        ),
         (b"main(x : Int, y : Int) : Int = wait x in y", 2),
     ];
     for (text, number) in rows {
@@ -52,7 +61,8 @@ fn a_whole_star_has_no_size(rt: HostRuntime) -> Result<(), Fail> {
 
 #[test]
 fn a_function_that_holds_more_at_each_call_is_told(rt: HostRuntime) -> Result<(), Fail> {
-    let text = b"fun g(z : 1 + 1, y : Int) : Int = let a = (case z of { inl u => y | inr u => y } : Int) in g(z, a) main(z : 1 + 1, y : Int) : Int = g(z, y)";
+    let text =
+        b"fun g(z : 1 + 1, y : Int) : Int = let a = (case z of { inl u => y | inr u => y } : Int) in g(z, a) main(z : 1 + 1, y : Int) : Int = g(z, y)";
     assert!(rt; is_cycle(rt.alloc(), text, 0, 34)?);
     Ok(())
 }
