@@ -109,6 +109,16 @@ const RUNS: &[Row] = &[
         ..ROW
     },
     Row {
+        words: "gen 996 3",
+        output: b"items 3 in 16 96 out 4 21 last 0\n",
+        ..ROW
+    },
+    Row {
+        words: "gen 1 2",
+        output: b"items 2 in 11 66 out 1 6 last none\n",
+        ..ROW
+    },
+    Row {
         text: SWAP,
         input: LEFT_THEN_RIGHT,
         output: b"DEV1\x01\x02\x11\0\0\0\0\0\0\0\x01\x01\x01\x11\0\0\0\0\0\0\0\x02",
@@ -242,7 +252,7 @@ const FAULTS: &[Row] = &[
         ..USAGE
     },
     Row {
-        words: "gen 1 2",
+        words: "gen 1",
         ..USAGE
     },
     Row {
