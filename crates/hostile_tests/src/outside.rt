@@ -1,13 +1,13 @@
 //! What a command is given, and what it must write and answer.
 
+use delta_code::Coded;
 use delta_run::delta;
-use delta_step::Tree;
 use port::{MemLink, MemShelf, MemSink, Move};
 use std::alloc::Global;
 use std::test::Fail;
 
 /// The machine that programs run on.
-type Running = Tree;
+type Running = Coded;
 
 /// What a command is given.
 #[derive(Clone, Copy)]

@@ -1,6 +1,6 @@
 //! The line of a start and a number of items.
 
-use delta_step::Tree;
+use delta_code::Coded;
 use load_program::generate;
 use std::alloc::Global;
 use std::test::Fail;
@@ -10,7 +10,7 @@ fn is_line(alloc: Global, start: u64, items: u64, line: &str) -> Result<bool, Fa
     if start > 999_999 || items > 10_000_000 {
         return Ok(false);
     }
-    let told = generate::<Tree>(alloc, start, items)?;
+    let told = generate::<Coded>(alloc, start, items)?;
     Ok(told.as_str() == line)
 }
 
