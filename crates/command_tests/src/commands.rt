@@ -1,7 +1,7 @@
 //! Whole runs over a shelf, a link and a sink in memory.
 
-use crate::outside::{are_written, outcome, pieces, words};
-use port::{MemLink, MemShelf, MemSink};
+use crate::outside::{are_written, outcome, pieces, shelf_of, words};
+use port::{MemLink, MemSink};
 use std::alloc::Global;
 use std::test::Fail;
 
@@ -66,14 +66,6 @@ const ROW: Row = Row {
     status: 0,
 };
 
-// A shelf that holds a text as the file `program`.
-fn shelf_of(alloc: Global, text: &[u8]) -> Result<MemShelf, Fail> {
-    let name = String::from_str(alloc, "program")?;
-    let mut files = Vec::new(alloc);
-    files.push((name, text.to_vec(alloc)?))?;
-    Ok(MemShelf::new(alloc, files, Vec::new(alloc)))
-}
-
 // The link of a row.
 fn link_of(alloc: Global, row: &Row) -> Result<MemLink, Fail> {
     let pieces = pieces(alloc, row.input, row.piece)?;
@@ -116,6 +108,11 @@ const RUNS: &[Row] = &[
     Row {
         words: "gen 1 2",
         output: b"items 2 in 11 66 out 1 6 last none\n",
+        ..ROW
+    },
+    Row {
+        words: "gen 0 0",
+        output: b"items 0 in 1 6 out 1 6 last none\n",
         ..ROW
     },
     Row {
@@ -381,6 +378,13 @@ const LINES: &[Row] = &[
     },
     Row {
         words: "text --frames",
+        input: b"LLLLLLLLLLLLLLLLLLLLLLLLLLLLLLLLLLLLLLLLLLLLLLLLLLLLLLLLLLLLLLLLLLLLLLLLLLLLLLLLLLLLLLLLLLLLLLLLLLLLLLLLLLLLLLLLLLLLLLLLLLLLLLLLLLLLLLLLLLLLLLLLLLLLLLLLLLLLLLLLLLLLLLLLLLLLLLLLLLLLLLLLLLLLLLLLLLLLLLLLLLLLLLLLLLLLLLLLLLLLLLLLLLLLLLLLLLLLLLLLLLLLLLLLLLLLLLLLL\n",
+        note: b"delta: input refused: LongLine at 0\n",
+        status: 4,
+        ..ROW
+    },
+    Row {
+        words: "text --frames",
         input: b"end\ncat",
         output: b"DEV1\0\x16",
         note: b"delta: input refused: BadWord at 4\n",
@@ -460,7 +464,34 @@ const CHECKS: &[Row] = &[
         status: 3,
         ..FINE
     },
+    Row {
+        text: b"fun twice(xs : Int*) : Int* = case xs of { nil => nil | y :: ys => wait y in ({y * 2} :: twice(ys)) }\nmain(xs : Int*) : Int* = twice(zs)",
+        note: b"delta: program refused: Unbound at 133\n",
+        status: 3,
+        ..FINE
+    },
 ];
+
+const PRINTS: &[Row] = &[
+    Row {
+        words: "print program",
+        output: b"main (x : Int) : Int = x\n",
+        ..ROW
+    },
+    Row {
+        words: "print program",
+        text: DOUBLE,
+        output: b"fun twice (xs : Int*) : Int* = case xs of { nil => nil | y :: ys => wait y in { y * 2 } :: twice (ys) }\nmain (xs : Int*) : Int* = twice (xs)\n",
+        ..ROW
+    },
+];
+
+#[test]
+fn texts_are_printed(rt: HostRuntime) -> Result<(), Fail> {
+    assert_eq!(rt; first_wrong(rt.alloc(), PRINTS)?, None);
+    assert!(rt; byte_by_byte(rt.alloc(), PRINTS)?);
+    Ok(())
+}
 
 #[test]
 fn texts_are_checked(rt: HostRuntime) -> Result<(), Fail> {

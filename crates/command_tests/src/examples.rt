@@ -1,8 +1,7 @@
 //! Programs evaluated on inputs and their fronts. Inputs and outputs are event lines; each output was
 //! worked out by hand.
 
-use crate::outside::{link, outcome, words, written};
-use port::{MemShelf, MemSink};
+use crate::outside::{frames_of, run};
 use std::alloc::Global;
 use std::test::Fail;
 
@@ -42,40 +41,16 @@ const COPY: &str =
     "fun copy(xs : Int*) : Int* = case xs of { nil => nil | y :: ys => y :: copy(ys) }
 main(xs : Int*) : Int* = copy(xs)";
 
-// A shelf that holds a text as the file `program`.
-fn shelf_of(alloc: Global, text: &str) -> Result<MemShelf, Fail> {
-    let name = String::from_str(alloc, "program")?;
-    let mut files = Vec::new(alloc);
-    files.push((name, text.as_bytes().to_vec(alloc)?))?;
-    Ok(MemShelf::new(alloc, files, Vec::new(alloc)))
-}
-
-// Runs words over the file `program`, and answers the status and what was written.
-fn run(alloc: Global, line: &str, text: &str, input: &[u8]) -> Result<(u8, Vec<u8>), Fail> {
-    let given = words(alloc, line)?;
-    let mut shelf = shelf_of(alloc, text)?;
-    let mut link = link(alloc, input, 4096, 4096)?;
-    let mut notes = MemSink::new(alloc, Vec::new(alloc));
-    let status = outcome(alloc, &given, &mut shelf, &mut link, &mut notes);
-    Ok((status, written(alloc, &link)?))
-}
-
-// The frames of lines.
-fn frames_of(alloc: Global, lines: &str) -> Result<Vec<u8>, Fail> {
-    let (_, frames) = run(alloc, "text --frames", "", lines.as_bytes())?;
-    Ok(frames)
-}
-
 // Whether these frames have these lines.
 fn have_lines(alloc: Global, frames: &[u8], lines: &str) -> Result<bool, Fail> {
-    let (_, found) = run(alloc, "text", "", frames)?;
+    let (_, found) = run(alloc, "text", b"", frames)?;
     Ok(found.as_slice() == lines.as_bytes())
 }
 
 // Whether a program is evaluated on the frames of lines to the frames of such lines.
 fn gives(alloc: Global, text: &str, input: &str, output: &str) -> Result<bool, Fail> {
     let frames = frames_of(alloc, input)?;
-    let (status, evaluated) = run(alloc, "eval program", text, &frames)?;
+    let (status, evaluated) = run(alloc, "eval program", text.as_bytes(), &frames)?;
     Ok((status == 0 || status == 6) && have_lines(alloc, &evaluated, output)?)
 }
 
@@ -90,7 +65,7 @@ fn give(alloc: Global, rows: &[(&str, &str, &str)]) -> Result<bool, Fail> {
 
 // Whether a text is accepted.
 fn is_accepted(alloc: Global, text: &str) -> Result<bool, Fail> {
-    let (status, _) = run(alloc, "check program", text, b"")?;
+    let (status, _) = run(alloc, "check program", text.as_bytes(), b"")?;
     Ok(status == 0)
 }
 
@@ -176,8 +151,8 @@ fn alarm_stands_beside_the_readings(rt: HostRuntime) -> Result<(), Fail> {
 // Whether one number can't be doubled with one call, and can with two.
 fn is_spent(alloc: Global) -> Result<bool, Fail> {
     let frames = frames_of(alloc, "item\nF int 3\ncut\nend\n")?;
-    let (spent, bytes) = run(alloc, "eval --budget 1 program", DOUBLE, &frames)?;
-    let (status, _) = run(alloc, "eval --budget 2 program", DOUBLE, &frames)?;
+    let (spent, bytes) = run(alloc, "eval --budget 1 program", DOUBLE.as_bytes(), &frames)?;
+    let (status, _) = run(alloc, "eval --budget 2 program", DOUBLE.as_bytes(), &frames)?;
     Ok(spent == 5 && bytes.is_empty() && status == 0)
 }
 

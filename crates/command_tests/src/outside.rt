@@ -1,8 +1,8 @@
 //! What a command is given, and what it writes.
 
+use delta_code::Coded;
 use delta_run::delta;
 use delta_state::Machine;
-use delta_step::Tree;
 use port::{Link, MemLink, MemShelf, MemSink, Move};
 use std::alloc::Global;
 use std::test::Fail;
@@ -16,6 +16,14 @@ pub fn words(alloc: Global, line: &str) -> Result<Vec<String>, Fail> {
         }
     }
     Ok(words)
+}
+
+/// A shelf that holds a text as the file `program`.
+pub fn shelf_of(alloc: Global, text: &[u8]) -> Result<MemShelf, Fail> {
+    let name = String::from_str(alloc, "program")?;
+    let mut files = Vec::new(alloc);
+    files.push((name, text.to_vec(alloc)?))?;
+    Ok(MemShelf::new(alloc, files, Vec::new(alloc)))
 }
 
 /// An input in pieces of at most so many bytes.
@@ -50,7 +58,7 @@ pub fn are_written(alloc: Global, link: &MemLink, output: &[u8]) -> Result<bool,
     Ok(bytes.as_slice() == output)
 }
 
-/// The status of a command line, with programs run on the plain machine.
+/// The status of a command line, with programs run on the machine that the command runs.
 pub fn outcome(
     alloc: Global,
     words: &[String],
@@ -58,7 +66,7 @@ pub fn outcome(
     link: &mut MemLink,
     notes: &mut MemSink,
 ) -> u8 {
-    outcome_on::<Tree>(alloc, words, shelf, link, notes)
+    outcome_on::<Coded>(alloc, words, shelf, link, notes)
 }
 
 /// The status of a command line, with programs run on a machine.
@@ -70,4 +78,20 @@ pub fn outcome_on<M: Machine>(
     notes: &mut MemSink,
 ) -> u8 {
     delta::<M, _, _, _>(alloc, words, shelf, link, notes)
+}
+
+/// Runs words over the file `program`, and answers the status and what was written.
+pub fn run(alloc: Global, line: &str, text: &[u8], input: &[u8]) -> Result<(u8, Vec<u8>), Fail> {
+    let given = words(alloc, line)?;
+    let mut shelf = shelf_of(alloc, text)?;
+    let mut link = link(alloc, input, 4096, 4096)?;
+    let mut notes = MemSink::new(alloc, Vec::new(alloc));
+    let status = outcome(alloc, &given, &mut shelf, &mut link, &mut notes);
+    Ok((status, written(alloc, &link)?))
+}
+
+/// The frames of lines.
+pub fn frames_of(alloc: Global, lines: &str) -> Result<Vec<u8>, Fail> {
+    let (_, frames) = run(alloc, "text --frames", b"", lines.as_bytes())?;
+    Ok(frames)
 }

@@ -1,10 +1,10 @@
 //! Programs run event by event. Inputs and outputs are event lines; each output was worked out by hand.
 
-use crate::outside::{link, outcome, outcome_on, words, written};
+use crate::outside::{frames_of, link, outcome_on, shelf_of, words, written};
 use delta_code::Coded;
 use delta_state::Machine;
 use delta_step::Tree;
-use port::{MemLink, MemShelf, MemSink, Move};
+use port::{MemLink, MemSink, Move};
 use std::alloc::Global;
 use std::test::Fail;
 
@@ -83,24 +83,6 @@ const ROW: Row = Row {
     status: 0,
 };
 
-// A shelf that holds a text as the file `program`.
-fn shelf_of(alloc: Global, text: &str) -> Result<MemShelf, Fail> {
-    let name = String::from_str(alloc, "program")?;
-    let mut files = Vec::new(alloc);
-    files.push((name, text.as_bytes().to_vec(alloc)?))?;
-    Ok(MemShelf::new(alloc, files, Vec::new(alloc)))
-}
-
-// The frames of lines.
-fn frames_of(alloc: Global, lines: &str) -> Result<Vec<u8>, Fail> {
-    let given = words(alloc, "text --frames")?;
-    let mut shelf = shelf_of(alloc, "")?;
-    let mut link = link(alloc, lines.as_bytes(), 4096, 4096)?;
-    let mut notes = MemSink::new(alloc, Vec::new(alloc));
-    let _status = outcome(alloc, &given, &mut shelf, &mut link, &mut notes);
-    written(alloc, &link)
-}
-
 // The bytes that a row's run must write.
 fn due(alloc: Global, row: &Row) -> Result<Vec<u8>, Fail> {
     match row.output {
@@ -109,17 +91,17 @@ fn due(alloc: Global, row: &Row) -> Result<Vec<u8>, Fail> {
     }
 }
 
-// Whether a row's run, on pieces of such a size, writes and answers what it must, on the plain machine and on the
-// compiled one.
+// Whether a row's run, on pieces of such a size, writes and answers what it must, on the compiled machine and on the
+// plain one.
 fn holds(alloc: Global, row: &Row, piece: usize) -> Result<bool, Fail> {
-    Ok(holds_on::<Tree>(alloc, row, piece)? && holds_on::<Coded>(alloc, row, piece)?)
+    Ok(holds_on::<Coded>(alloc, row, piece)? && holds_on::<Tree>(alloc, row, piece)?)
 }
 
 // The same on one machine.
 fn holds_on<M: Machine>(alloc: Global, row: &Row, piece: usize) -> Result<bool, Fail> {
     let given = words(alloc, row.words)?;
     let frames = frames_of(alloc, row.input)?;
-    let mut shelf = shelf_of(alloc, row.text)?;
+    let mut shelf = shelf_of(alloc, row.text.as_bytes())?;
     let mut link = link(alloc, &frames, piece, 4096)?;
     let mut notes = MemSink::new(alloc, Vec::new(alloc));
     let status = outcome_on::<M>(alloc, &given, &mut shelf, &mut link, &mut notes);
@@ -332,6 +314,11 @@ const BUDGETS: &[Row] = &[
         input: "int 100\n",
         ..ROW
     },
+    Row {
+        text: DOWN,
+        input: "int 100\n",
+        ..ROW
+    },
 ];
 
 #[test]
@@ -482,38 +469,204 @@ fn is_prompt(alloc: Global, turns: &[(&str, &str)], link: &MemLink) -> Result<bo
     Ok(all && reads > turns.len())
 }
 
-// Whether a program over a feed that is held open answers each turn's lines by those beside them.
-fn answers(alloc: Global, text: &str, turns: &[(&str, &str)]) -> Result<bool, Fail> {
+// Whether a program over a feed that is held open answers each turn's lines by those beside them, on one machine.
+fn answers_on<M: Machine>(alloc: Global, text: &str, turns: &[(&str, &str)]) -> Result<bool, Fail> {
     let given = words(alloc, "run program")?;
-    let mut shelf = shelf_of(alloc, text)?;
-    let mut link = MemLink::new(
-        alloc,
-        pieces_of(alloc, turns)?,
-        Vec::new(alloc),
-        Vec::new(alloc),
-        4096,
-    );
+    let mut shelf = shelf_of(alloc, text.as_bytes())?;
+    let pieces = pieces_of(alloc, turns)?;
+    let mut link = MemLink::new(alloc, pieces, Vec::new(alloc), Vec::new(alloc), 4096);
     let mut notes = MemSink::new(alloc, Vec::new(alloc));
-    let _status = outcome(alloc, &given, &mut shelf, &mut link, &mut notes);
+    let _status = outcome_on::<M>(alloc, &given, &mut shelf, &mut link, &mut notes);
     is_prompt(alloc, turns, &link)
+}
+
+// The same on both machines.
+fn answers(alloc: Global, text: &str, turns: &[(&str, &str)]) -> Result<bool, Fail> {
+    Ok(answers_on::<Coded>(alloc, text, turns)? && answers_on::<Tree>(alloc, text, turns)?)
+}
+
+// A program, and what it puts out at each turn: before any event first, then for the lines that come next.
+type Talk = (&'static str, &'static [(&'static str, &'static str)]);
+
+const SIDES: &[Talk] = &[
+    (
+        SWAP,
+        &[
+            ("", ""),
+            ("L int 1\n", "R int 1\n"),
+            ("R int 2\n", "L int 2\n"),
+        ],
+    ),
+    (
+        SWAP,
+        &[
+            ("", ""),
+            ("R int 2\n", "L int 2\n"),
+            ("L int 1\n", "R int 1\n"),
+        ],
+    ),
+    (
+        "main(x : Int, y : Int) : Int || Int = let z = x in (z, y)",
+        &[
+            ("", ""),
+            ("R int 5\n", "R int 5\n"),
+            ("L int 4\n", "L int 4\n"),
+        ],
+    ),
+    (
+        "main(x : Int, y : Int) : Int = let (a, b) = ((y, x) : Int || Int) in b",
+        &[("", ""), ("L int 4\n", "int 4\n"), ("R int 5\n", "")],
+    ),
+    (
+        CHOICE,
+        &[
+            ("", ""),
+            ("R int 5\n", ""),
+            ("L inl\n", "inl\nint 5\n"),
+            ("L one\n", ""),
+        ],
+    ),
+];
+
+const IN_ORDER: &[Talk] = &[
+    (
+        IN_TURN,
+        &[
+            ("", ""),
+            ("F int 1\n", "F int 1\ncut\n"),
+            ("cut\n", ""),
+            ("int 2\n", "int 2\n"),
+        ],
+    ),
+    (
+        AFTER_NOTHING,
+        &[("", ""), ("cut\n", ""), ("int 5\n", "int 5\n")],
+    ),
+    (
+        "main(x : 1; y : 1) : 1 . 1 = let z = (() : 1) in (z; x)",
+        &[
+            ("", "F one\ncut\n"),
+            ("F one\n", "one\n"),
+            ("cut\n", ""),
+            ("one\n", ""),
+        ],
+    ),
+    (FIRST, &[("", ""), ("end\n", "inr\none\n")]),
+    (
+        FIRST,
+        &[
+            ("", ""),
+            ("item\n", "inl\n"),
+            ("F int 3\n", "int 3\n"),
+            ("cut\n", ""),
+            ("end\n", ""),
+        ],
+    ),
+];
+
+const FEED_TURNS: &[Talk] = &[
+    (
+        DOUBLE,
+        &[
+            ("", ""),
+            ("item\n", ""),
+            ("F int 3\n", "item\nF int 6\ncut\n"),
+            ("cut\n", ""),
+            ("end\n", "end\n"),
+        ],
+    ),
+    (
+        COPY,
+        &[
+            ("", ""),
+            ("item\n", "item\n"),
+            ("F int 3\n", "F int 3\ncut\n"),
+            ("cut\n", ""),
+            ("end\n", "end\n"),
+        ],
+    ),
+    (
+        SUMS,
+        &[
+            ("", ""),
+            ("item\n", ""),
+            ("F int 2\n", "item\nF int 2\ncut\n"),
+            ("cut\nitem\n", ""),
+            ("F int 3\n", "item\nF int 5\ncut\n"),
+            ("cut\n", ""),
+            ("end\n", "end\n"),
+        ],
+    ),
+    (
+        TOTAL,
+        &[
+            ("", ""),
+            ("item\nF int 9223372036854775807\ncut\n", ""),
+            ("item\nF int 1\ncut\n", ""),
+            ("end\n", "int 9223372036854775807\n"),
+        ],
+    ),
+];
+
+// The number of talks before the first that goes otherwise, or none.
+fn first_other(alloc: Global, talks: &[Talk]) -> Result<Option<usize>, Fail> {
+    for k in 0..talks.len() {
+        let (text, turns) = talks[k];
+        if !answers(alloc, text, turns)? {
+            return Ok(Some(k));
+        }
+    }
+    Ok(None)
 }
 
 #[test]
 fn each_event_is_answered_before_the_next(rt: HostRuntime) -> Result<(), Fail> {
-    let doubled = [
-        ("", ""),
-        ("item\n", ""),
-        ("F int 3\n", "item\nF int 6\ncut\n"),
-        ("cut\n", ""),
-        ("end\n", "end\n"),
-    ];
-    assert!(rt; answers(rt.alloc(), DOUBLE, &doubled)?);
-    let chosen = [
-        ("", ""),
-        ("R int 5\n", ""),
-        ("L inl\n", "inl\nint 5\n"),
-        ("L one\n", ""),
-    ];
-    assert!(rt; answers(rt.alloc(), CHOICE, &chosen)?);
+    for talks in [SIDES, IN_ORDER, FEED_TURNS] {
+        assert_eq!(rt; first_other(rt.alloc(), talks)?, None);
+    }
+    Ok(())
+}
+
+// Whether a run that is stopped before any event reads nothing.
+fn reads_nothing(alloc: Global, line: &str, text: &str) -> Result<bool, Fail> {
+    let given = words(alloc, line)?;
+    let mut shelf = shelf_of(alloc, text.as_bytes())?;
+    let mut link = link(alloc, b"DEV1", 4096, 4096)?;
+    let mut notes = MemSink::new(alloc, Vec::new(alloc));
+    let status = outcome_on::<Coded>(alloc, &given, &mut shelf, &mut link, &mut notes);
+    let mut none = status == 5;
+    for step in link.log() {
+        none = none && matches!(step, Move::Out(_));
+    }
+    Ok(none)
+}
+
+#[test]
+fn a_stop_before_any_event_reads_nothing(rt: HostRuntime) -> Result<(), Fail> {
+    assert!(rt; reads_nothing(rt.alloc(), "run program --budget 3", LOOP)?);
+    assert!(rt; reads_nothing(rt.alloc(), "run program --budget 0", DOUBLE)?);
+    Ok(())
+}
+
+// The doubling of one number in pieces of 6, 11 and 4 bytes, of which the last can't be read.
+fn third_read_fails(alloc: Global) -> Result<bool, Fail> {
+    let frames = frames_of(alloc, THREE)?;
+    let mut pieces = Vec::new(alloc);
+    for piece in [0..6, 6..17, 17..21] {
+        pieces.push(frames.as_slice().get(piece).unwrap_or(&[]).to_vec(alloc)?)?;
+    }
+    let given = words(alloc, "run program")?;
+    let mut shelf = shelf_of(alloc, DOUBLE.as_bytes())?;
+    let mut link = MemLink::new(alloc, pieces, [2].to_vec(alloc)?, Vec::new(alloc), 4096);
+    let mut notes = MemSink::new(alloc, Vec::new(alloc));
+    let status = outcome_on::<Coded>(alloc, &given, &mut shelf, &mut link, &mut notes);
+    let due = frames_of(alloc, "item\nF int 6\ncut\n")?;
+    let told = status == 7 && notes.bytes() == b"delta: outside fault: input\n".as_slice();
+    Ok(told && written(alloc, &link)?.as_slice() == due.as_slice())
+}
+
+#[test]
+fn what_is_due_is_written_before_a_failed_read(rt: HostRuntime) -> Result<(), Fail> {
+    assert!(rt; third_read_fails(rt.alloc())?);
     Ok(())
 }
