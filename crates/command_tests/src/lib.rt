@@ -14,4 +14,6 @@ mod runs;
 #[cfg(test)]
 mod sources;
 #[cfg(test)]
+mod tour;
+#[cfg(test)]
 mod words;
