@@ -1,7 +1,9 @@
 //! The reads and the writes of the link failing in turn, the shelf failing, and the sink failing before or in a note.
 
 use crate::outside::{Answer, Given, breaks_off, holds};
-use crate::tables::{CHECK, COMMANDS, Command, GIVEN, LINES, PRINT, PRINTED, SIX, THREE};
+use crate::tables::{
+    CHECK, COMMANDS, Command, GEN, GIVEN, LINES, PRINT, PRINTED, SIX, SUMMARY, THREE,
+};
 use std::alloc::Global;
 use std::test::Fail;
 
@@ -73,6 +75,7 @@ fn writes_fail_in_turn(rt: HostRuntime) -> Result<(), Fail> {
         );
     }
     assert!(rt; answers_failing_writes(rt.alloc(), &PRINT, PRINTED)?);
+    assert!(rt; answers_failing_writes(rt.alloc(), &GEN, SUMMARY)?);
     Ok(())
 }
 
@@ -146,6 +149,14 @@ const CALLS: &[Row] = &[
             ..CHECK
         },
         (b"", 0, ""),
+    ),
+    (
+        Given {
+            fail_calls: &[0],
+            fail_reads: &[0],
+            ..GEN
+        },
+        (SUMMARY, 0, ""),
     ),
 ];
 
@@ -263,20 +274,11 @@ fn sink_fails_at_once(rt: HostRuntime) -> Result<(), Fail> {
     Ok(())
 }
 
-// The sink fails once a part of the note was written.
-const TORN: &[Row] = &[
+// Commands with a note; the sink fails at one of its writes.
+const NOTED: &[Row] = &[
     (
         Given {
             input: b"",
-            fail_notes: &[1],
-            ..GIVEN
-        },
-        (b"DEV1", 4, "delta: input refused: Truncated at 0\n"),
-    ),
-    (
-        Given {
-            input: b"",
-            fail_notes: &[2],
             ..GIVEN
         },
         (b"DEV1", 4, "delta: input refused: Truncated at 0\n"),
@@ -284,7 +286,6 @@ const TORN: &[Row] = &[
     (
         Given {
             words: "run program --budget 0",
-            fail_notes: &[1],
             ..GIVEN
         },
         (b"DEV1", 5, "delta: stopped: Budget at 0\n"),
@@ -292,7 +293,6 @@ const TORN: &[Row] = &[
     (
         Given {
             words: "eval program --budget 1",
-            fail_notes: &[2],
             ..GIVEN
         },
         (b"", 5, "delta: stopped: Budget at 0\n"),
@@ -301,7 +301,6 @@ const TORN: &[Row] = &[
         Given {
             words: "text",
             input: b"DEV1\0",
-            fail_notes: &[1],
             ..GIVEN
         },
         (b"", 4, "delta: input refused: Truncated at 5\n"),
@@ -310,7 +309,6 @@ const TORN: &[Row] = &[
         Given {
             words: "text --frames",
             input: b"end\ncat",
-            fail_notes: &[2],
             ..GIVEN
         },
         (b"DEV1\0\x16", 4, "delta: input refused: BadWord at 4\n"),
@@ -318,7 +316,6 @@ const TORN: &[Row] = &[
     (
         Given {
             text: b"\xff",
-            fail_notes: &[1],
             ..PRINT
         },
         (b"", 3, "delta: program refused: BadUtf8 at 0\n"),
@@ -326,24 +323,40 @@ const TORN: &[Row] = &[
     (
         Given {
             text: b"\xff",
-            fail_notes: &[2],
             ..CHECK
         },
         (b"", 3, "delta: program refused: BadUtf8 at 0\n"),
     ),
 ];
 
-// Whether each row's command writes and answers what it must, with a part of the note alone.
-fn break_off(alloc: Global, rows: &[Row]) -> Result<bool, Fail> {
+// How many pieces each of these notes has at least.
+const PIECES: u64 = 4;
+
+// Whether a row's command writes and answers what it must where the sink fails at a piece of the note, for each of the
+// first of them: a part of the note is told, and more of it at each later piece.
+fn breaks_off_in_turn(alloc: Global, (given, answer): &Row) -> Result<bool, Fail> {
     let mut all = true;
-    for (given, answer) in rows {
-        all = all && breaks_off(alloc, given, *answer)?;
+    let mut least = 0;
+    for piece in 0..PIECES {
+        let given = Given {
+            fail_notes: &[piece],
+            ..*given
+        };
+        match breaks_off(alloc, &given, *answer)? {
+            Some(said) => {
+                all = all && said >= least;
+                least = said.saturating_add(1);
+            }
+            None => all = false,
+        }
     }
     Ok(all)
 }
 
 #[test]
 fn sink_fails_in_a_note(rt: HostRuntime) -> Result<(), Fail> {
-    assert!(rt; break_off(rt.alloc(), TORN)?);
+    for row in NOTED {
+        assert!(rt; breaks_off_in_turn(rt.alloc(), row)?, "{}", row.0.words);
+    }
     Ok(())
 }

@@ -92,12 +92,20 @@ pub fn holds(alloc: Global, given: &Given<'_>, answer: Answer<'_>) -> Result<boo
     Ok(are_written(alloc, &link, answer.0)? && told && status == answer.1)
 }
 
-/// Whether a command writes and answers what it must, but for a note that breaks off.
-pub fn breaks_off(alloc: Global, given: &Given<'_>, answer: Answer<'_>) -> Result<bool, Fail> {
+/// How many bytes of its note a command tells that breaks off, where it else writes and answers what it must.
+pub fn breaks_off(
+    alloc: Global,
+    given: &Given<'_>,
+    answer: Answer<'_>,
+) -> Result<Option<usize>, Fail> {
     let mut shelf = shelf_of(alloc, given)?;
     let mut link = link_of(alloc, given)?;
     let (status, notes) = outcome(alloc, given, &mut shelf, &mut link)?;
     let (note, said) = (answer.2.as_bytes(), notes.bytes());
-    let told = !said.is_empty() && said.len() < note.len() && note.starts_with(said);
-    Ok(are_written(alloc, &link, answer.0)? && told && status == answer.1)
+    let told = said.len() < note.len() && note.starts_with(said);
+    if told && are_written(alloc, &link, answer.0)? && status == answer.1 {
+        Ok(Some(said.len()))
+    } else {
+        Ok(None)
+    }
 }

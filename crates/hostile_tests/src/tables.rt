@@ -29,6 +29,7 @@ const CUT: &[u8] = b"DEV1\0\x15\x01\x03\x11\0\0\0\0\0\0\0\x03\0\x14";
 
 // What is said of the first number.
 const DOUBLED: &[u8] = b"DEV1\0\x15\x01\x03\x11\0\0\0\0\0\0\0\x06\0\x14";
+
 /// What is said of the whole feed.
 pub const SIX: &[u8] = b"DEV1\0\x15\x01\x03\x11\0\0\0\0\0\0\0\x06\0\x14\0\x16";
 
@@ -247,6 +248,7 @@ const ONE_LINE: &[u8] = b"item\n";
 const TWO_LINES: &[u8] = b"item\nF int 3\n";
 
 const THREE_LINES: &[u8] = b"item\nF int 3\ncut\n";
+
 /// The lines of the whole feed.
 pub const LINES: &[u8] = b"item\nF int 3\ncut\nend\n";
 
@@ -398,3 +400,12 @@ pub const CHECK: Given<'static> = Given {
     words: "check program",
     ..GIVEN
 };
+
+/// `gen` over three items, which reads neither a file nor an input.
+pub const GEN: Given<'static> = Given {
+    words: "gen 996 3",
+    ..GIVEN
+};
+
+/// The line that it writes.
+pub const SUMMARY: &[u8] = b"items 3 in 16 96 out 4 21 last 0\n";
