@@ -1,0 +1,110 @@
+//! A session that is opened and fed lines, and what it must answer.
+
+ghost use Rattle.std.specs.Prelude.{IsTrue};
+ghost use Rattle.core_term.specs.CoreTerm.{core_of, fits_of};
+ghost use Rattle.delta_session.specs.Standing.{IsKept};
+
+use core_term::Checked;
+use delta_session::{FeedRefusal, OpenRefusal, Session};
+use delta_state::Machine;
+use event_text::{read_line, write_line};
+use event_word::Event;
+use std::alloc::Global;
+use std::test::Fail;
+
+/// More events than any session here takes.
+pub const ROOM: u64 = 1_000_000;
+
+/// A line, and the lines that answer it or why it isn't taken.
+pub type Turn = (&'static str, Result<&'static str, FeedRefusal>);
+
+/// A program, the calls that it may make, what it says first, and what it answers line by line.
+#[derive(Clone, Copy)]
+pub struct Talk {
+    pub text: &'static str,
+    pub budget: u64,
+    pub opening: Result<&'static str, OpenRefusal>,
+    pub turns: &'static [Turn],
+    /// The number of events that are accepted, and of those that are held then.
+    pub events: u64,
+    pub held: u64,
+    /// Whether nothing more is awaited then.
+    pub is_whole: bool,
+}
+
+// Whether these are the lines of a word.
+fn has_lines(alloc: Global, word: &[Event], lines: &str) -> Result<bool, Fail> {
+    let mut found = String::new(alloc);
+    for x in word {
+        write_line(x, &mut found)?;
+    }
+    Ok(found.as_str() == lines)
+}
+
+// Feeds a line to a session, and answers whether that is what it says to it.
+fn feed<M: Machine>(alloc: Global, session: &mut Session<M>, turn: Turn) -> Result<bool, Fail>
+    requires kept { IsKept M.seen M.stands session.old }
+    ensures kept { IsKept M.seen M.stands session.new }
+{
+    if session.events() >= ROOM {
+        return Ok(false);
+    }
+    let x = read_line(turn.0.as_bytes())?;
+    match (session.feed(alloc, x), turn.1) {
+        (Ok(word), Ok(lines)) => has_lines(alloc, &word, lines),
+        (Err(found), Err(refusal)) => Ok(found == refusal),
+        _ => Ok(false),
+    }
+}
+
+// Feeds lines to a session, and answers whether that is what it says to each.
+fn feed_all<M: Machine>(
+    alloc: Global,
+    session: &mut Session<M>,
+    turns: &[Turn],
+) -> Result<bool, Fail>
+    requires kept { IsKept M.seen M.stands session.old }
+    ensures kept { IsKept M.seen M.stands session.new }
+{
+    let mut all = true;
+    for turn in turns {
+        let right = feed(alloc, session, *turn)?;
+        all = all && right;
+    }
+    Ok(all)
+}
+
+// Whether a session that said this first goes on as the talk does, and stands so at its end.
+fn goes_on<M: Machine>(
+    alloc: Global,
+    session: &mut Session<M>,
+    first: &[Event],
+    talk: &Talk,
+) -> Result<bool, Fail>
+    requires kept { IsKept M.seen M.stands session.old }
+{
+    let begins = match talk.opening {
+        Ok(lines) => has_lines(alloc, first, lines)?,
+        Err(_) => false,
+    };
+    let answers = feed_all(alloc, session, talk.turns)?;
+    let counted = session.events() == talk.events && session.held() == talk.held;
+    let is_whole = stream_type::null(session.rest());
+    Ok(begins && answers && counted && is_whole == talk.is_whole)
+}
+
+/// Whether a session of the program goes as the talk does.
+pub fn goes<M: Machine>(alloc: Global, checked: &Checked, talk: &Talk) -> Result<bool, Fail>
+    requires { IsTrue (fits_of (core_of checked.now)) }
+{
+    match Session::<M>::open(alloc, checked, talk.budget.min(1_000_000)) {
+        Ok((session, first)) => {
+            let mut session = session;
+            goes_on(alloc, &mut session, &first, talk)
+        }
+        Err(refusal) => match talk.opening {
+            Err(expected) => Ok(refusal == expected),
+            Ok(_) => Ok(false),
+        },
+    }
+}
