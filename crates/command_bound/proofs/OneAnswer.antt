@@ -9,28 +9,32 @@ use Rattle.delta_accept.specs.Acceptance.{IsAcceptedAs}
 use Rattle.delta_accept.proofs.OneAnswer.{accepted_is_one}
 use Rattle.command_bound.specs.Bounding.{IsBound, HasNoBound, IsBounded, IsUnbounded}
 
+-- nothing isn't something
+not_none : {A : Type 0} {a : A} → None ≡ Some a → ⊥
+not_none {a = a} e = cc
+
 module _ (places : List ℕ) (c : CoreProgram) where
   one_bound : (m n : ℕ) → IsBound places c m → IsBound places c n → m ≡ n
   one_bound m n h k = let e : Some m ≡ Some n = sym h.is_bound ∙ k.is_bound in cc
 
   not_both : (n : ℕ) (why : BoundName) (at : ℕ) → IsBound places c n → HasNoBound places c why at → ⊥
-  not_both n Unbounded at h k = let e : None ≡ Some (k.0, at) = sym h.sized ∙ k.1 in let none : ⊥ = cc in none
-  not_both n Cycle at h k = let e : None ≡ Some k.1 = sym h.settled ∙ k.2 in let none : ⊥ = cc in none
+  not_both n Unbounded at h k = not_none (sym h.sized ∙ k.1)
+  not_both n Cycle at h k = not_none (sym h.settled ∙ k.2)
   not_both n Large at h k = let e : Some n ≡ Some 1000000000000000000 = sym h.is_bound ∙ k.2 in let i : n ≡ 1000000000000000000 = cc in omega (arith, i, h.is_small)
 
   one_refusal : (why other : BoundName) (at there : ℕ) → HasNoBound places c why at → HasNoBound places c other there → (why ≡ other) × (at ≡ there)
   one_refusal Unbounded Unbounded at there h k = (refl, let e : Some (h.0, at) ≡ Some (k.0, there) = sym h.1 ∙ k.1 in let i : (h.0, at) ≡ (k.0, there) = cc in ap (λ (q : ℕ × ℕ). q.1) i)
-  one_refusal Unbounded Cycle at there h k = absurd (let e : Some (h.0, at) ≡ None = sym h.1 ∙ k.0 in let none : ⊥ = cc in none)
-  one_refusal Unbounded Large at there h k = absurd (let e : Some (h.0, at) ≡ None = sym h.1 ∙ k.0 in let none : ⊥ = cc in none)
-  one_refusal Cycle Unbounded at there h k = absurd (let e : None ≡ Some (k.0, there) = sym h.0 ∙ k.1 in let none : ⊥ = cc in none)
+  one_refusal Unbounded Cycle at there h k = absurd (not_none (sym k.0 ∙ h.1))
+  one_refusal Unbounded Large at there h k = absurd (not_none (sym k.0 ∙ h.1))
+  one_refusal Cycle Unbounded at there h k = absurd (not_none (sym h.0 ∙ k.1))
   one_refusal Cycle Cycle at there h k =
       let e : Some h.1 ≡ Some k.1 = sym h.2 ∙ k.2 in
       let i : h.1 ≡ k.1 = cc in
       let j = h.3 in
       let l = k.3 in (refl, let r : Some at ≡ Some there = cc in let s : at ≡ there = cc in s)
-  one_refusal Cycle Large at there h k = absurd (let e : Some h.1 ≡ None = sym h.2 ∙ k.1 in let none : ⊥ = cc in none)
-  one_refusal Large Unbounded at there h k = absurd (let e : None ≡ Some (k.0, there) = sym h.0 ∙ k.1 in let none : ⊥ = cc in none)
-  one_refusal Large Cycle at there h k = absurd (let e : None ≡ Some k.1 = sym h.1 ∙ k.2 in let none : ⊥ = cc in none)
+  one_refusal Cycle Large at there h k = absurd (not_none (sym k.1 ∙ h.2))
+  one_refusal Large Unbounded at there h k = absurd (not_none (sym h.0 ∙ k.1))
+  one_refusal Large Cycle at there h k = absurd (not_none (sym h.1 ∙ k.2))
   one_refusal Large Large at there h k = (refl, h.3 ∙ sym k.3)
 
 -- what holds of the program of one is said of that of the other

@@ -5,25 +5,31 @@ ghost use Rattle.core_term.specs.declared.program.Core.{Core};
 ghost use Rattle.core_term.specs.CoreTerm.{core_of, core_places};
 ghost use Rattle.delta_tree.specs.SyntaxTree.{ProgramTree};
 ghost use Rattle.delta_meaning.specs.NodePlaces.{program_places};
+ghost use Rattle.delta_end.specs.declared.end.End.{End};
 ghost use Rattle.delta_end.specs.End.{WriteCause};
 ghost use Rattle.delta_accept.specs.Acceptance.{IsAcceptedAs};
 ghost use Rattle.delta_bound.specs.Refusals.{Refuses};
 ghost use Rattle.delta_loop.specs.History.{Writes};
 ghost use Rattle.command_bound.specs.Bounding.{line_of, Tells, TellsAll};
 
+use core_term::Checked;
 use delta_accept::accept;
 use delta_bound::{BoundRefusal, bound};
 use delta_end::{BoundName, End, Objection};
 use delta_front::TextFault;
 use delta_loop::send;
 use port::{IoFault, Link};
-use std::alloc::{AllocError, Global};
+use std::alloc::Global;
 
 // The line that tells this bound.
-fn line(alloc: Global, n: u64) -> Result<String, AllocError>
-    ensures { IfOk result (λ told. string_bytes told ≡ line_of n) }
+fn line(alloc: Global, n: u64) -> Result<String, End>
+    ensures told { IfOk result (λ told. string_bytes told ≡ line_of n) }
+    ensures ended { IfErr result (λ end. end ≡ End.Memory) }
 {
-    format!(in alloc; "bound {n}\n")
+    match format!(in alloc; "bound {n}\n") {
+        Ok(told) => Ok(told),
+        Err(_) => Err(End::Memory),
+    }
 }
 
 // How the command ends where the bound is refused.
@@ -41,24 +47,32 @@ fn end_of(refusal: &BoundRefusal) -> End
     }
 }
 
-// The line that tells the bound of the program that a text is, or how the command ends before anything is
-// written.
+// The line that tells the bound of a program, or how the command ends without one.
+fn line_of_program(alloc: Global, c: &Checked) -> Result<String, End>
+    ensures told { (text : List ℕ) (p : ProgramTree) → IsAcceptedAs text p (core_of c.now) → core_places c.now ≡ program_places p → IfOk result (λ told. TellsAll text (string_bytes told)) }
+    ensures ended { (text : List ℕ) (p : ProgramTree) → IsAcceptedAs text p (core_of c.now) → core_places c.now ≡ program_places p → IfErr result (λ end. Tells text [] end) }
+    ensures written { IfErr result (λ end. (count : ℕ) → WriteCause end count count) }
+{
+    match bound(alloc, c) {
+        Ok(n) => line(alloc, n),
+        Err(refusal) => Err(end_of(&refusal)),
+    }
+}
+
+// The same for the program that a text is. Nothing was written before.
 fn line_of_text(alloc: Global, text: &[u8]) -> Result<String, End>
     ensures told { IfOk result (λ told. TellsAll text.now (string_bytes told)) }
     ensures ended { IfErr result (λ end. Tells text.now [] end) }
     ensures written { IfErr result (λ end. (count : ℕ) → WriteCause end count count) }
 {
-    let accepted = match accept(alloc, text) {
-        Ok(accepted) => accepted,
-        Err(TextFault::Memory) => return Err(End::Memory),
-        Err(TextFault::Refused(why)) => return Err(End::Refused(Some(why))),
-    };
-    match bound(alloc, &accepted.checked) {
-        Ok(n) => match line(alloc, n) {
-            Ok(told) => Ok(told),
-            Err(_) => Err(End::Memory),
-        },
-        Err(refusal) => Err(end_of(&refusal)),
+    match accept(alloc, text) {
+        Ok(accepted) => {
+            let told = line_of_program(alloc, &accepted.checked);
+            drop(accepted);
+            told
+        }
+        Err(TextFault::Memory) => Err(End::Memory),
+        Err(TextFault::Refused(why)) => Err(End::Refused(Some(why))),
     }
 }
 
