@@ -12,14 +12,14 @@ line_of_one : line_of 1 ≡ codes "bound 1\n"
 line_of_one = ap (λ (digits : List ℕ). codes "bound " ++ (digits ++ 10 ∷ [])) (decimal_digit 1 (omega arith))
 
 -- a wait for a list of numbers, which is its own name 0, at place 7
-waiting : CoreBody
+abbrev waiting : CoreBody
 waiting = record { past = []; params = leaf 0 (star int); result = star int; body = wait_term 0 (star int) (var_term 0) }
 
 wait_counts_itself : first_unsized_in [] (λ f. true) (7 ∷ 9 ∷ []) waiting ≡ Some (0, 7)
 wait_counts_itself = refl
 
 -- a case on 0 that counts the list 1, behind another node
-choosing : CoreBody
+abbrev choosing : CoreBody
 choosing = record {
   past = [];
   params = comma (leaf 0 (sum one one)) (leaf 1 (star int));

@@ -5,7 +5,8 @@ use port::{MemLink, MemShelf, MemSink};
 use std::alloc::Global;
 use std::test::Fail;
 
-const DOUBLE: &str = "fun twice(xs : Int*) : Int* = case xs of { nil => nil | y :: ys => wait y in ({y * 2} :: twice(ys)) }
+const DOUBLE: &str =
+    "fun twice(xs : Int*) : Int* = case xs of { nil => nil | y :: ys => wait y in ({y * 2} :: twice(ys)) }
 main(xs : Int*) : Int* = twice(xs)
 ";
 
@@ -17,7 +18,8 @@ const IN_TURN: &str =
 
 const TOTAL: &str = "main(xs : Int*) : Int = wait xs in {fold xs from 0 with a, y . a + y}";
 
-const GROWING: &str = "fun g(z : 1 + 1, y : Int) : Int = let a = (case z of { inl u => y | inr u => y } : Int) in g(z, a)
+const GROWING: &str =
+    "fun g(z : 1 + 1, y : Int) : Int = let a = (case z of { inl u => y | inr u => y } : Int) in g(z, a)
 main(z : 1 + 1, y : Int) : Int = g(z, y)
 ";
 
