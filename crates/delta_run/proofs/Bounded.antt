@@ -74,12 +74,12 @@ module _ (text : List ℕ) (old new : Option (List Move)) where
     bounded_well (Refused None) ran file write is n bounded = absurd ran.2
     bounded_well Usage ran file write is n bounded = absurd ran.2
     bounded_well (Input fault) ran file write is n bounded = absurd ran.2
-    bounded_well (Budget at) ran file write is n bounded = absurd ran.2
-    bounded_well (Deep at) ran file write is n bounded = absurd ran.2
+    bounded_well (Budget place) ran file write is n bounded = absurd ran.2
+    bounded_well (Deep place) ran file write is n bounded = absurd ran.2
     bounded_well Open ran file write is n bounded = absurd ran.2
     bounded_well ReadFailed ran file write is n bounded = absurd ran.2
     bounded_well Long ran file write is n bounded = absurd ran.2
-    bounded_well (Objected (Derivation why at)) ran file write is n bounded = absurd ran.2
+    bounded_well (Objected (Derivation told there)) ran file write is n bounded = absurd ran.2
 
     -- that of one without is objected to
     pub unbounded_well : (end : End) → BoundedText text old new end → FileCause end file0 file1 → WriteCause end write0 write1 → AnswerOf end said status → ObjectsWell text status
@@ -92,12 +92,12 @@ module _ (text : List ℕ) (old new : Option (List Move)) where
     unbounded_well (Refused None) ran file write is why at none = absurd ran.2
     unbounded_well Usage ran file write is why at none = absurd ran.2
     unbounded_well (Input fault) ran file write is why at none = absurd ran.2
-    unbounded_well (Budget at) ran file write is why at none = absurd ran.2
-    unbounded_well (Deep at) ran file write is why at none = absurd ran.2
+    unbounded_well (Budget place) ran file write is why at none = absurd ran.2
+    unbounded_well (Deep place) ran file write is why at none = absurd ran.2
     unbounded_well Open ran file write is why at none = absurd ran.2
     unbounded_well ReadFailed ran file write is why at none = absurd ran.2
     unbounded_well Long ran file write is why at none = absurd ran.2
-    unbounded_well (Objected (Derivation why at)) ran file write is why at none = absurd ran.2
+    unbounded_well (Objected (Derivation told there)) ran file write is why at none = absurd ran.2
 
     as_done : (status ≡ 8) ⊎ (status ≡ 0) → (status ≡ 8) ⊎ (status ≡ 0) ⊎ (status ≡ 12)
     as_done (inl eight) = inl eight
@@ -118,12 +118,12 @@ module _ (text : List ℕ) (old new : Option (List Move)) where
     judged_well (Refused None) ran file write is p c a = absurd ran.2
     judged_well Usage ran file write is p c a = absurd ran.2
     judged_well (Input fault) ran file write is p c a = absurd ran.2
-    judged_well (Budget at) ran file write is p c a = absurd ran.2
-    judged_well (Deep at) ran file write is p c a = absurd ran.2
+    judged_well (Budget place) ran file write is p c a = absurd ran.2
+    judged_well (Deep place) ran file write is p c a = absurd ran.2
     judged_well Open ran file write is p c a = absurd ran.2
     judged_well ReadFailed ran file write is p c a = absurd ran.2
     judged_well Long ran file write is p c a = absurd ran.2
-    judged_well (Objected (Derivation why at)) ran file write is p c a = absurd ran.2
+    judged_well (Objected (Derivation told there)) ran file write is p c a = absurd ran.2
 
     -- and any other is refused
     pub refused_text : (end : End) → BoundedText text old new end → FileCause end file0 file1 → WriteCause end write0 write1 → AnswerOf end said status → RefusesUnaccepted text status
@@ -136,9 +136,9 @@ module _ (text : List ℕ) (old new : Option (List Move)) where
     refused_text (Refused None) ran file write is why r = absurd ran.2
     refused_text Usage ran file write is why r = absurd ran.2
     refused_text (Input fault) ran file write is why r = absurd ran.2
-    refused_text (Budget at) ran file write is why r = absurd ran.2
-    refused_text (Deep at) ran file write is why r = absurd ran.2
+    refused_text (Budget place) ran file write is why r = absurd ran.2
+    refused_text (Deep place) ran file write is why r = absurd ran.2
     refused_text Open ran file write is why r = absurd ran.2
     refused_text ReadFailed ran file write is why r = absurd ran.2
     refused_text Long ran file write is why r = absurd ran.2
-    refused_text (Objected (Derivation why at)) ran file write is why r = absurd ran.2
+    refused_text (Objected (Derivation told there)) ran file write is why r = absurd ran.2
