@@ -1,7 +1,7 @@
 -- What the run on the load does, by how it ended.
 use Rattle.std.specs.Prelude.{◌≡◌, ℕ, List}
 use Rattle.delta_end.specs.declared.end.End.{End}
-use Rattle.delta_end.specs.declared.end.End.TheVariants.{Done, Usage, Refused, Input, Budget, Deep, Open, FileFailed, ReadFailed, WriteFailed, Memory, Long}
+use Rattle.delta_end.specs.declared.end.End.TheVariants.{Done, Usage, Refused, Input, Budget, Deep, Open, FileFailed, ReadFailed, WriteFailed, Memory, Long, Objected}
 use Rattle.delta_feed.specs.Load.{load}
 use Rattle.delta_load.specs.Counting.{totals_of}
 use Rattle.delta_load.specs.Summary.{summary_of}
@@ -27,5 +27,6 @@ Generates start items written (Budget at) = ⊥
 Generates start items written (Deep at) = ⊥
 Generates start items written Open = ⊥
 Generates start items written FileFailed = ⊥
+Generates start items written (Objected what) = ⊥
 Generates start items written ReadFailed = ⊥
 Generates start items written Long = ⊥

@@ -19,8 +19,8 @@ use Rattle.delta_front.proofs.OneAnswer.{program_is_one, programs_are_not_refuse
 use Rattle.delta_front.proofs.OneAnswer.{refusal_is_one as text_refusal_is_one}
 use Rattle.delta_elab.specs.Accepted.{IsAccepted}
 use Rattle.delta_accept.specs.Naming.{refusal, refusal_of, name_of_rule}
-use Rattle.delta_accept.specs.Acceptance.{IsAcceptedAs, IsMisnamed, IsMistyped, IsRefusedAs, IsTooWide, IsWritable, IsRefusedToWrite}
-use Rattle.delta_accept.specs.Laws.{AcceptedIsOne, RefusalIsOne, AcceptedIsNotRefused, WritingIsJudged}
+use Rattle.delta_accept.specs.Acceptance.{IsAcceptedAs, IsMisnamed, IsMistyped, IsRefusedAs, IsElaboratedAs, IsUnelaborated, IsTooWide, IsWritable, IsRefusedToWrite}
+use Rattle.delta_accept.specs.Laws.{AcceptedIsOne, RefusalIsOne, AcceptedIsNotRefused, CoreIsJudged, WritingIsJudged}
 
 -- a program elaborates to one core
 core_is_one : (p q : ProgramTree) (c d : CoreProgram) → p ≡ q → elaborate p ≡ Ok c → elaborate q ≡ Ok d → c ≡ d
@@ -93,6 +93,22 @@ accepted_is_not_refused text p c w a (inr (inr r)) =
     let same = core_is_one p r.program c r.breaks.core (program_is_one text p r.program a.is_its r.is_its) a.accepted.elaborated r.breaks.elaborated in
     let none : first_fault c ≡ None = (typed_is_unbroken c).0 a.accepted.typed in
     let clash : None ≡ Some (r.breaks.node, r.rule) = sym none ∙ ap first_fault same ∙ r.breaks.first in cc
+
+one_core : (text : List ℕ) (c d : CoreProgram) → IsElaboratedAs text c → IsElaboratedAs text d → c ≡ d
+one_core text c d a b = core_is_one a.program b.program c d (program_is_one text a.program b.program a.is_its b.is_its) a.elaborated b.elaborated
+
+one_refusal : (text : List ℕ) (w v : Refusal) → IsUnelaborated text w → IsUnelaborated text v → w ≡ v
+one_refusal text w v (inl a) (inl b) = text_refusal_is_one text w v a b
+one_refusal text w v (inl a) (inr b) = absurd (text_not_refused text w b.program a b.is_its)
+one_refusal text w v (inr a) (inl b) = absurd (text_not_refused text v a.program b a.is_its)
+one_refusal text w v (inr a) (inr b) = misnamed_is_one text w v a b
+
+core_or_refusal : (text : List ℕ) (c : CoreProgram) (w : Refusal) → IsElaboratedAs text c → IsUnelaborated text w → ⊥
+core_or_refusal text c w a (inl r) = text_not_refused text w a.program r a.is_its
+core_or_refusal text c w a (inr r) = not_both a.program r.program c r.fault (program_is_one text a.program r.program a.is_its r.is_its) a.elaborated r.found
+
+pub core_is_judged : CoreIsJudged
+core_is_judged = record { core_is_one = one_core; refusal_is_one = one_refusal; not_refused = core_or_refusal }
 
 wide_is_one : (text : List ℕ) (version : Version) (w v : Refusal) → IsTooWide text version w → IsTooWide text version v → w ≡ v
 wide_is_one text version w v a b =

@@ -31,6 +31,17 @@ pub record IsMisnamed (text : List ℕ) (why : Refusal) : Type 0 where
   pub found : elaborate program ≡ Err fault
   pub is : why ≡ refusal_of fault
 
+-- the text is that of a program, which elaborates to this core
+pub record IsElaboratedAs (text : List ℕ) (c : CoreProgram) : Type 0 where
+  pub program : ProgramTree
+  pub is_its : IsTextOf text program
+  pub elaborated : elaborate program ≡ Ok c
+
+-- the text has no core, and this is what is wrong first: it is no program's text, or something is wrong with the names
+-- and types of its program
+abbrev pub IsUnelaborated : List ℕ → Refusal → Type 0
+IsUnelaborated text why = IsRefusedFor text why ⊎ IsMisnamed text why
+
 -- a program elaborates, and this is the first rule of types that a node of its core breaks, with the place of that node
 pub record Breaks (p : ProgramTree) (rule : Cause HistRefusal) (at : ℕ) : Type 0 where
   pub core : CoreProgram

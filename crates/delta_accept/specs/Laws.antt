@@ -4,7 +4,7 @@ use Rattle.event_frame.specs.declared.version.Version.{Version}
 use Rattle.delta_tree.specs.SyntaxTree.{ProgramTree}
 use Rattle.core_term.specs.CoreTerm.{CoreProgram}
 use Rattle.delta_end.specs.declared.refusal.Refusal.{Refusal}
-use Rattle.delta_accept.specs.Acceptance.{IsAcceptedAs, IsRefusedAs, IsWritable, IsRefusedToWrite}
+use Rattle.delta_accept.specs.Acceptance.{IsAcceptedAs, IsRefusedAs, IsElaboratedAs, IsUnelaborated, IsWritable, IsRefusedToWrite}
 
 -- a text is accepted as one program with one core at most
 abbrev pub AcceptedIsOne : Type 0
@@ -17,6 +17,12 @@ RefusalIsOne = (text : List ℕ) (w v : Refusal) → IsRefusedAs text w → IsRe
 -- a text that is accepted isn't refused
 abbrev pub AcceptedIsNotRefused : Type 0
 AcceptedIsNotRefused = (text : List ℕ) (p : ProgramTree) (c : CoreProgram) (w : Refusal) → IsAcceptedAs text p c → IsRefusedAs text w → ⊥
+
+-- a text has one core at most, without one it is refused for one thing at most, and never both
+pub record CoreIsJudged : Type 0 where
+  pub core_is_one : (text : List ℕ) (c d : CoreProgram) → IsElaboratedAs text c → IsElaboratedAs text d → c ≡ d
+  pub refusal_is_one : (text : List ℕ) (w v : Refusal) → IsUnelaborated text w → IsUnelaborated text v → w ≡ v
+  pub not_refused : (text : List ℕ) (c : CoreProgram) (w : Refusal) → IsElaboratedAs text c → IsUnelaborated text w → ⊥
 
 -- so it is where frames of a version are to be written
 pub record WritingIsJudged : Type 0 where

@@ -3,7 +3,8 @@
 ghost use Rattle.std.specs.Prelude.{◌≡◌, ℕ, List, IfOk, IfErr};
 ghost use Rattle.delta_tree.specs.SyntaxTree.{ProgramTree};
 ghost use Rattle.delta_tree.specs.Tree.{program_of as tree_of};
-ghost use Rattle.core_term.specs.CoreTerm.{core_of};
+ghost use Rattle.core_term.specs.CoreTerm.{core_of, core_places};
+ghost use Rattle.delta_meaning.specs.NodePlaces.{program_places};
 ghost use Rattle.event_frame.specs.Frames.{longest};
 ghost use Rattle.delta_front.specs.ProgramText.{IsTextOf};
 ghost use Rattle.delta_elab.specs.Accepted.{SaysUntyped, SaysWhy};
@@ -56,11 +57,13 @@ fn refusal_for(fault: &ProgramFault) -> TextFault
     }
 }
 
-/// The program of a text that is accepted, with its checked core. `IsAcceptedAs` of
+/// The program of a text that is accepted, with its checked core, whose nodes have the places of what they
+/// stand for. `IsAcceptedAs` of
 /// `specs/Acceptance.antt` says which texts are accepted, and `IsRefusedAs` for what each other text is
 /// refused. The laws say that but for want of memory each text has one answer.
 pub fn accept(alloc: Global, text: &[u8]) -> Result<Accepted, TextFault>
     ensures accepted { IfOk result (λ a. IsAcceptedAs text.now (tree_of a.program) (core_of a.checked)) }
+    ensures places { IfOk result (λ a. core_places a.checked ≡ program_places (tree_of a.program)) }
     ensures refused { IfErr result (λ fault. IsFaultOf (IsRefusedAs text.now) fault) }
 {
     let program = match program_of(alloc, text) {

@@ -3,7 +3,9 @@
 #![tactic(auto)]
 
 mod acceptance;
+mod elaborated;
 pub mod laws;
 mod naming;
 
 pub use acceptance::{Accepted, accept, accept_to_write};
+pub use elaborated::elaborate_text;

@@ -6,8 +6,10 @@ use Rattle.event_word.specs.declared.fault.EventFault.TheVariants.{Ended}
 use Rattle.event_frame.specs.declared.fault.FrameFault.TheVariants.{Truncated}
 use Rattle.delta_end.specs.declared.refusal.RefusalName.TheVariants.{Expected}
 use Rattle.delta_end.specs.declared.refusal.Refusal.{Refusal}
+use Rattle.delta_end.specs.declared.objection.BoundName.TheVariants.{Cycle}
+use Rattle.delta_end.specs.declared.objection.Objection.TheVariants.{Bound}
 use Rattle.delta_end.specs.declared.end.InputFault.TheVariants.{Frame, Event}
-use Rattle.delta_end.specs.declared.end.End.TheVariants.{Input, Refused}
+use Rattle.delta_end.specs.declared.end.End.TheVariants.{Input, Refused, Objected}
 use Rattle.delta_end.specs.Note.{note_of}
 
 note_of_event : note_of (Input (Event (Ended 0) 6)) ≡ codes "delta: input refused: Ended at 6\n"
@@ -19,3 +21,6 @@ note_of_cut = ap (λ (digits : List ℕ). (codes "delta: input refused: " ++ cod
 
 note_of_program : note_of (Refused (Some (record { name = Expected; at = 7 }))) ≡ codes "delta: program refused: Expected at 7\n"
 note_of_program = ap (λ (digits : List ℕ). (codes "delta: program refused: " ++ codes "Expected") ++ (codes " at " ++ digits ++ 10 ∷ [])) (decimal_digit 7 (omega arith))
+
+note_of_bound : note_of (Objected (Bound Cycle 4)) ≡ codes "delta: no bound: Cycle at 4\n"
+note_of_bound = ap (λ (digits : List ℕ). (codes "delta: no bound: " ++ codes "Cycle") ++ (codes " at " ++ digits ++ 10 ∷ [])) (decimal_digit 4 (omega arith))

@@ -1,13 +1,20 @@
 -- What a status shows of the counts of failed calls and of the note.
-use Rattle.std.proofs.Common.{◌≡◌, ◌≢◌, ◌⊎◌, inl, inr, ℕ, List, Option, Result, Ok, Err, ◌∙◌, ap, sym, refl, arith, IsOk}
+use Rattle.std.proofs.Common.{◌≡◌, ◌≢◌, ◌⊎◌, inl, inr, ℕ, ◌≤◌, List, Option, Result, Ok, Err, ◌∙◌, ap, sym, refl, arith, IsOk}
 use Rattle.port.specs.declared.fault.IoFault.{IoFault}
 use Rattle.port.specs.declared.fault.IoFault.TheVariants.{Memory as NoMemory, Failed}
 use Rattle.port.specs.Faults.{HasCause, Rose}
+use Rattle.delta_end.specs.declared.objection.Objection.{Objection}
+use Rattle.delta_end.specs.declared.objection.Objection.TheVariants.{Derivation, Bound}
 use Rattle.delta_end.specs.declared.end.End.{End}
-use Rattle.delta_end.specs.declared.end.End.TheVariants.{Done, Usage, Refused, Input, Budget, Deep, Open, FileFailed, ReadFailed, WriteFailed, Memory, Long}
-use Rattle.delta_end.specs.End.{FileCause, ReadCause, WriteCause, IsOfLoop, status_of, status_without_note}
+use Rattle.delta_end.specs.declared.end.End.TheVariants.{Done, Usage, Refused, Input, Budget, Deep, Open, FileFailed, ReadFailed, WriteFailed, Memory, Long, Objected}
+use Rattle.delta_end.specs.End.{FileCause, ReadCause, WriteCause, IsOfLoop, objection_status, status_of, status_without_note}
 use Rattle.delta_end.specs.Status.{AnswerOf, IsStatus, IsStill}
 use Rattle.delta_end.specs.Note.{Says}
+
+-- what is said against a program has a status of its own
+pub objected_late : (what : Objection) → 10 ≤ objection_status what
+objected_late (Derivation name at) = omega arith
+objected_late (Bound name at) = omega arith
 
 -- the loop shows no failed call of the shelf
 pub file_stands : (end : End) (before now : ℕ) → IsOfLoop end → now ≡ before → FileCause end before now
@@ -23,6 +30,7 @@ file_stands ReadFailed before now loop same = same
 file_stands WriteFailed before now loop same = same
 file_stands Memory before now loop same = same
 file_stands Long before now loop same = same
+file_stands (Objected what) before now loop same = absurd loop
 
 -- status 7 of an end shows which count rose
 pub outside_rose : (end : End) (file0 file1 read0 read1 write0 write1 : ℕ) → status_of end ≡ 7 → FileCause end file0 file1 → ReadCause end read0 read1 → WriteCause end write0 write1
@@ -39,6 +47,7 @@ outside_rose (Deep at) file0 file1 read0 read1 write0 write1 is file read write 
 outside_rose Open file0 file1 read0 read1 write0 write1 is file read write = absurd (omega arith)
 outside_rose Memory file0 file1 read0 read1 write0 write1 is file read write = absurd (omega arith)
 outside_rose Long file0 file1 read0 read1 write0 write1 is file read write = absurd (omega arith)
+outside_rose (Objected what) file0 file1 read0 read1 write0 write1 is file read write = absurd (omega (arith, objected_late what, is))
 
 -- no count but that of the sink rises at an end of another status
 pub outside_still : (end : End) (file0 file1 read0 read1 write0 write1 : ℕ) → FileCause end file0 file1 → ReadCause end read0 read1 → WriteCause end write0 write1
@@ -55,6 +64,7 @@ outside_still ReadFailed file0 file1 read0 read1 write0 write1 file read write =
 outside_still WriteFailed file0 file1 read0 read1 write0 write1 file read write = inl refl
 outside_still Memory file0 file1 read0 read1 write0 write1 file read write = inr (file, read, write)
 outside_still Long file0 file1 read0 read1 write0 write1 file read write = inr (file, read, write)
+outside_still (Objected what) file0 file1 read0 read1 write0 write1 file read write = inr (file, read, write)
 
 -- the status by what came of the note
 pub status_is : (end : End) (said : Result (Unit {0}) IoFault) (status before now : ℕ) → AnswerOf end said status → HasCause said before now → IsStatus end status before now
@@ -76,6 +86,7 @@ seven_stays ReadFailed seven = seven
 seven_stays WriteFailed seven = seven
 seven_stays Memory seven = seven
 seven_stays Long seven = seven
+seven_stays (Objected what) seven = seven
 
 -- status 7 shows which count rose, the sink's among them
 pub status_rose : (end : End) (status file0 file1 read0 read1 write0 write1 note0 note1 : ℕ) → IsStatus end status note0 note1 → status ≡ 7
@@ -181,6 +192,7 @@ two_is_usage end status note0 note1 (inl is) two = by_end end (sym is.1 ∙ two)
     by_end WriteFailed two = absurd (omega arith)
     by_end Memory two = absurd (omega arith)
     by_end Long two = absurd (omega arith)
+    by_end (Objected what) two = absurd (omega (arith, objected_late what, two))
 two_is_usage end status note0 note1 (inr (inl sink)) two = by_end end (sym sink.1 ∙ two)
   where
     by_end : (end : End) → status_without_note end ≡ 2 → end ≡ Usage
@@ -196,6 +208,7 @@ two_is_usage end status note0 note1 (inr (inl sink)) two = by_end end (sym sink.
     by_end WriteFailed two = absurd (omega arith)
     by_end Memory two = absurd (omega arith)
     by_end Long two = absurd (omega arith)
+    by_end (Objected what) two = absurd (omega (arith, objected_late what, two))
 two_is_usage end status note0 note1 (inr (inr eight)) two = absurd (omega (arith, eight.1, two))
 
 -- whose status is 2, or 8 where memory ran out in the sink

@@ -1,8 +1,15 @@
 -- How a command ends: the exit status of each end, and the counts of failed calls that an end shows.
 use Rattle.std.specs.Prelude.{◌≡◌, ℕ, ⊤}
 use Rattle.port.specs.Faults.{Rose}
+use Rattle.delta_end.specs.declared.objection.Objection.{Objection}
+use Rattle.delta_end.specs.declared.objection.Objection.TheVariants.{Derivation, Bound}
 use Rattle.delta_end.specs.declared.end.End.{End}
-use Rattle.delta_end.specs.declared.end.End.TheVariants.{Done, Usage, Refused, Input, Budget, Deep, Open, FileFailed, ReadFailed, WriteFailed, Memory, Long}
+use Rattle.delta_end.specs.declared.end.End.TheVariants.{Done, Usage, Refused, Input, Budget, Deep, Open, FileFailed, ReadFailed, WriteFailed, Memory, Long, Objected}
+
+-- the exit status where something is said against the program
+abbrev pub objection_status : Objection → ℕ
+objection_status (Derivation name at) = 11
+objection_status (Bound name at) = 12
 
 -- the exit status
 abbrev pub status_of : End → ℕ
@@ -18,6 +25,7 @@ status_of ReadFailed = 7
 status_of WriteFailed = 7
 status_of Memory = 8
 status_of Long = 9
+status_of (Objected what) = objection_status what
 
 -- the exit status where the sink failed, so that the note was not written whole: 7 in place of 6
 abbrev pub status_without_note : End → ℕ
@@ -44,4 +52,5 @@ abbrev pub IsOfLoop : End → Type 0
 IsOfLoop Usage = ⊥
 IsOfLoop (Refused why) = ⊥
 IsOfLoop FileFailed = ⊥
+IsOfLoop (Objected what) = ⊥
 IsOfLoop end = ⊤

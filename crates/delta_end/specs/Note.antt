@@ -9,10 +9,16 @@ use Rattle.event_text.specs.declared.fault.LineFault.{LineFault}
 use Rattle.event_text.specs.declared.fault.LineFault.TheVariants.{BadWord, BigNumber as BigNumberOfLine, LongPath as LongPathOfLine, NoLeaf, Extra}
 use Rattle.delta_end.specs.declared.refusal.RefusalName.{RefusalName}
 use Rattle.delta_end.specs.declared.refusal.RefusalName.TheVariants.{LongText, BadUtf8, BadChar, BigNumber, Deep as DeepMarks, Expected, Twice, Many, NoMain, Unbound, NoFunction, NoType, TooTall, TooWide, Mismatch, OutOfOrder, Jumpy, WaitNull, Arity, History, NotStream, WideOutput}
+use Rattle.delta_end.specs.declared.objection.DerivationName.{DerivationName}
+use Rattle.delta_end.specs.declared.objection.DerivationName.TheVariants as derivation
+use Rattle.delta_end.specs.declared.objection.BoundName.{BoundName}
+use Rattle.delta_end.specs.declared.objection.BoundName.TheVariants.{Unbounded, Cycle, Large}
+use Rattle.delta_end.specs.declared.objection.Objection.{Objection}
+use Rattle.delta_end.specs.declared.objection.Objection.TheVariants.{Derivation, Bound}
 use Rattle.delta_end.specs.declared.end.InputFault.{InputFault}
 use Rattle.delta_end.specs.declared.end.InputFault.TheVariants.{Frame, Event, Line, LongLine}
 use Rattle.delta_end.specs.declared.end.End.{End}
-use Rattle.delta_end.specs.declared.end.End.TheVariants.{Done, Usage, Refused, Input, Budget, Deep, Open, FileFailed, ReadFailed, WriteFailed, Memory, Long}
+use Rattle.delta_end.specs.declared.end.End.TheVariants.{Done, Usage, Refused, Input, Budget, Deep, Open, FileFailed, ReadFailed, WriteFailed, Memory, Long, Objected}
 
 -- the name of a fault of frames
 abbrev pub frame_name : FrameFault → List ℕ
@@ -80,9 +86,29 @@ refusal_name History = codes "History"
 refusal_name NotStream = codes "NotStream"
 refusal_name WideOutput = codes "WideOutput"
 
+-- the name of a derivation's fault
+abbrev pub derivation_name : DerivationName → List ℕ
+derivation_name derivation.LongText = codes "LongText"
+derivation_name derivation.BadLine = codes "BadLine"
+derivation_name derivation.BadStep = codes "BadStep"
+derivation_name derivation.BadRule = codes "BadRule"
+derivation_name derivation.Short = codes "Short"
+derivation_name derivation.Long = codes "Long"
+
+-- the name of why there is no bound
+abbrev pub bound_name : BoundName → List ℕ
+bound_name Unbounded = codes "Unbounded"
+bound_name Cycle = codes "Cycle"
+bound_name Large = codes "Large"
+
 -- what is refused or stopped, by which name and at which place
 abbrev pub refusal_note : List ℕ → List ℕ → ℕ → List ℕ
 refusal_note what name at = (what ++ name) ++ (codes " at " ++ decimal at ++ 10 ∷ [])
+
+-- what is said against a program
+abbrev pub objection_note : Objection → List ℕ
+objection_note (Derivation name at) = refusal_note (codes "delta: derivation refused: ") (derivation_name name) at
+objection_note (Bound name at) = refusal_note (codes "delta: no bound: ") (bound_name name) at
 
 -- the line; none at the end of a command that did all it was to do
 abbrev pub note_of : End → List ℕ
@@ -99,6 +125,7 @@ note_of ReadFailed = codes "delta: outside fault: input\n"
 note_of WriteFailed = codes "delta: outside fault: output\n"
 note_of Memory = codes "delta: no memory\n"
 note_of Long = codes "delta: input too long\n"
+note_of (Objected what) = objection_note what
 
 -- a part of the text was added, and all of it if `all` holds
 pub record Says (old new : Option (List ℕ)) (text : List ℕ) (all : Type 0) : Type 0 where

@@ -3,6 +3,7 @@
 ghost use Rattle.std.specs.Prelude.{◌≡◌};
 ghost use Rattle.delta_end.specs.End.{status_of};
 
+use crate::objection::Objection;
 use crate::refusal::Refusal;
 use event_frame::FrameFault;
 use event_text::LineFault;
@@ -49,6 +50,8 @@ pub enum End {
     Memory,
     /// There are more input bytes than a run may read.
     Long,
+    /// The text is good, and what the command asks of its program is refused.
+    Objected(Objection),
 }
 
 impl End {
@@ -66,6 +69,8 @@ impl End {
             End::FileFailed | End::ReadFailed | End::WriteFailed => 7,
             End::Memory => 8,
             End::Long => 9,
+            End::Objected(Objection::Derivation(_, _)) => 11,
+            End::Objected(Objection::Bound(_, _)) => 12,
         }
     }
 }

@@ -4,10 +4,12 @@
 mod answering;
 mod end;
 mod name;
+mod objection;
 mod refusal;
 mod telling;
 
 pub use answering::answer;
 pub use end::{End, InputFault};
+pub use objection::{BoundName, DerivationName, Objection};
 pub use refusal::{Refusal, RefusalName};
 pub use telling::note;

@@ -1,9 +1,10 @@
 //! The names of faults, as notes tell them.
 
 ghost use Rattle.std.specs.Prelude.{◌≡◌};
-ghost use Rattle.delta_end.specs.Note.{frame_name as name_of_frame, event_name as name_of_event, line_name as name_of_line, refusal_name as name_of_refusal, name_of as name_of_input};
+ghost use Rattle.delta_end.specs.Note.{frame_name as name_of_frame, event_name as name_of_event, line_name as name_of_line, refusal_name as name_of_refusal, derivation_name as name_of_derivation, bound_name as name_of_bound, name_of as name_of_input};
 
 use crate::end::InputFault;
+use crate::objection::{BoundName, DerivationName};
 use crate::refusal::RefusalName;
 use event_frame::FrameFault;
 use event_text::LineFault;
@@ -86,5 +87,30 @@ pub fn refusal_name(name: RefusalName) -> &'static [u8]
         RefusalName::History => b"History",
         RefusalName::NotStream => b"NotStream",
         RefusalName::WideOutput => b"WideOutput",
+    }
+}
+
+/// The name of a derivation's fault.
+pub fn derivation_name(name: DerivationName) -> &'static [u8]
+    ensures { result.now ≡ name_of_derivation name }
+{
+    match name {
+        DerivationName::LongText => b"LongText",
+        DerivationName::BadLine => b"BadLine",
+        DerivationName::BadStep => b"BadStep",
+        DerivationName::BadRule => b"BadRule",
+        DerivationName::Short => b"Short",
+        DerivationName::Long => b"Long",
+    }
+}
+
+/// The name of why there is no bound.
+pub fn bound_name(name: BoundName) -> &'static [u8]
+    ensures { result.now ≡ name_of_bound name }
+{
+    match name {
+        BoundName::Unbounded => b"Unbounded",
+        BoundName::Cycle => b"Cycle",
+        BoundName::Large => b"Large",
     }
 }

@@ -2,10 +2,11 @@
 
 ghost use Rattle.std.specs.Prelude.{◌≡◌, ◌++◌, [], ◌∷◌, List, IsOk, codes, decimal};
 ghost use Rattle.port.specs.Faults.{HasCause};
-ghost use Rattle.delta_end.specs.Note.{note_of, name_of, refusal_name as name_of_refusal, refusal_note, place_of, Says};
+ghost use Rattle.delta_end.specs.Note.{note_of, name_of, refusal_name as name_of_refusal, refusal_note, objection_note, place_of, Says};
 
 use crate::end::{End, InputFault};
-use crate::name::{input_name, refusal_name};
+use crate::name::{bound_name, derivation_name, input_name, refusal_name};
+use crate::objection::Objection;
 use crate::refusal::Refusal;
 use event_frame::FrameFault;
 use port::{IoFault, Sink};
@@ -120,6 +121,23 @@ fn say_fault<N: Sink>(sink: &mut N, fault: InputFault) -> Result<(), IoFault>
     say_refusal(sink, b"delta: input refused: ", name, fault.place())
 }
 
+// Writes what is said against a program.
+fn say_objection<N: Sink>(sink: &mut N, what: Objection) -> Result<(), IoFault>
+    ensures said { Says (N.told sink.old) (N.told sink.new) (objection_note what) (IsOk result) }
+    ensures cause { HasCause result (N.faults sink.old) (N.faults sink.new) }
+{
+    match what {
+        Objection::Derivation(name, at) => {
+            let name = derivation_name(name);
+            say_refusal(sink, b"delta: derivation refused: ", name, u64::from(at))
+        }
+        Objection::Bound(name, at) => {
+            let name = bound_name(name);
+            say_refusal(sink, b"delta: no bound: ", name, u64::from(at))
+        }
+    }
+}
+
 /// Writes the line that tells how a command ended, or a part of it at an error. A command that did all that it was to do has none.
 pub fn note<N: Sink>(sink: &mut N, end: End) -> Result<(), IoFault>
     ensures said { Says (N.told sink.old) (N.told sink.new) (note_of end) (IsOk result) }
@@ -139,5 +157,6 @@ pub fn note<N: Sink>(sink: &mut N, end: End) -> Result<(), IoFault>
         End::WriteFailed => say(sink, b"delta: outside fault: output\n"),
         End::Memory => say(sink, b"delta: no memory\n"),
         End::Long => say(sink, b"delta: input too long\n"),
+        End::Objected(what) => say_objection(sink, what),
     }
 }

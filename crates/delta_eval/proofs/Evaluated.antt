@@ -24,7 +24,7 @@ use Rattle.delta_meaning.proofs.WholePrograms.{core_keeps_meaning}
 use Rattle.delta_meaning.proofs.KeptTypes.{elaborated_has_types}
 use Rattle.delta_elab.specs.Accepted.{IsAccepted}
 use Rattle.delta_end.specs.declared.end.End.{End}
-use Rattle.delta_end.specs.declared.end.End.TheVariants.{Done, Usage, Refused, Input, Budget, Deep, Open, FileFailed, ReadFailed, WriteFailed, Memory, Long}
+use Rattle.delta_end.specs.declared.end.End.TheVariants.{Done, Usage, Refused, Input, Budget, Deep, Open, FileFailed, ReadFailed, WriteFailed, Memory, Long, Objected}
 use Rattle.delta_loop.specs.Output.{due, accepted}
 use Rattle.delta_loop.specs.History.{History, Writes}
 use Rattle.delta_loop.specs.Return.{Begins, IsWithinLimit}
@@ -121,6 +121,7 @@ module _ (p : ProgramTree) (budget : ℕ) (v : Version) (old mid : Option (List 
   ends_unwell (Budget at) unwell m to = absurd (no_costly (gathering s) (makes_no_calls s) to.ran.input to.ran.at.written at to.ran.at.may)
   ends_unwell (Deep at) unwell m to = absurd (no_deep (gathering s) (makes_no_calls s) to.ran.input to.ran.at.written at to.ran.at.may)
   ends_unwell FileFailed unwell m to = absurd to.ran.at.may
+  ends_unwell (Objected what) unwell m to = absurd to.ran.at.may
 
   -- a run whose input ended well: the input, and what is left of its type
   record Well (end : End) (ran : Ran (gathering s) old mid left0 left1 end) : Type 0 where
@@ -153,6 +154,7 @@ module _ (p : ProgramTree) (budget : ℕ) (v : Version) (old mid : Option (List 
   well_of (Budget at) well ran = absurd (no_costly (gathering s) (makes_no_calls s) ran.input ran.at.written at ran.at.may)
   well_of (Deep at) well ran = absurd (no_deep (gathering s) (makes_no_calls s) ran.input ran.at.written at ran.at.may)
   well_of FileFailed well ran = absurd ran.at.may
+  well_of (Objected what) well ran = absurd ran.at.may
   well_of (Input fault) well ran = absurd (let none : ⊥ = cc well in none)
   well_of ReadFailed well ran = absurd (let none : ⊥ = cc well in none)
   well_of WriteFailed well ran = absurd (let none : ⊥ = cc well in none)
@@ -168,6 +170,7 @@ module _ (p : ProgramTree) (budget : ℕ) (v : Version) (old mid : Option (List 
     stands (Budget at) well to = absurd (no_costly (gathering s) (makes_no_calls s) to.ran.input to.ran.at.written at to.ran.at.may)
     stands (Deep at) well to = absurd (no_deep (gathering s) (makes_no_calls s) to.ran.input to.ran.at.written at to.ran.at.may)
     stands FileFailed well to = absurd to.ran.at.may
+    stands (Objected what) well to = absurd to.ran.at.may
     stands (Input fault) well to = absurd (let none : ⊥ = cc well in none)
     stands ReadFailed well to = absurd (let none : ⊥ = cc well in none)
     stands WriteFailed well to = absurd (let none : ⊥ = cc well in none)

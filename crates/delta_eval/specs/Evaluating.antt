@@ -18,7 +18,7 @@ use Rattle.delta_meaning.specs.SourceMeaning.{mean, calls_of}
 use Rattle.delta_meaning.specs.declared.refusal.EvalRefusal.{EvalRefusal}
 use Rattle.delta_meaning.specs.declared.refusal.EvalRefusal.TheVariants as refusals
 use Rattle.delta_end.specs.declared.end.End.{End}
-use Rattle.delta_end.specs.declared.end.End.TheVariants.{Done, Usage, Refused, Input, Budget, Deep, Open, FileFailed, ReadFailed, WriteFailed, Memory, Long}
+use Rattle.delta_end.specs.declared.end.End.TheVariants.{Done, Usage, Refused, Input, Budget, Deep, Open, FileFailed, ReadFailed, WriteFailed, Memory, Long, Objected}
 use Rattle.delta_loop.specs.Finding.{finding}
 use Rattle.delta_loop.specs.History.{History, IsUntouched}
 use Rattle.delta_loop.specs.Return.{Begins, IsWithinLimit}
@@ -73,6 +73,7 @@ MayEnd p budget v input ended written Long = (2 ^ 40 < length input) × (finding
 MayEnd p budget v input ended written Usage = ⊥
 MayEnd p budget v input ended written (Refused why) = ⊥
 MayEnd p budget v input ended written FileFailed = ⊥
+MayEnd p budget v input ended written (Objected what) = ⊥
 
 -- an evaluation that ended so: the input that it read, before each read of which nothing was written, and what it wrote
 pub record Evaluates (p : ProgramTree) (budget : ℕ) (v : Version) (start now : Option (List Move)) (old_left new_left : Option (List ℕ)) (end : End) : Type 0 where

@@ -10,7 +10,7 @@ use Rattle.event_frame.specs.Reading.{whole, ending, Ending, Whole, Inside, Bad,
 use Rattle.event_frame.proofs.FrameLaws.{frames_are_read}
 use Rattle.event_frame.proofs.MoreBytes.{more_bytes}
 use Rattle.delta_end.specs.declared.end.End.{End}
-use Rattle.delta_end.specs.declared.end.End.TheVariants.{Done, Usage, Refused, Input, Budget, Deep, Open, FileFailed, ReadFailed, WriteFailed, Memory, Long}
+use Rattle.delta_end.specs.declared.end.End.TheVariants.{Done, Usage, Refused, Input, Budget, Deep, Open, FileFailed, ReadFailed, WriteFailed, Memory, Long, Objected}
 use Rattle.delta_loop.specs.Meaning.{Meaning, StartsCostly, StartsDeep, IsCostly, IsDeep}
 use Rattle.delta_loop.specs.Output.{accepted, output, due}
 use Rattle.delta_loop.specs.Finding.{finding, byte_finding}
@@ -97,6 +97,7 @@ module _ (P : Meaning) (v : Version) (all : List ℕ) (word : List StreamEvent) 
   good_end (Budget at) loop ran read0 read1 write0 write1 read_still write_still read write = absurd (not_costly P v all word good cheap ran.input (ran.taken all tells).0 (ran.taken all tells).2 ran.at.written at ran.at.may)
   good_end (Deep at) loop ran read0 read1 write0 write1 read_still write_still read write = absurd (not_deep P v all word good cheap ran.input (ran.taken all tells).0 (ran.taken all tells).2 ran.at.written at ran.at.may)
   good_end FileFailed loop ran read0 read1 write0 write1 read_still write_still read write = absurd loop
+  good_end (Objected what) loop ran read0 read1 write0 write1 read_still write_still read write = absurd loop
   good_end ReadFailed loop ran read0 read1 write0 write1 read_still write_still read write = absurd (not_rose read0 read1 read read_still)
   good_end WriteFailed loop ran read0 read1 write0 write1 read_still write_still read write = absurd (not_rose write0 write1 write write_still)
   good_end (Input fault) loop ran read0 read1 write0 write1 read_still write_still read write =

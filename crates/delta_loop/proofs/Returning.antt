@@ -3,7 +3,7 @@ use Rattle.std.proofs.Common.{◌≡◌, ℕ, List, [], Bool, Option, Some, ◌�
 use Rattle.port.specs.declared.link.Move.{Move}
 use Rattle.port.specs.Moves.{bytes_read, bytes_written}
 use Rattle.delta_end.specs.declared.end.End.{End}
-use Rattle.delta_end.specs.declared.end.End.TheVariants.{Done, Usage, Refused, Input, Budget, Deep, Open, FileFailed, ReadFailed, WriteFailed, Memory, Long}
+use Rattle.delta_end.specs.declared.end.End.TheVariants.{Done, Usage, Refused, Input, Budget, Deep, Open, FileFailed, ReadFailed, WriteFailed, Memory, Long, Objected}
 use Rattle.delta_loop.specs.Meaning.{Meaning}
 use Rattle.delta_loop.specs.Output.{due}
 use Rattle.delta_loop.specs.Prompt.{has_ended, IsPrompt}
@@ -55,6 +55,7 @@ module _ (P : Meaning) (old new : Option (List Move)) (left0 left1 : Option (Lis
   returned (Budget at) loop ran = ran_may_end (Budget at) ran
   returned (Deep at) loop ran = ran_may_end (Deep at) ran
   returned FileFailed loop ran = absurd loop
+  returned (Objected what) loop ran = absurd loop
   returned ReadFailed loop ran = ran_may_end ReadFailed ran
   returned WriteFailed loop ran = ran_may_end WriteFailed ran
   returned Memory loop ran = ran_may_end Memory ran

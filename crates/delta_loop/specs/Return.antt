@@ -3,7 +3,7 @@ use Rattle.std.specs.Prelude.{◌≡◌, ◌⊎◌, ℕ, ◌+◌, ◌<◌, ◌�
 use Rattle.event_word.specs.StreamEvent.{StreamEvent}
 use Rattle.event_frame.specs.Reading.{whole}
 use Rattle.delta_end.specs.declared.end.End.{End}
-use Rattle.delta_end.specs.declared.end.End.TheVariants.{Done, Usage, Refused, Input, Budget, Deep, Open, FileFailed, ReadFailed, WriteFailed, Memory, Long}
+use Rattle.delta_end.specs.declared.end.End.TheVariants.{Done, Usage, Refused, Input, Budget, Deep, Open, FileFailed, ReadFailed, WriteFailed, Memory, Long, Objected}
 use Rattle.delta_loop.specs.Meaning.{Meaning, StartsCostly, StartsDeep, IsCostly, IsDeep}
 use Rattle.delta_loop.specs.Output.{accepted, opening, output, due}
 use Rattle.delta_loop.specs.Finding.{place_in, finding}
@@ -51,3 +51,4 @@ MayEnd P input ended written (Refused why) = ⊥
 MayEnd P input ended written (Budget at) = StopsFirst P (StartsCostly P) input written at ⊎ StopsAt P (IsCostly P) input written at
 MayEnd P input ended written (Deep at) = StopsFirst P (StartsDeep P) input written at ⊎ StopsAt P (IsDeep P) input written at
 MayEnd P input ended written FileFailed = ⊥
+MayEnd P input ended written (Objected what) = ⊥

@@ -3,7 +3,7 @@ use Rattle.std.proofs.Common.{◌≡◌, inl, ℕ, List, None, Some, Result, ref
 use Rattle.port.specs.declared.fault.IoFault.{IoFault}
 use Rattle.port.specs.Faults.{HasCause}
 use Rattle.delta_end.specs.declared.end.End.{End}
-use Rattle.delta_end.specs.declared.end.End.TheVariants.{Done, Usage, Refused, Input, Budget, Deep, Open, FileFailed, ReadFailed, WriteFailed, Memory, Long}
+use Rattle.delta_end.specs.declared.end.End.TheVariants.{Done, Usage, Refused, Input, Budget, Deep, Open, FileFailed, ReadFailed, WriteFailed, Memory, Long, Objected}
 use Rattle.delta_end.specs.End.{FileCause, ReadCause, WriteCause}
 use Rattle.delta_end.specs.Status.{AnswerOf, IsStill}
 use Rattle.delta_end.proofs.Statuses.{not_rose, answered, answered_eight}
@@ -17,6 +17,7 @@ checks_read text Done n is = refl
 checks_read text (Refused why) n is = refl
 checks_read text Memory n is = refl
 checks_read text Usage n is = absurd is
+checks_read text (Objected what) n is = absurd is
 checks_read text (Input fault) n is = absurd is
 checks_read text (Budget at) n is = absurd is
 checks_read text (Deep at) n is = absurd is
@@ -31,6 +32,7 @@ checks_write text Done n is = refl
 checks_write text (Refused why) n is = refl
 checks_write text Memory n is = refl
 checks_write text Usage n is = absurd is
+checks_write text (Objected what) n is = absurd is
 checks_write text (Input fault) n is = absurd is
 checks_write text (Budget at) n is = absurd is
 checks_write text (Deep at) n is = absurd is
@@ -45,6 +47,7 @@ checks_file text Done n is = refl
 checks_file text (Refused why) n is = refl
 checks_file text Memory n is = refl
 checks_file text Usage n is = absurd is
+checks_file text (Objected what) n is = absurd is
 checks_file text (Input fault) n is = absurd is
 checks_file text (Budget at) n is = absurd is
 checks_file text (Deep at) n is = absurd is
@@ -57,6 +60,7 @@ checks_file text Long n is = absurd is
 -- it isn't usage
 pub checks_usage : (text : List ℕ) (end : End) → Checks text end → end ≡ Usage → ⊥
 checks_usage text Usage is same = is
+checks_usage text (Objected what) is same = cc
 checks_usage text Done is same = cc
 checks_usage text (Refused why) is same = cc
 checks_usage text Memory is same = cc
@@ -74,6 +78,7 @@ pub checks_text : (text : List ℕ) (end : End) → Checks text end → ChecksTe
 checks_text text FileFailed is = tt
 checks_text text Done is = is
 checks_text text Usage is = is
+checks_text text (Objected what) is = is
 checks_text text (Refused why) is = is
 checks_text text (Input fault) is = is
 checks_text text (Budget at) is = is
@@ -96,6 +101,7 @@ module _ (text : List ℕ) (file0 file1 note0 note1 : ℕ) (file_still : IsStill
   passes_accepted (Refused (Some why)) checks file is p c a = absurd (accepted_is_not_refused text p c why a checks)
   passes_accepted (Refused None) checks file is p c a = absurd checks
   passes_accepted Usage checks file is p c a = absurd checks
+  passes_accepted (Objected what) checks file is p c a = absurd checks
   passes_accepted (Input fault) checks file is p c a = absurd checks
   passes_accepted (Budget at) checks file is p c a = absurd checks
   passes_accepted (Deep at) checks file is p c a = absurd checks
@@ -112,6 +118,7 @@ module _ (text : List ℕ) (file0 file1 note0 note1 : ℕ) (file_still : IsStill
   refuses_unaccepted (Refused (Some other)) checks file is why r = answered (Refused (Some other)) said status note0 note1 is cause note_still
   refuses_unaccepted (Refused None) checks file is why r = absurd checks
   refuses_unaccepted Usage checks file is why r = absurd checks
+  refuses_unaccepted (Objected what) checks file is why r = absurd checks
   refuses_unaccepted (Input fault) checks file is why r = absurd checks
   refuses_unaccepted (Budget at) checks file is why r = absurd checks
   refuses_unaccepted (Deep at) checks file is why r = absurd checks

@@ -1,7 +1,7 @@
 -- A command line asks for one thing.
 use Rattle.std.proofs.Common.{◌≡◌, ◌∙◌, ℕ, List, Option, Some, None, sym}
 use Rattle.delta_words.specs.declared.task.Version.{Version}
-use Rattle.delta_words.specs.CommandTask.{CommandTask, run, eval, check, print, gen}
+use Rattle.delta_words.specs.CommandTask.{CommandTask, run, eval, check, print, gen, bound}
 
 -- two runs that it asks for are of one file, with one budget and in one version
 pub same_run : (f g : List ℕ) (b c : ℕ) (v w : Version) → Some (run f b v) ≡ Some (run g c w) → (f ≡ g) × (b ≡ c) × (v ≡ w)
@@ -22,6 +22,10 @@ same_eval f g b c v w h = (cc, cc, cc)
 -- and one load
 pub same_gen : (s t i j : ℕ) → Some (gen s i) ≡ Some (gen t j) → (s ≡ t) × (i ≡ j)
 same_gen s t i j e = (cc, cc)
+
+-- and one file whose program's bound is to be told
+pub same_bound : (f g : List ℕ) → Some (bound f) ≡ Some (bound g) → f ≡ g
+same_bound f g e = cc
 
 -- words that ask for something are a command line
 pub asks_something : {o : Option CommandTask} {task : CommandTask} → o ≡ None → o ≡ Some task → ⊥

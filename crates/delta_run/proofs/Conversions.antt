@@ -6,7 +6,7 @@ use Rattle.port.specs.Moves.{bytes_read, bytes_written}
 use Rattle.port.specs.Faults.{HasCause}
 use Rattle.event_frame.specs.declared.version.Version.{Version}
 use Rattle.delta_end.specs.declared.end.End.{End}
-use Rattle.delta_end.specs.declared.end.End.TheVariants.{Done, Usage, Refused, Input, Budget, Deep, Open, FileFailed, ReadFailed, WriteFailed, Memory, Long}
+use Rattle.delta_end.specs.declared.end.End.TheVariants.{Done, Usage, Refused, Input, Budget, Deep, Open, FileFailed, ReadFailed, WriteFailed, Memory, Long, Objected}
 use Rattle.delta_end.specs.End.{FileCause, ReadCause, WriteCause}
 use Rattle.delta_end.specs.Status.{AnswerOf, IsStill}
 use Rattle.delta_end.proofs.Statuses.{not_rose, answered, answered_eight, with_status}
@@ -23,6 +23,7 @@ module _ (C : Conversion) (old new : Option (List Move)) (left0 left1 : Option (
   -- it isn't usage
   pub never_usage : (end : End) → Ran C old new left0 left1 end → end ≡ Usage → ⊥
   never_usage Usage ran is = ran.at.may
+  never_usage (Objected what) ran is = cc
   never_usage Done ran is = cc
   never_usage (Refused why) ran is = cc
   never_usage (Input fault) ran is = cc
@@ -41,6 +42,7 @@ module _ (C : Conversion) (old new : Option (List Move)) (left0 left1 : Option (
   no_file count (Deep at) ran = refl
   no_file count FileFailed ran = absurd ran.at.may
   no_file count Usage ran = refl
+  no_file count (Objected what) ran = refl
   no_file count Done ran = refl
   no_file count (Refused why) ran = refl
   no_file count (Input fault) ran = refl
@@ -112,6 +114,7 @@ module _ (v : Version) (all : List ℕ) (short : length all ≤ 2 ^ 40) (good : 
   converted_well ReadFailed ran read write is = absurd (not_rose read0 read1 read read_still)
   converted_well WriteFailed ran read write is = absurd (not_rose write0 write1 write write_still)
   converted_well Usage ran read write is = absurd ran.at.may
+  converted_well (Objected what) ran read write is = absurd ran.at.may
   converted_well (Refused why) ran read write is = absurd ran.at.may
   converted_well Open ran read write is = absurd ran.at.may
   converted_well (Budget at) ran read write is = absurd ran.at.may

@@ -10,7 +10,7 @@ use Rattle.event_frame.specs.Reading.{whole}
 use Rattle.delta_tree.specs.SyntaxTree.{ProgramTree}
 use Rattle.core_term.specs.CoreTerm.{CoreProgram}
 use Rattle.delta_end.specs.declared.end.End.{End}
-use Rattle.delta_end.specs.declared.end.End.TheVariants.{Done, Usage, Refused, Input, Budget, Deep, Open, FileFailed, ReadFailed, WriteFailed, Memory, Long}
+use Rattle.delta_end.specs.declared.end.End.TheVariants.{Done, Usage, Refused, Input, Budget, Deep, Open, FileFailed, ReadFailed, WriteFailed, Memory, Long, Objected}
 use Rattle.delta_end.specs.End.{FileCause, ReadCause, WriteCause}
 use Rattle.delta_end.specs.Status.{AnswerOf, IsStill}
 use Rattle.delta_end.proofs.Statuses.{not_rose, answered, answered_eight, with_status}
@@ -52,6 +52,7 @@ module _ (text : List ℕ) (budget : ℕ) (v : Version) (old new : Option (List 
   evals_text Memory (inr ran) = λ told is. let adds = moves_of Memory ran told is in (adds.0, adds.1, inr adds.2)
   evals_text Done ran = moves_of Done ran
   evals_text Usage ran = moves_of Usage ran
+  evals_text (Objected what) ran = moves_of (Objected what) ran
   evals_text (Input fault) ran = moves_of (Input fault) ran
   evals_text (Budget at) ran = moves_of (Budget at) ran
   evals_text (Deep at) ran = moves_of (Deep at) ran
@@ -74,6 +75,7 @@ module _ (text : List ℕ) (budget : ℕ) (v : Version) (old new : Option (List 
   evals_reads Memory (inr ran) = reads_of Memory ran
   evals_reads Done ran = reads_of Done ran
   evals_reads Usage ran = reads_of Usage ran
+  evals_reads (Objected what) ran = reads_of (Objected what) ran
   evals_reads (Input fault) ran = reads_of (Input fault) ran
   evals_reads (Budget at) ran = reads_of (Budget at) ran
   evals_reads (Deep at) ran = reads_of (Deep at) ran
@@ -85,6 +87,7 @@ module _ (text : List ℕ) (budget : ℕ) (v : Version) (old new : Option (List 
   -- it isn't usage
   pub evals_usage : (end : End) → EvaluatedText text budget v old new left0 left1 end → end ≡ Usage → ⊥
   evals_usage Usage ran same = ran.evaluates.may
+  evals_usage (Objected what) ran same = cc
   evals_usage FileFailed ran same = cc
   evals_usage (Refused why) ran same = cc
   evals_usage Memory ran same = cc
@@ -101,6 +104,7 @@ module _ (text : List ℕ) (budget : ℕ) (v : Version) (old new : Option (List 
   pub evals_file : (end : End) (n : ℕ) → EvaluatesText text budget v old new left0 left1 end → FileCause end n n
   evals_file FileFailed n ran = absurd ran.evaluates.may
   evals_file Usage n ran = refl
+  evals_file (Objected what) n ran = refl
   evals_file Done n ran = refl
   evals_file (Refused why) n ran = refl
   evals_file (Input fault) n ran = refl
@@ -115,6 +119,7 @@ module _ (text : List ℕ) (budget : ℕ) (v : Version) (old new : Option (List 
   pub evaluated_text : (end : End) → EvaluatesText text budget v old new left0 left1 end → EvaluatedText text budget v old new left0 left1 end
   evaluated_text FileFailed ran = absurd ran.evaluates.may
   evaluated_text Usage ran = ran
+  evaluated_text (Objected what) ran = ran
   evaluated_text Done ran = ran
   evaluated_text (Refused why) ran = ran
   evaluated_text (Input fault) ran = ran
@@ -138,6 +143,7 @@ module _ (text : List ℕ) (budget : ℕ) (v : Version) (old new : Option (List 
     refuses_unwritable Memory ran file is why r = inl (wanting is)
     refuses_unwritable Done ran file is why r = absurd (writing_is_judged.not_refused text v ran.program ran.core why ran.accepted r)
     refuses_unwritable Usage ran file is why r = absurd (writing_is_judged.not_refused text v ran.program ran.core why ran.accepted r)
+    refuses_unwritable (Objected what) ran file is why r = absurd (writing_is_judged.not_refused text v ran.program ran.core why ran.accepted r)
     refuses_unwritable (Input fault) ran file is why r = absurd (writing_is_judged.not_refused text v ran.program ran.core why ran.accepted r)
     refuses_unwritable (Budget at) ran file is why r = absurd (writing_is_judged.not_refused text v ran.program ran.core why ran.accepted r)
     refuses_unwritable (Deep at) ran file is why r = absurd (writing_is_judged.not_refused text v ran.program ran.core why ran.accepted r)
@@ -199,6 +205,7 @@ module _ (text : List ℕ) (budget : ℕ) (v : Version) (old new : Option (List 
       evals_well ReadFailed ran within file read write is = absurd (not_rose read0 read1 read read_still)
       evals_well WriteFailed ran within file read write is = absurd (not_rose write0 write1 write write_still)
       evals_well Usage ran within file read write is = absurd ran.evaluates.may
+      evals_well (Objected what) ran within file read write is = absurd ran.evaluates.may
       evals_well Long ran within file read write is = let e = of_this Long ran in absurd (too_long Long e e.may.0)
 
       -- past it, it stops with nothing written
@@ -221,4 +228,5 @@ module _ (text : List ℕ) (budget : ℕ) (v : Version) (old new : Option (List 
       stops_well ReadFailed ran more file read write is = absurd (not_rose read0 read1 read read_still)
       stops_well WriteFailed ran more file read write is = absurd (not_rose write0 write1 write write_still)
       stops_well Usage ran more file read write is = absurd ran.evaluates.may
+      stops_well (Objected what) ran more file read write is = absurd ran.evaluates.may
       stops_well Long ran more file read write is = let e = of_this Long ran in absurd (too_long Long e e.may.0)

@@ -5,7 +5,7 @@ use Rattle.port.specs.declared.fault.IoFault.{IoFault}
 use Rattle.port.specs.Faults.{HasCause}
 use Rattle.port.specs.Moves.{bytes_written}
 use Rattle.delta_end.specs.declared.end.End.{End}
-use Rattle.delta_end.specs.declared.end.End.TheVariants.{Done, Usage, Refused, Input, Budget, Deep, Open, FileFailed, ReadFailed, WriteFailed, Memory, Long}
+use Rattle.delta_end.specs.declared.end.End.TheVariants.{Done, Usage, Refused, Input, Budget, Deep, Open, FileFailed, ReadFailed, WriteFailed, Memory, Long, Objected}
 use Rattle.delta_end.specs.End.{WriteCause}
 use Rattle.delta_end.specs.Status.{AnswerOf, IsStill}
 use Rattle.delta_end.proofs.Statuses.{not_rose, answered, answered_eight, with_status}
@@ -29,6 +29,7 @@ module _ (start items : ℕ) (old new : Option (List Move)) where
     generates_well WriteFailed ran write is = absurd (not_rose write0 write1 write write_still)
     generates_well (Refused why) ran write is = absurd ran.2
     generates_well Usage ran write is = absurd ran.2
+    generates_well (Objected what) ran write is = absurd ran.2
     generates_well (Input fault) ran write is = absurd ran.2
     generates_well (Budget at) ran write is = absurd ran.2
     generates_well (Deep at) ran write is = absurd ran.2

@@ -10,5 +10,6 @@ pub mod Printed
 pub mod Generated
 pub mod Budgets
 pub mod Checked
+pub mod Bounded
 pub mod Evaluated
 pub mod Owing

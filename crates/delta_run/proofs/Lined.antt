@@ -5,7 +5,7 @@ use Rattle.port.specs.declared.fault.IoFault.{IoFault}
 use Rattle.port.specs.Faults.{HasCause}
 use Rattle.event_word.specs.StreamEvent.{StreamEvent}
 use Rattle.delta_end.specs.declared.end.End.{End}
-use Rattle.delta_end.specs.declared.end.End.TheVariants.{Done, Usage, Refused, Input, Budget, Deep, Open, FileFailed, ReadFailed, WriteFailed, Memory, Long}
+use Rattle.delta_end.specs.declared.end.End.TheVariants.{Done, Usage, Refused, Input, Budget, Deep, Open, FileFailed, ReadFailed, WriteFailed, Memory, Long, Objected}
 use Rattle.delta_end.specs.End.{ReadCause, WriteCause, IsOfLoop}
 use Rattle.delta_end.specs.Status.{AnswerOf, IsStill}
 use Rattle.delta_end.proofs.Statuses.{answered, answered_eight, with_status}
@@ -44,6 +44,7 @@ module _ (old new : Option (List Move)) (left0 left1 : Option (List ℕ)) where
   of_loop : (end : End) → Ran lines_of_frames old new left0 left1 end → IsOfLoop end
   of_loop Done ran = tt
   of_loop Usage ran = absurd ran.at.may
+  of_loop (Objected what) ran = absurd ran.at.may
   of_loop (Refused why) ran = absurd ran.at.may
   of_loop (Input fault) ran = tt
   of_loop Open ran = tt

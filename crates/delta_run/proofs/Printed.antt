@@ -6,7 +6,7 @@ use Rattle.port.specs.Faults.{HasCause}
 use Rattle.port.specs.Moves.{bytes_written}
 use Rattle.delta_tree.specs.SyntaxTree.{ProgramTree}
 use Rattle.delta_end.specs.declared.end.End.{End}
-use Rattle.delta_end.specs.declared.end.End.TheVariants.{Done, Usage, Refused, Input, Budget, Deep, Open, FileFailed, ReadFailed, WriteFailed, Memory, Long}
+use Rattle.delta_end.specs.declared.end.End.TheVariants.{Done, Usage, Refused, Input, Budget, Deep, Open, FileFailed, ReadFailed, WriteFailed, Memory, Long, Objected}
 use Rattle.delta_end.specs.End.{FileCause, WriteCause}
 use Rattle.delta_end.specs.Status.{AnswerOf, IsStill}
 use Rattle.delta_end.proofs.Statuses.{not_rose, answered, answered_eight, with_status}
@@ -38,6 +38,7 @@ module _ (text : List ℕ) (old new : Option (List Move)) where
   prints_text FileFailed same = adds_none old new (PrintsText text FileFailed) same refl
   prints_text Done ran = written Done ran.0 ran.1 ran.2
   prints_text Usage ran = written Usage ran.0 ran.1 ran.2
+  prints_text (Objected what) ran = written (Objected what) ran.0 ran.1 ran.2
   prints_text (Refused why) ran = written (Refused why) ran.0 ran.1 ran.2
   prints_text (Input fault) ran = written (Input fault) ran.0 ran.1 ran.2
   prints_text (Budget at) ran = written (Budget at) ran.0 ran.1 ran.2
@@ -67,6 +68,7 @@ module _ (text : List ℕ) (old new : Option (List Move)) where
     printed_well (Refused (Some why)) ran file write is p is_its = absurd (programs_are_not_refused text p why is_its ran.2.0)
     printed_well (Refused None) ran file write is p is_its = absurd ran.2
     printed_well Usage ran file write is p is_its = absurd ran.2
+    printed_well (Objected what) ran file write is p is_its = absurd ran.2
     printed_well (Input fault) ran file write is p is_its = absurd ran.2
     printed_well (Budget at) ran file write is p is_its = absurd ran.2
     printed_well (Deep at) ran file write is p is_its = absurd ran.2
@@ -82,6 +84,7 @@ module _ (text : List ℕ) (old new : Option (List Move)) where
     refused_well (Refused (Some other)) ran file write is why refuses = answered (Refused (Some other)) said status note0 note1 is cause note_still
     refused_well (Refused None) ran file write is why refuses = absurd ran.2
     refused_well Usage ran file write is why refuses = absurd ran.2
+    refused_well (Objected what) ran file write is why refuses = absurd ran.2
     refused_well (Input fault) ran file write is why refuses = absurd ran.2
     refused_well (Budget at) ran file write is why refuses = absurd ran.2
     refused_well (Deep at) ran file write is why refuses = absurd ran.2

@@ -4,7 +4,7 @@ use Rattle.port.specs.declared.link.Move.{Move}
 use Rattle.event_frame.specs.declared.version.Version.{Version}
 use Rattle.delta_tree.specs.SyntaxTree.{ProgramTree}
 use Rattle.delta_end.specs.declared.end.End.{End}
-use Rattle.delta_end.specs.declared.end.End.TheVariants.{Done, Usage, Refused, Input, Budget, Deep, Open, FileFailed, ReadFailed, WriteFailed, Memory, Long}
+use Rattle.delta_end.specs.declared.end.End.TheVariants.{Done, Usage, Refused, Input, Budget, Deep, Open, FileFailed, ReadFailed, WriteFailed, Memory, Long, Objected}
 use Rattle.delta_end.specs.End.{status_of}
 use Rattle.delta_end.specs.Status.{IsStatus}
 use Rattle.delta_accept.proofs.OneAnswer.{accepted_is_one}
@@ -39,6 +39,7 @@ module _ (text : List ℕ) (budget : ℕ) (v : Version) (old new : Option (List 
   by_end (Refused why) ran is = λ p c accepted all tells other over. absurd (refused_not_settled is over)
   by_end Memory ran is = λ p c accepted all tells other over. absurd (memory_not_settled is over)
   by_end Usage ran is = its_settled Usage ran is
+  by_end (Objected what) ran is = its_settled (Objected what) ran is
   by_end Done ran is = its_settled Done ran is
   by_end (Input fault) ran is = its_settled (Input fault) ran is
   by_end (Budget at) ran is = its_settled (Budget at) ran is

@@ -18,9 +18,10 @@ use Rattle.event_frame.proofs.WholeLaws.{no_header_no_event}
 use Rattle.delta_end.specs.declared.end.InputFault.{InputFault}
 use Rattle.delta_end.specs.declared.end.InputFault.TheVariants.{Event}
 use Rattle.delta_end.specs.declared.end.End.{End}
-use Rattle.delta_end.specs.declared.end.End.TheVariants.{Done, Usage, Refused, Input, Budget, Deep, Open, FileFailed, ReadFailed, WriteFailed, Memory, Long}
-use Rattle.delta_end.specs.End.{status_of, status_without_note}
+use Rattle.delta_end.specs.declared.end.End.TheVariants.{Done, Usage, Refused, Input, Budget, Deep, Open, FileFailed, ReadFailed, WriteFailed, Memory, Long, Objected}
+use Rattle.delta_end.specs.End.{objection_status, status_of, status_without_note}
 use Rattle.delta_end.specs.Status.{IsStatus}
+use Rattle.delta_end.proofs.Statuses.{objected_late}
 use Rattle.delta_loop.specs.Meaning.{Meaning}
 use Rattle.delta_loop.specs.Finding.{version_of, place_in, fault_or, event_finding, byte_finding, finding}
 use Rattle.delta_loop.specs.Output.{up_to_fault, accepted, accepted_after, answers_after, opening, output, due}
@@ -185,6 +186,8 @@ module _ (P : Meaning) (old new : Option (List Move)) (left0 left1 : Option (Lis
       over_all Open ran (λ is. cc) None false may.0 (subst (λ (b : Bool). finding P ran.input b ≡ None) may.0 may.1) may.2 may.3
   ran_settled (Input fault) ran over = input_settles fault ran ran.ended refl ran.at.may.0 ran.at.may.1
   ran_settled Usage ran over = absurd (none_other 2 (λ e. omega (arith, e)) (λ e. omega (arith, e)) (λ e. omega (arith, e)) (λ e. omega (arith, e)) over)
+  ran_settled (Objected what) ran over =
+      absurd (none_other (objection_status what) (λ e. omega (arith, e, objected_late what)) (λ e. omega (arith, e, objected_late what)) (λ e. omega (arith, e, objected_late what)) (λ e. omega (arith, e, objected_late what)) over)
   ran_settled (Refused why) ran over = absurd (none_other 3 (λ e. omega (arith, e)) (λ e. omega (arith, e)) (λ e. omega (arith, e)) (λ e. omega (arith, e)) over)
   ran_settled (Budget at) ran over = absurd (none_other 5 (λ e. omega (arith, e)) (λ e. omega (arith, e)) (λ e. omega (arith, e)) (λ e. omega (arith, e)) over)
   ran_settled (Deep at) ran over = absurd (none_other 5 (λ e. omega (arith, e)) (λ e. omega (arith, e)) (λ e. omega (arith, e)) (λ e. omega (arith, e)) over)
@@ -207,6 +210,7 @@ over_by_end end status note0 note1 (inr (inl sink)) over = by_end end sink.1
     by_end Open is = absurd (none_other 7 (λ e. omega (arith, e)) (λ e. omega (arith, e)) (λ e. omega (arith, e)) (λ e. omega (arith, e)) (subst IsOverInput is over))
     by_end Done is = is
     by_end Usage is = is
+    by_end (Objected what) is = is
     by_end (Refused why) is = is
     by_end (Input fault) is = is
     by_end (Budget at) is = is

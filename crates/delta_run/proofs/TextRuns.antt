@@ -7,7 +7,7 @@ use Rattle.event_frame.specs.declared.version.Version.{Version}
 use Rattle.delta_tree.specs.SyntaxTree.{ProgramTree}
 use Rattle.core_term.specs.CoreTerm.{CoreProgram}
 use Rattle.delta_end.specs.declared.end.End.{End}
-use Rattle.delta_end.specs.declared.end.End.TheVariants.{Done, Usage, Refused, Input, Budget, Deep, Open, FileFailed, ReadFailed, WriteFailed, Memory, Long}
+use Rattle.delta_end.specs.declared.end.End.TheVariants.{Done, Usage, Refused, Input, Budget, Deep, Open, FileFailed, ReadFailed, WriteFailed, Memory, Long, Objected}
 use Rattle.delta_end.specs.End.{FileCause, ReadCause, WriteCause, IsOfLoop, status_of, status_without_note}
 use Rattle.delta_end.specs.Status.{AnswerOf, IsStatus, IsStill}
 use Rattle.delta_end.proofs.Statuses.{not_rose, answered, answered_eight, usage_is_two}
@@ -34,6 +34,7 @@ module _ (text : List ℕ) (budget : ℕ) (v : Version) (old new : Option (List 
   -- a run of a text is prompt
   pub text_prompt : (end : End) → RanText text budget v old new left0 left1 end → Adds old new (RunsPromptly text budget v)
   text_prompt Usage ran = prompt_of Usage ran
+  text_prompt (Objected what) ran = prompt_of (Objected what) ran
   text_prompt FileFailed ran = none_of ran.0
   text_prompt (Refused None) ran = absurd ran
   text_prompt (Refused (Some why)) ran = none_of ran.1.0
@@ -54,6 +55,7 @@ module _ (text : List ℕ) (budget : ℕ) (v : Version) (old new : Option (List 
   -- it doesn't read after the end of the input, nor more than it may
   pub text_reads : (end : End) → RanText text budget v old new left0 left1 end → Adds old new (ReadsWell end)
   text_reads Usage ran = reads_of Usage ran
+  text_reads (Objected what) ran = reads_of (Objected what) ran
   text_reads FileFailed ran = adds_none old new (ReadsWell FileFailed) ran.0 (unread FileFailed)
   text_reads (Refused None) ran = absurd ran
   text_reads (Refused (Some why)) ran = adds_none old new (ReadsWell (Refused (Some why))) ran.1.0 (unread (Refused (Some why)))
@@ -75,6 +77,7 @@ module _ (text : List ℕ) (budget : ℕ) (v : Version) (old new : Option (List 
   -- it ended as the table says
   pub text_return : (end : End) → RanText text budget v old new left0 left1 end → Adds old new (RunsMoves text budget v end)
   text_return Usage ran = absurd ran.2.at.may
+  text_return (Objected what) ran = absurd ran.2.at.may
   text_return FileFailed ran = adds_none old new (RunsMoves text budget v FileFailed) ran.0 refl
   text_return (Refused None) ran = absurd ran
   text_return (Refused (Some why)) ran = adds_none old new (RunsMoves text budget v (Refused (Some why))) ran.1.0 (ran.0, refl)
@@ -92,6 +95,7 @@ module _ (text : List ℕ) (budget : ℕ) (v : Version) (old new : Option (List 
   -- it isn't usage
   pub runs_usage : (end : End) → RanText text budget v old new left0 left1 end → end ≡ Usage → ⊥
   runs_usage Usage ran same = ran.2.at.may
+  runs_usage (Objected what) ran same = cc
   runs_usage FileFailed ran same = cc
   runs_usage (Refused why) ran same = cc
   runs_usage Memory ran same = cc
@@ -108,6 +112,7 @@ module _ (text : List ℕ) (budget : ℕ) (v : Version) (old new : Option (List 
   pub runs_file : (end : End) (n : ℕ) → RunsText text budget v old new left0 left1 end → FileCause end n n
   runs_file FileFailed n ran = absurd ran.2.at.may
   runs_file Usage n ran = refl
+  runs_file (Objected what) n ran = refl
   runs_file Done n ran = refl
   runs_file (Refused why) n ran = refl
   runs_file (Input fault) n ran = refl
@@ -122,6 +127,7 @@ module _ (text : List ℕ) (budget : ℕ) (v : Version) (old new : Option (List 
   pub ran_text : (end : End) → RunsText text budget v old new left0 left1 end → RanText text budget v old new left0 left1 end
   ran_text FileFailed ran = absurd ran.2.at.may
   ran_text Usage ran = ran
+  ran_text (Objected what) ran = ran
   ran_text Done ran = ran
   ran_text (Refused why) ran = ran
   ran_text (Input fault) ran = ran
@@ -146,6 +152,7 @@ module _ (text : List ℕ) (budget : ℕ) (v : Version) (old new : Option (List 
     text_refused Memory ran file is why r = inl (answered_eight said status note0 note1 is cause note_still)
     text_refused Done ran file is why r = not_refused Done ran why r
     text_refused Usage ran file is why r = not_refused Usage ran why r
+    text_refused (Objected what) ran file is why r = not_refused (Objected what) ran why r
     text_refused (Input fault) ran file is why r = not_refused (Input fault) ran why r
     text_refused (Budget at) ran file is why r = not_refused (Budget at) ran why r
     text_refused (Deep at) ran file is why r = not_refused (Deep at) ran why r
@@ -169,6 +176,7 @@ module _ (text : List ℕ) (budget : ℕ) (v : Version) (old new : Option (List 
       -- a run of a text over a good input ends well
       pub text_complete : (end : End) → RanText text budget v old new left0 left1 end → FileCause end file0 file1 → ReadCause end read0 read1 → WriteCause end write0 write1 → AnswerOf end said status → RunsWell text budget v left0 old new status
       text_complete Usage ran file read write is = absurd ran.2.at.may
+      text_complete (Objected what) ran file read write is = absurd ran.2.at.may
       text_complete FileFailed ran file read write is = absurd (not_rose file0 file1 file file_still)
       text_complete (Refused None) ran file read write is = absurd ran
       text_complete (Refused (Some why)) ran file read write is = λ p c accepted w all word tells good cheap. absurd (writing_is_judged.not_refused text v p c why accepted ran.0)

@@ -8,6 +8,7 @@ pub mod Told
 pub mod Printed
 pub mod Generated
 pub mod Checked
+pub mod Bounded
 pub mod Evaluated
 pub mod Outside
 pub mod Ends
@@ -16,5 +17,6 @@ pub mod Evals
 pub mod Checks
 pub mod Prints
 pub mod Gens
+pub mod Bounds
 pub mod Lines
 pub mod Owes

@@ -1,6 +1,6 @@
 -- What is owed to a command line, by what it asks for.
 use Rattle.std.specs.Prelude.{ℕ}
-use Rattle.delta_words.specs.CommandTask.{CommandTask, run, eval, check, print, text, frames, gen}
+use Rattle.delta_words.specs.CommandTask.{CommandTask, run, eval, check, print, text, frames, gen, bound}
 use Rattle.delta_end.specs.declared.end.End.{End}
 use Rattle.delta_run.specs.CommandLine.{frames_of}
 use Rattle.delta_run.specs.Outside.{Outside}
@@ -9,6 +9,7 @@ use Rattle.delta_run.specs.Evals.{Evals}
 use Rattle.delta_run.specs.Checks.{Checks}
 use Rattle.delta_run.specs.Prints.{Prints}
 use Rattle.delta_run.specs.Gens.{Gens}
+use Rattle.delta_run.specs.Bounds.{Bounds}
 use Rattle.delta_run.specs.Lines.{WritesFrames, WritesLines}
 
 abbrev pub Owes : CommandTask → Outside → Outside → End → ℕ → Type 0
@@ -19,3 +20,4 @@ Owes (print file) before after end status = Prints file before after end status
 Owes text before after end status = WritesLines before after end status
 Owes (frames v) before after end status = WritesFrames (frames_of v) before after end status
 Owes (gen start items) before after end status = Gens start items before after end status
+Owes (bound file) before after end status = Bounds file before after end status

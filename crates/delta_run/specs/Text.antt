@@ -5,7 +5,7 @@ use Rattle.event_frame.specs.declared.version.Version.{Version}
 use Rattle.delta_tree.specs.SyntaxTree.{ProgramTree}
 use Rattle.core_term.specs.CoreTerm.{CoreProgram}
 use Rattle.delta_end.specs.declared.end.End.{End}
-use Rattle.delta_end.specs.declared.end.End.TheVariants.{Usage, Refused, FileFailed, Memory}
+use Rattle.delta_end.specs.declared.end.End.TheVariants.{Usage, Refused, FileFailed, Memory, Objected}
 use Rattle.delta_accept.specs.Acceptance.{IsWritable, IsRefusedToWrite}
 use Rattle.delta_loop.specs.Meaning.{Meaning}
 use Rattle.delta_loop.specs.History.{IsUntouched}
@@ -37,6 +37,7 @@ RunsIts text budget v end moves = (P : Meaning) × IsMeant text budget v P × Is
 -- what holds of the moves of a run of a text; there are none where the file failed, the text is refused, or memory ran out before the program was made
 abbrev pub RunsMoves : List ℕ → ℕ → Version → End → List Move → Type 0
 RunsMoves text budget v Usage moves = ⊥
+RunsMoves text budget v (Objected what) moves = ⊥
 RunsMoves text budget v FileFailed moves = moves ≡ []
 RunsMoves text budget v (Refused None) moves = ⊥
 RunsMoves text budget v (Refused (Some why)) moves = IsRefusedToWrite text v why × (moves ≡ [])

@@ -3,13 +3,14 @@
 ghost use Rattle.std.specs.Prelude.{◌≡◌, ◌≢◌, ◌⊎◌, ◌<◌, ◌≤◌, ◌^◌, [], List, ℕ, Some, None, true, length};
 ghost use Rattle.delta_end.specs.declared.end.End.{End};
 ghost use Rattle.delta_words.specs.declared.task.Version.{Version as WrittenVersion};
-ghost use Rattle.delta_words.specs.CommandTask.{run, eval, check, print, text, frames, gen};
+ghost use Rattle.delta_words.specs.CommandTask.{run, eval, check, print, text, frames, gen, bound};
 ghost use Rattle.delta_text.specs.Conversion.{frames_of_lines, Ran as Converted};
 ghost use Rattle.delta_text.specs.Lines.{lines_of_frames};
 ghost use Rattle.delta_loop.specs.Loop.{Ran as Lined};
 ghost use Rattle.delta_run.specs.Printed.{PrintedText};
 ghost use Rattle.delta_run.specs.Generated.{GeneratedLine};
 ghost use Rattle.delta_run.specs.Checked.{ChecksText};
+ghost use Rattle.delta_run.specs.Bounded.{BoundedText};
 ghost use Rattle.delta_run.specs.Evaluated.{EvaluatedText};
 ghost use Rattle.delta_run.specs.CommandLine.{Asks, AskNothing, frames_of};
 ghost use Rattle.delta_end.specs.End.{FileCause, ReadCause, WriteCause};
@@ -17,6 +18,7 @@ ghost use Rattle.delta_loop.specs.Answer.{Adds, ReadsWell};
 ghost use Rattle.delta_loop.specs.History.{IsUntouched};
 ghost use Rattle.delta_run.specs.Text.{OfFile, RanText};
 
+use command_bound::bound_source;
 use command_gen::gen_load;
 use delta_end::End;
 use delta_eval::eval_source;
@@ -88,6 +90,24 @@ fn check_file<S: Shelf>(alloc: Global, file: &str, shelf: &mut S) -> End
     }
 }
 
+// Tells the bound of the program of a file.
+fn bound_file<S: Shelf, L: Link>(alloc: Global, file: &str, shelf: &mut S, link: &mut L) -> End
+    ensures bounded { OfFile (S.holds shelf.old) file.now (λ text. BoundedText text (L.log link.old) (L.log link.new) result) }
+    ensures reads { Adds (L.log link.old) (L.log link.new) (ReadsWell result) }
+    ensures bounds { result ≢ End.Usage }
+    ensures unread { L.left link.new ≡ L.left link.old }
+    ensures held { S.holds shelf.new ≡ S.holds shelf.old }
+    ensures file { FileCause result (S.faults shelf.old) (S.faults shelf.new) }
+    ensures read { ReadCause result (L.read_faults link.old) (L.read_faults link.new) }
+    ensures write { WriteCause result (L.write_faults link.old) (L.write_faults link.new) }
+{
+    match shelf.read(file) {
+        Ok(text) => bound_source(alloc, &text, link),
+        Err(IoFault::Memory) => End::Memory,
+        Err(IoFault::Failed) => End::FileFailed,
+    }
+}
+
 // Evaluates the program of a file over a link.
 fn eval_file<S: Shelf, L: Link>(
     alloc: Global,
@@ -147,6 +167,8 @@ pub fn run_command<M: Machine, S: Shelf, L: Link>(
     ensures evaluated { (file : List ℕ) (budget : ℕ) (v : WrittenVersion) → Asks words.now (eval file budget v)
         → OfFile (S.holds shelf.old) file (λ text. EvaluatedText text budget (frames_of v) (L.log link.old) (L.log link.new) (L.left link.old) (L.left link.new) result) }
     ensures generated { (start items : ℕ) → Asks words.now (gen start items) → GeneratedLine start items (L.log link.old) (L.log link.new) result }
+    ensures bounded { (file : List ℕ) → Asks words.now (bound file) → OfFile (S.holds shelf.old) file (λ text. BoundedText text (L.log link.old) (L.log link.new) result) }
+    ensures bounding { (file : List ℕ) → Asks words.now (bound file) → L.left link.new ≡ L.left link.old }
     ensures generating { (start items : ℕ) → Asks words.now (gen start items) → L.left link.new ≡ L.left link.old }
     ensures held { S.holds shelf.new ≡ S.holds shelf.old }
     ensures file { FileCause result (S.faults shelf.old) (S.faults shelf.new) }
@@ -164,6 +186,7 @@ pub fn run_command<M: Machine, S: Shelf, L: Link>(
         Ok(Task::Eval(file, budget, version)) => {
             eval_file(alloc, &file, budget, frame_version(version), shelf, link)
         }
+        Ok(Task::Bound(file)) => bound_file(alloc, &file, shelf, link),
         Ok(Task::Gen(start, items)) => gen_load::<M, L>(alloc, start, items, link),
         Err(WordsFault::Usage) => End::Usage,
         Err(WordsFault::Memory) => End::Memory,

@@ -2,7 +2,7 @@
 use Rattle.std.specs.Prelude.{◌≡◌, ◌⊎◌, ℕ, List, [], None, Some}
 use Rattle.delta_tree.specs.SyntaxTree.{ProgramTree}
 use Rattle.delta_end.specs.declared.end.End.{End}
-use Rattle.delta_end.specs.declared.end.End.TheVariants.{Done, Usage, Refused, Input, Budget, Deep, Open, FileFailed, ReadFailed, WriteFailed, Memory, Long}
+use Rattle.delta_end.specs.declared.end.End.TheVariants.{Done, Usage, Refused, Input, Budget, Deep, Open, FileFailed, ReadFailed, WriteFailed, Memory, Long, Objected}
 use Rattle.delta_front.specs.ProgramText.{IsTextOf, IsRefusedFor}
 use Rattle.delta_loop.specs.Return.{Begins}
 use Rattle.delta_print.specs.Canonical.{canonical_text}
@@ -32,5 +32,6 @@ Prints text written Open = ⊥
 Prints text written (Budget at) = ⊥
 Prints text written (Deep at) = ⊥
 Prints text written FileFailed = ⊥
+Prints text written (Objected what) = ⊥
 Prints text written ReadFailed = ⊥
 Prints text written Long = ⊥

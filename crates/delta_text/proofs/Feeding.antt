@@ -5,7 +5,7 @@ use Rattle.event_word.specs.StreamEvent.{StreamEvent}
 use Rattle.event_frame.specs.declared.version.Version.{Version}
 use Rattle.event_frame.specs.Frames.{header, frame, frames}
 use Rattle.delta_end.specs.declared.end.End.{End}
-use Rattle.delta_end.specs.declared.end.End.TheVariants.{Done, Input, Budget, Deep, ReadFailed, WriteFailed, Memory, Long, Usage, Refused as RefusedProgram, Open, FileFailed}
+use Rattle.delta_end.specs.declared.end.End.TheVariants.{Done, Input, Budget, Deep, ReadFailed, WriteFailed, Memory, Long, Usage, Refused as RefusedProgram, Open, FileFailed, Objected}
 use Rattle.delta_text.specs.Fault.{line_fault}
 use Rattle.delta_text.specs.declared.fault.LineRefusal.{LineRefusal}
 use Rattle.delta_text.specs.LineState.{LineState}
@@ -97,6 +97,7 @@ may_send C input ended written Open of begins = absurd of
 may_send C input ended written (Budget at) of begins = absurd of
 may_send C input ended written (Deep at) of begins = absurd of
 may_send C input ended written FileFailed of begins = absurd of
+may_send C input ended written (Objected what) of begins = absurd of
 
 pub ended_sending : (v : Version) (start now next : Option (List Move)) (r r' : LineState) (front more : List ℕ) (byte : ℕ) (x : StreamEvent) (sent rest : List ℕ) (end : End)
     → Feeds v start now r (front ++ byte ∷ more) front false → ((behind_it : List ℕ) → taken_from v r (byte ∷ behind_it) ≡ behind (x ∷ []) (taken_from v r' behind_it))

@@ -5,7 +5,7 @@ use Rattle.port.specs.Told.{Loses}
 use Rattle.event_frame.specs.declared.version.Version.{Version}
 use Rattle.event_frame.specs.Frames.{frames}
 use Rattle.delta_end.specs.declared.end.End.{End}
-use Rattle.delta_end.specs.declared.end.End.TheVariants.{Done, Usage, Refused, Input, Budget, Deep, Open, FileFailed, ReadFailed, WriteFailed, Memory, Long}
+use Rattle.delta_end.specs.declared.end.End.TheVariants.{Done, Usage, Refused, Input, Budget, Deep, Open, FileFailed, ReadFailed, WriteFailed, Memory, Long, Objected}
 use Rattle.delta_end.specs.declared.end.InputFault.{InputFault}
 use Rattle.delta_text.specs.Fault.{line_fault}
 use Rattle.delta_loop.specs.History.{History}
@@ -46,6 +46,7 @@ MayEnd C input ended written (Budget at) = ⊥
 MayEnd C input ended written (Deep at) = ⊥
 MayEnd C input ended written Open = ⊥
 MayEnd C input ended written FileFailed = ⊥
+MayEnd C input ended written (Objected what) = ⊥
 
 -- since `start` the run has read this input and ended so
 pub record Ended (C : Conversion) (start now : Option (List Move)) (input : List ℕ) (ended : Bool) (end : End) : Type 0 where

@@ -1,6 +1,6 @@
 -- Worked command lines.
 use Rattle.std.proofs.Common.{◌≡◌, [], ◌∷◌, refl, codes, Some, None}
-use Rattle.delta_words.specs.CommandTask.{run, eval, frames, gen, task_of}
+use Rattle.delta_words.specs.CommandTask.{run, eval, frames, gen, bound, task_of}
 use Rattle.delta_words.specs.declared.task.Version.TheVariants.{V1, V2}
 
 -- `--` ends the options
@@ -49,6 +49,13 @@ start_above = refl
 
 nine_digits : task_of (codes "gen" ∷ codes "1" ∷ codes "000000001" ∷ []) ≡ None
 nine_digits = refl
+
+-- a bound asks for one file, and takes no option
+bound_of_file : task_of (codes "bound" ∷ codes "a" ∷ []) ≡ Some (bound (codes "a"))
+bound_of_file = refl
+
+bound_with_budget : task_of (codes "bound" ∷ codes "a" ∷ codes "--budget" ∷ codes "5" ∷ []) ≡ None
+bound_with_budget = refl
 
 -- no abbreviation
 abbreviated : task_of (codes "text" ∷ codes "--fra" ∷ []) ≡ None

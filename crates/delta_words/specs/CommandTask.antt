@@ -10,7 +10,7 @@ use Rattle.delta_words.specs.Numbers.{number_within}
 use Rattle.delta_words.specs.Commands.{command_of, takes_of}
 use Rattle.delta_words.specs.CommandLine.{WrittenLine, line_of}
 
--- a file's name, a budget and the version of what is written; a file's name; the version; the first item and how many
+-- a file's name, a budget and the version of what is written; a file's name; the version; the first item and how many; a file's name
 pub data CommandTask : Type 0 where
   run : List ℕ → ℕ → Version → CommandTask
   eval : List ℕ → ℕ → Version → CommandTask
@@ -19,6 +19,7 @@ pub data CommandTask : Type 0 where
   text : CommandTask
   frames : Version → CommandTask
   gen : ℕ → ℕ → CommandTask
+  bound : List ℕ → CommandTask
 
 -- what a task of the code stands for
 abbrev pub asked : Task → CommandTask
@@ -29,6 +30,7 @@ asked (rust.Print file) = print (string_bytes file)
 asked rust.Text = text
 asked (rust.Frames version) = frames version
 asked (rust.Gen start items) = gen start items
+asked (rust.Bound file) = bound (string_bytes file)
 
 -- version 2 where `--v2` stands
 abbrev pub version_of : Bool → Version
@@ -68,6 +70,7 @@ task_of_line command.Check line = option_map check (file_of line.operands)
 task_of_line command.Print line = option_map print (file_of line.operands)
 task_of_line command.Text line = text_or_frames line
 task_of_line command.Gen line = start_and_items line.operands
+task_of_line command.Bound line = option_map bound (file_of line.operands)
 
 -- what a command and the words behind it ask for
 abbrev pub task_of_command : List (List ℕ) → Command → Option CommandTask

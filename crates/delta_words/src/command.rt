@@ -9,6 +9,7 @@ pub enum Command {
     Print,
     Text,
     Gen,
+    Bound,
 }
 
 /// What a command takes: so many operands, and which options, each at most once.
@@ -35,6 +36,7 @@ impl Command {
             "print" => Some(Command::Print),
             "text" => Some(Command::Text),
             "gen" => Some(Command::Gen),
+            "bound" => Some(Command::Bound),
             _ => None,
         }
     }
@@ -50,7 +52,7 @@ impl Command {
                 v2: true,
                 frames: false,
             },
-            Command::Check | Command::Print => Takes {
+            Command::Check | Command::Print | Command::Bound => Takes {
                 operands: 1,
                 budget: false,
                 v2: false,

@@ -99,7 +99,8 @@ fn delta_command<'a>(alloc: Global) -> Result<Parser<'a>, AllocError>
     let check = with_command(alloc, eval, "check", Command::Check)?;
     let print = with_command(alloc, check, "print", Command::Print)?;
     let text = with_command(alloc, print, "text", Command::Text)?;
-    with_command(alloc, text, "gen", Command::Gen)
+    let load = with_command(alloc, text, "gen", Command::Gen)?;
+    with_command(alloc, load, "bound", Command::Bound)
 }
 
 /// What clap finds in the words.

@@ -37,6 +37,8 @@ pub enum Task {
     Frames(Version),
     /// Write the generated load: from which item on, and how many.
     Gen(u64, u64),
+    /// Tell how many events a file's program can ever hold back.
+    Bound(String),
 }
 
 // The version that is written where `--v2` stands, and where it doesn't.
@@ -129,6 +131,7 @@ fn line_task(alloc: Global, command: Command, line: &Line<'_>) -> Result<Task, W
         Command::Print => Ok(Task::Print(file(alloc, line)?)),
         Command::Text => text_task(line),
         Command::Gen => gen_task(line),
+        Command::Bound => Ok(Task::Bound(file(alloc, line)?)),
     }
 }
 

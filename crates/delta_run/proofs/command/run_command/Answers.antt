@@ -6,6 +6,7 @@ use Rattle.delta_run.specs.Text.{OfFile, RanText}
 use Rattle.delta_run.specs.Printed.{PrintedText}
 use Rattle.delta_run.specs.Generated.{GeneratedLine}
 use Rattle.delta_run.specs.Checked.{ChecksText}
+use Rattle.delta_run.specs.Bounded.{BoundedText}
 use Rattle.delta_run.specs.Evaluated.{EvaluatedText}
 use Rattle.delta_end.specs.declared.end.End.TheVariants.{Usage, Memory}
 use Rattle.delta_loop.specs.Answer.{ReadsWell}
@@ -14,7 +15,7 @@ use Rattle.delta_text.specs.Lines.{lines_of_frames}
 use Rattle.delta_run.proofs.Budgets.{run_is_small, eval_is_small, load_is_small}
 use Rattle.delta_run.proofs.Conversions.{converted_reads}
 use Rattle.delta_run.proofs.Printed.{written_reads}
-use Rattle.delta_run.proofs.CommandLines.{same_run, same_check, same_eval, same_print, same_gen, asks_something}
+use Rattle.delta_run.proofs.CommandLines.{same_run, same_check, same_eval, same_print, same_gen, same_bound, asks_something}
 use Rattle.delta_run.proofs.command.run_command.Goals as goal
 
 pub returns-in-Ok-Run-clause-command : goal.returns-in-Ok-Run-clause-command
@@ -119,3 +120,15 @@ gen_load-requires-clause-start g c = (load_is_small (map string_bytes c.args.wor
 
 pub gen_load-requires-clause-items : goal.gen_load-requires-clause-items
 gen_load-requires-clause-items g c = (load_is_small (map string_bytes c.args.words.now) _ _ (c.in-Ok-Gen.ensures.ok ∙ ap (λ t. Some (asked t)) c.in-Ok-Gen.field-0-is)).1
+
+pub returns-in-Ok-Bound-clause-command : goal.returns-in-Ok-Bound-clause-command
+returns-in-Ok-Bound-clause-command g c nothing = absurd (asks_something nothing (c.in-Ok-Bound.ensures.ok ∙ ap (λ t. Some (asked t)) c.in-Ok-Bound.field-0-is))
+
+pub returns-in-Ok-Bound-clause-reads : goal.returns-in-Ok-Bound-clause-reads
+returns-in-Ok-Bound-clause-reads g c = c.bound_file.ensures.reads
+
+pub returns-in-Ok-Bound-clause-bounded : goal.returns-in-Ok-Bound-clause-bounded
+returns-in-Ok-Bound-clause-bounded g c file is =
+    let same = same_bound _ _ (sym (c.in-Ok-Bound.ensures.ok ∙ ap (λ t. Some (asked t)) c.in-Ok-Bound.field-0-is) ∙ is) in
+    subst (λ (name : List ℕ). OfFile (g.S.Shelf.holds c.args.shelf.now) name (λ text. BoundedText text (g.L.Link.log c.args.link.now) (g.L.Link.log c.bound_file.new.link) c.bound_file.result))
+    (c.deref-in-Ok-Bound.ensures ∙ same) c.bound_file.ensures.bounded

@@ -7,6 +7,7 @@ use Rattle.delta_run.proofs.Conversions.{by_either, either_well}
 use Rattle.delta_run.proofs.Lined.{lined, lines_well}
 use Rattle.delta_run.proofs.Printed.{prints_text, printed_well, refused_well}
 use Rattle.delta_run.proofs.Generated.{generates, generates_well}
+use Rattle.delta_run.proofs.Bounded.{tells_bound, bounded_well, unbounded_well, judged_well, refused_text}
 use Rattle.delta_run.proofs.Checked.{passes_accepted, refuses_unaccepted}
 use Rattle.delta_run.proofs.Evaluated.{evals_text, evals_well, stops_well, refuses_unwritable}
 use Rattle.delta_run.proofs.Owing.{owes_by}
@@ -83,6 +84,22 @@ returns-clause-owed g c = (
         complete = λ write note.
             generates_well start items _ _ _ _ _ _ write note _ _ c.note-said.ensures.cause c.run_command-end.result (c.run_command-end.ensures.generated start items is)
             c.run_command-end.ensures.write c.answer.ensures;
+      })
+      (λ file is. record {
+        unread = c.run_command-end.ensures.bounding file is;
+        ends = λ files tells. tells_bound _ _ _ c.run_command-end.result (c.run_command-end.ensures.bounded file is files tells);
+        complete = λ files tells file_still write note.
+            bounded_well _ _ _ _ _ _ _ _ _ file_still write note _ _ c.note-said.ensures.cause c.run_command-end.result (c.run_command-end.ensures.bounded file is files tells)
+            c.run_command-end.ensures.file c.run_command-end.ensures.write c.answer.ensures;
+        unbounded = λ files tells file_still write note.
+            unbounded_well _ _ _ _ _ _ _ _ _ file_still write note _ _ c.note-said.ensures.cause c.run_command-end.result (c.run_command-end.ensures.bounded file is files tells)
+            c.run_command-end.ensures.file c.run_command-end.ensures.write c.answer.ensures;
+        accepted = λ files tells file_still write note.
+            judged_well _ _ _ _ _ _ _ _ _ file_still write note _ _ c.note-said.ensures.cause c.run_command-end.result (c.run_command-end.ensures.bounded file is files tells)
+            c.run_command-end.ensures.file c.run_command-end.ensures.write c.answer.ensures;
+        refused = λ files tells file_still write note.
+            refused_text _ _ _ _ _ _ _ _ _ file_still write note _ _ c.note-said.ensures.cause c.run_command-end.result (c.run_command-end.ensures.bounded file is files tells)
+            c.run_command-end.ensures.file c.run_command-end.ensures.write c.answer.ensures;
       })
       (λ is. record {
         ends = lined _ _ _ _ c.run_command-end.result (c.run_command-end.ensures.lined is);

@@ -1,0 +1,38 @@
+//! What is said against a program beside what is wrong with its text.
+
+/// Why a derivation of a program is refused.
+#[derive(Clone, Copy, Debug, PartialEq, Eq)]
+pub enum DerivationName {
+    /// Its text is too long.
+    LongText,
+    /// A line is none of a derivation.
+    BadLine,
+    /// A step can't be taken there.
+    BadStep,
+    /// A rule isn't valid there.
+    BadRule,
+    /// The lines end before the last rule.
+    Short,
+    /// A line stands after the last rule.
+    Long,
+}
+
+/// Why no bound of a program can be told.
+#[derive(Clone, Copy, Debug, PartialEq, Eq)]
+pub enum BoundName {
+    /// A case or a wait counts a name whose type has no size.
+    Unbounded,
+    /// A function holds more at each call of itself.
+    Cycle,
+    /// The bound isn't below the limit.
+    Large,
+}
+
+/// What is said against a program whose text is good, by name and place.
+#[derive(Clone, Copy, Debug, PartialEq, Eq)]
+pub enum Objection {
+    /// Its derivation is refused. The place counts the lines before, or the bytes of a text that is too long.
+    Derivation(DerivationName, u32),
+    /// It has no bound. The place counts the bytes of its text before, and is 0 where there is none.
+    Bound(BoundName, u32),
+}
