@@ -6,7 +6,7 @@ use Rattle.delta_parse.specs.Plain.{grammar_tokens, names_in}
 use Rattle.delta_parse.specs.Programs.{IsProgram, tree_with}
 use Rattle.delta_parse.specs.Bindings.{Bound, after_token, bound, none_bound, is_repeated, is_excess, passes, AreNamed}
 use Rattle.text_laws.specs.TreeNames.{IsNamedProgram}
-use Rattle.text_laws.specs.Laws.{TreesAreNamed}
+use Rattle.text_laws.specs.Laws.{TreesAreNamed, BelongsByTree}
 use Rattle.text_laws.proofs.NameRuns.{Fine}
 use Rattle.text_laws.proofs.Splits.{says}
 use Rattle.text_laws.proofs.NamesOfParts.{PartSays, Programs, part_says}
@@ -68,3 +68,9 @@ trees_are_named ls p t =
       λ a. subst P (sym t.is) (named_with (names_in ls) t.found t.main (names_of_program (grammar_tokens ls) t.found t.main t.program a)),
       λ a. names_of_tokens (grammar_tokens ls) t.found t.main t.program (named_without (names_in ls) t.found t.main (subst P t.is a)),
     )
+
+pub belongs_by_tree : BelongsByTree
+belongs_by_tree ls p = (
+  λ b. record { is_tree = b.is_tree; shallow = b.shallow; named = (trees_are_named ls p b.is_tree).0 b.named },
+  λ t. record { is_tree = t.is_tree; shallow = t.shallow; named = (trees_are_named ls p t.is_tree).1 t.named },
+)

@@ -6,6 +6,7 @@ use Rattle.delta_parse.specs.declared.fault.ParseFault.{ParseFault}
 use Rattle.delta_parse.specs.declared.fault.ParseFault.TheVariants.{Memory}
 use Rattle.delta_parse.specs.Plain.{grammar_tokens}
 use Rattle.delta_parse.specs.Programs.{IsTreeOf}
+use Rattle.delta_parse.specs.Marks.{IsShallow}
 use Rattle.delta_parse.specs.Bindings.{AreNamed}
 use Rattle.delta_parse.specs.Causes.{Belongs, IsCause}
 use Rattle.delta_end.specs.declared.refusal.Refusal.{Refusal}
@@ -26,3 +27,13 @@ TextsAreJudged = (text : List ℕ) → ((p : ProgramTree) × IsTextOf text p) �
 abbrev pub TreesAreNamed : Type 0
 TreesAreNamed = (ls : List Lexeme) (p : ProgramTree) → IsTreeOf ls p
     → AreNamed (grammar_tokens ls) (length (grammar_tokens ls)) ↔ IsNamedProgram p.declarations p.main
+
+-- the tokens have the tree by the grammar, none of them has more than 64 open marks before it, and the tree's names are apart and few
+pub record IsProgramOfTree (ls : List Lexeme) (p : ProgramTree) : Type 0 where
+  pub is_tree : IsTreeOf ls p
+  pub shallow : IsShallow (grammar_tokens ls) (length (grammar_tokens ls))
+  pub named : IsNamedProgram p.declarations p.main
+
+-- tokens belong to a program exactly where that is so: what is said of names token by token is said of the tree
+abbrev pub BelongsByTree : Type 0
+BelongsByTree = (ls : List Lexeme) (p : ProgramTree) → Belongs ls p ↔ IsProgramOfTree ls p
