@@ -1,0 +1,9 @@
+-- The lemmas.
+pub mod NodeNumbers
+pub mod NodesOfTokens
+pub mod FaultNodes
+pub mod NameCounts
+pub mod Judging
+pub mod KeptNames
+pub mod KeptCores
+pub mod ReadAgain
