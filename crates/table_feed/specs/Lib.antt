@@ -1,0 +1,7 @@
+-- Definitions that the contracts cite.
+pub mod RowType
+pub mod Tables
+pub mod Rows
+pub mod Mixing
+pub mod Room
+pub mod Laws

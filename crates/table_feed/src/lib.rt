@@ -1,0 +1,15 @@
+//! Tables for programs: files of comma-separated numbers read as whole prefixes, words of several tables mixed into
+//! one in an order that a schedule says, and whole tables written.
+#![tactic(auto)]
+
+mod fault;
+pub mod laws;
+mod mixing;
+mod number;
+mod reading;
+mod writing;
+
+pub use fault::FeedFault;
+pub use mixing::mixed;
+pub use reading::table;
+pub use writing::rows_text;
