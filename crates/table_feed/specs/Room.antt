@@ -1,7 +1,8 @@
--- What private clauses cite of the steps that lead to a word among several.
-use Rattle.std.specs.Prelude.{ℕ, zero, suc, ◌+◌, ◌≤◌, Bool, true, false, List, [], ◌∷◌, length, All, ⊤, if◌then◌else◌}
+-- What private clauses cite of the steps that lead to a word among several, and of what is still to come.
+use Rattle.std.specs.Prelude.{ℕ, zero, suc, ◌+◌, ◌≤◌, Bool, true, false, List, [], ◌∷◌, ◌++◌, length, All, ⊤, if◌then◌else◌}
 use Rattle.event_word.specs.declared.event.Step.TheVariants.{Left, Right}
 use Rattle.event_word.specs.StreamEvent.{StreamEvent, under}
+use Rattle.table_feed.specs.Mixing.{rounds, in_order}
 
 -- an event under so many steps to the right
 abbrev pub right_by : ℕ → StreamEvent → StreamEvent
@@ -21,3 +22,7 @@ abbrev pub HasRoom : ℕ → List (List StreamEvent) → Type 0
 HasRoom depth [] = ⊤
 HasRoom depth (w ∷ []) = HasSteps depth w
 HasRoom depth (w ∷ v ∷ ws) = HasSteps (depth + 1) w × HasRoom (depth + 1) (v ∷ ws)
+
+-- what comes in so many rounds and then in order
+abbrev pub rest_of : ℕ → List ℕ → List (List StreamEvent) → List StreamEvent
+rest_of n schedule ws = (rounds n schedule ws).events ++ in_order (rounds n schedule ws).left

@@ -5,7 +5,7 @@ ghost use Rattle.stream_type.specs.StreamType.{type_of, reach_of};
 ghost use Rattle.event_word.specs.StreamEvent.{under};
 ghost use Rattle.event_word.specs.Word.{IsWord, pre};
 ghost use Rattle.table_feed.specs.Mixing.{AreWords, pre_beside, next_of, take_at, in_order, rounds, longest, mixed_word};
-ghost use Rattle.table_feed.specs.Room.{right_by, placed, HasRoom};
+ghost use Rattle.table_feed.specs.Room.{right_by, placed, HasRoom, rest_of};
 
 use event_word::{Event, Step};
 use std::alloc::Global;
@@ -32,13 +32,7 @@ pub fn mixed(
         left.push(word.as_slice())?;
     }
     let mut mixed = Vec::new(alloc);
-    for _ in 0..most_events(words) {
-        let before = mixed.len();
-        take_round(&mut left, schedule, &mut mixed)?;
-        if mixed.len() == before {
-            break;
-        }
-    }
+    take_rounds(&mut left, schedule, &mut mixed, most_events(words))?;
     append_in_order(&mut mixed, &left, 0)?;
     Ok(mixed)
 }
@@ -51,6 +45,29 @@ fn most_events(words: &[Vec<Event>]) -> usize
         None => 0,
         Some((word, rest)) => word.len().max(most_events(rest)),
     }
+}
+
+// So many rounds of the schedule, or as many as take something.
+fn take_rounds(
+    left: &mut Vec<&[Event]>,
+    schedule: &[u32],
+    mixed: &mut Vec<Event>,
+    most: usize,
+) -> Result<(), Memory>
+    requires room { HasRoom 0 (map (λ w. w.now) left.old.items) }
+    requires numbers { All (λ i. i < length left.old.items) schedule.now }
+    ensures events { OnOk result (mixed.new.items ++ in_order (map (λ w. w.now) left.new.items) ≡ mixed.old.items ++ rest_of most schedule.now (map (λ w. w.now) left.old.items)) }
+    ensures room { OnOk result (HasRoom 0 (map (λ w. w.now) left.new.items)) }
+    ensures len { OnOk result (length left.new.items ≡ length left.old.items) }
+{
+    for _round in 0..most {
+        let before = mixed.len();
+        take_round(left, schedule, mixed)?;
+        if mixed.len() == before {
+            return Ok(());
+        }
+    }
+    Ok(())
 }
 
 // The events at the numbers of the schedule, in turn.
@@ -103,7 +120,7 @@ fn place(event: Event, depth: usize, is_last: bool) -> Event
     } else {
         under(event, Step::Left)
     };
-    for _ in 0..depth {
+    for _step in 0..depth {
         placed = under(placed, Step::Right);
     }
     placed
