@@ -4,15 +4,16 @@ use Rattle.std.specs.Prelude.{All, IfSome, option_map, slice_get, ◌==◌, if�
 use Rattle.std.proofs.Math.ListN.{set}
 use Rattle.std.proofs.lemmas.Bool.{cases_Bool}
 use Rattle.std.proofs.lemmas.Bool.Decides.{nat_tests}
-use Rattle.std.proofs.lemmas.List.{append-nil, map-append}
+use Rattle.std.proofs.lemmas.List.{append-nil, map-append, map-set, length-map}
 use Rattle.std.proofs.lemmas.Simd.{map-map}
+use Rattle.std.proofs.lemmas.Option.{slice_get-map, slice_get_read}
 use Rattle.std.proofs.lemmas.List.Elements.{All-nil, All-cons, All-head, All-tail, All-weaker}
 use Rattle.stream_type.specs.StreamType.{StreamType, par, reach_of}
 use Rattle.event_word.specs.declared.event.Step.TheVariants.{Left, Right}
 use Rattle.event_word.specs.StreamEvent.{StreamEvent, under}
 use Rattle.event_word.specs.Word.{IsWord}
 use Rattle.event_word.proofs.Reaches.{word_within}
-use Rattle.table_feed.specs.Mixing.{AreWords, next_of, take_or_pass, take_at, rounds, in_order, longest}
+use Rattle.table_feed.specs.Mixing.{AreWords, next_of, before, take_or_pass, take_at, rounds, in_order}
 use Rattle.table_feed.specs.Room.{right_by, placed, HasSteps, HasRoom, rest_of}
 
 -- a step to the right may come before the others or after them
@@ -165,3 +166,37 @@ idle_rest (suc n) schedule ws e =
 pub round_rest : (n : ℕ) (schedule : List ℕ) (ws : List (List StreamEvent)) → rest_of (suc n) schedule ws ≡ (take_at schedule ws).events ++ rest_of n schedule (take_at schedule ws).left
 round_rest n schedule ws =
     append_assoc (take_at schedule ws).events (rounds n schedule (take_at schedule ws).left).events (in_order (rounds n schedule (take_at schedule ws).left).left)
+
+-- a word by its number, where the words stand for other things
+pub at_number : {A B : Type 0} (f : A → B) (xs : List A) (i : ℕ) (x : A) → i < length xs → x ≡ get_or xs i x → slice_get (map f xs) i ≡ Some (f x)
+at_number f xs i x l e = slice_get-map f xs i ∙ ap (option_map f) (slice_get_read xs (length xs) i x refl l e)
+
+strip : (b : Bool) (i m : ℕ) → (if b then 0 + i else 0 + i + 1) + m ≤ 63 → (if b then i else i + 1) + m ≤ 63
+strip true i m h = omega (arith, h)
+strip false i m h = omega (arith, h)
+
+-- the next event of a word has room for its steps
+pub take_room : (i n : ℕ) (ws : List (List StreamEvent)) (x : StreamEvent) (w : List StreamEvent) → n ≡ length ws → HasRoom 0 ws → slice_get ws i ≡ Some (x ∷ w)
+    → (if i + 1 == n then i else i + 1) + length x.path ≤ 63
+take_room i n ws x w e h g =
+    let last : (i + 1 == n) ≡ (i + 1 == length ws) = ap (λ (m : ℕ). i + 1 == m) e in
+    strip (i + 1 == n) i (length x.path) (room_at i 0 ws (i + 1 == n) x w h (told_last i (length ws) (i + 1 == n) last) g)
+
+-- what it is, and what it leaves
+pub take_next : {A : Type 0} (f : A → List StreamEvent) (i n : ℕ) (xs : List A) (x y : StreamEvent) (a : A) (w : List StreamEvent) → n ≡ length xs → slice_get (map f xs) i ≡ Some (x ∷ w)
+    → y ≡ placed i (i + 1 == n) x → f a ≡ w → next_of i (map f xs) ≡ Some (y, map f (set xs i a))
+take_next f i n xs x y a w e g is left =
+    let last : (i + 1 == n) ≡ (i + 1 == length (map f xs)) = ap (λ (m : ℕ). i + 1 == m) (e ∙ sym (length-map xs f)) in
+    let next = next_at i (map f xs) (i + 1 == n) x w (told_last i (length (map f xs)) (i + 1 == n) last) g in
+    next ∙ ap₂ (λ (z : StreamEvent) (vs : List (List StreamEvent)). Some (z, vs)) (sym is) (ap (set (map f xs) i) (sym left) ∙ sym (map-set f xs i a))
+
+-- what is left has room
+pub left_room : (i : ℕ) (ws : List (List StreamEvent)) (x : StreamEvent) (rest : List (List StreamEvent)) → HasRoom 0 ws → next_of i ws ≡ Some (x, rest) → HasRoom 0 rest
+left_room i ws x rest h e = (subst (λ o. IfSome o (λ next. StillHasRoom 0 ws next.1)) e (next_has_room i 0 ws h)).room
+
+-- an event comes before what comes at later numbers
+pub taken_events : (i : ℕ) (later : List ℕ) (ws rest : List (List StreamEvent)) (x : StreamEvent) → next_of i ws ≡ Some (x, rest) → take_at (i ∷ later) ws ≡ before x (take_at later rest)
+taken_events i later ws rest x e = ap (λ o. take_or_pass (take_at later) o ws) e
+
+pub passed_events : (i : ℕ) (later : List ℕ) (ws : List (List StreamEvent)) → next_of i ws ≡ None → take_at (i ∷ later) ws ≡ take_at later ws
+passed_events i later ws e = ap (λ o. take_or_pass (take_at later) o ws) e

@@ -1,7 +1,7 @@
 -- The types of tables.
 --
 -- A table is a stream of rows, and a row has as many numbers as the table has columns, one after another.
-use Rattle.std.specs.Prelude.{ℕ, zero, suc, ◌+◌, ◌≡◌, ◌≤◌, List, [], ◌∷◌}
+use Rattle.std.specs.Prelude.{ℕ, zero, suc, ◌+◌, ◌≡◌, ◌≤◌, List, [], ◌∷◌, ⊤}
 use Rattle.stream_type.specs.StreamType.{StreamType, eps, one, int, cat, par, sum, star}
 
 -- a row of so many columns: as many times `Int`, joined by `.` and grouped to the right; there is none without
@@ -15,13 +15,15 @@ item_type (suc (suc more)) = cat int (item_type (suc more))
 abbrev pub row_type : ℕ → StreamType
 row_type columns = star (item_type columns)
 
--- the type is that of a row of one column or more
-abbrev pub IsItemType : StreamType → Type 0
-IsItemType s = (columns : ℕ) × (1 ≤ columns) × (s ≡ item_type columns)
-
 -- the type is that of a table of one column or more
 abbrev pub IsRowType : StreamType → Type 0
 IsRowType s = (columns : ℕ) × (1 ≤ columns) × (s ≡ row_type columns)
+
+-- the type is that of a row of one column or more, told by its form
+abbrev pub IsItemType : StreamType → Type 0
+IsItemType int = ⊤
+IsItemType (cat int s) = IsItemType s
+IsItemType s = ⊥
 
 -- how many numbers a row of a type has
 abbrev pub item_columns : StreamType → ℕ

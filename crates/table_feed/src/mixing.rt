@@ -1,6 +1,6 @@
 //! Words mixed into one.
 
-ghost use Rattle.std.specs.Prelude.{◌≡◌, ◌+◌, ◌<◌, ◌≤◌, ◌^◌, ◌++◌, IfOk, OnOk, IfSome, IsNone, Some, None, All, length, map, option_map, Bool, if◌then◌else◌};
+ghost use Rattle.std.specs.Prelude.{ℕ, List, ◌∷◌, ◌≡◌, ◌+◌, ◌<◌, ◌≤◌, ◌^◌, ◌++◌, IfOk, OnOk, IfSome, IsNone, Some, None, All, length, map, option_map, Bool, if◌then◌else◌};
 ghost use Rattle.stream_type.specs.StreamType.{type_of, reach_of};
 ghost use Rattle.event_word.specs.StreamEvent.{under};
 ghost use Rattle.event_word.specs.Word.{IsWord, pre};
@@ -60,7 +60,7 @@ fn take_rounds(
     ensures room { OnOk result (HasRoom 0 (map (λ w. w.now) left.new.items)) }
     ensures len { OnOk result (length left.new.items ≡ length left.old.items) }
 {
-    for _round in 0..most {
+    for round in 0..most {
         let before = mixed.len();
         take_round(left, schedule, mixed)?;
         if mixed.len() == before {
@@ -84,11 +84,28 @@ fn take_round(
     ensures len { OnOk result (length left.new.items ≡ length left.old.items) }
 {
     for number in schedule {
-        if let Some(event) = take(left, *number as usize) {
-            mixed.push(event)?;
-        }
+        take_into(left, *number as usize, mixed)?;
     }
     Ok(())
+}
+
+// The next event of a word behind those that came, if the word isn't used up.
+fn take_into(
+    left: &mut Vec<&[Event]>,
+    number: usize,
+    mixed: &mut Vec<Event>,
+) -> Result<(), Memory>
+    requires room { HasRoom 0 (map (λ w. w.now) left.old.items) }
+    requires number { number < length left.old.items }
+    ensures events { OnOk result ((later : List ℕ) → mixed.new.items ++ (take_at later (map (λ w. w.now) left.new.items)).events ≡ mixed.old.items ++ (take_at (number ∷ later) (map (λ w. w.now) left.old.items)).events) }
+    ensures left { OnOk result ((later : List ℕ) → (take_at later (map (λ w. w.now) left.new.items)).left ≡ (take_at (number ∷ later) (map (λ w. w.now) left.old.items)).left) }
+    ensures room { OnOk result (HasRoom 0 (map (λ w. w.now) left.new.items)) }
+    ensures len { OnOk result (length left.new.items ≡ length left.old.items) }
+{
+    match take(left, number) {
+        None => Ok(()),
+        Some(event) => Ok(mixed.push(event)?),
+    }
 }
 
 // The next event of a word, if it isn't used up.
@@ -120,7 +137,7 @@ fn place(event: Event, depth: usize, is_last: bool) -> Event
     } else {
         under(event, Step::Left)
     };
-    for _step in 0..depth {
+    for step in 0..depth {
         placed = under(placed, Step::Right);
     }
     placed

@@ -1,13 +1,14 @@
 //! Files read as tables.
 
-ghost use Rattle.std.specs.Prelude.{◌≡◌, ◌⊎◌, ◌<◌, ◌^◌, IfOk, IfErr, OnOk, Some, None, [], ◌∷◌, length, drop, map, option_map};
+ghost use Rattle.std.specs.Prelude.{◌≡◌, ◌⊎◌, ◌<◌, ◌≤◌, ◌+◌, ◌^◌, ◌==◌, ◌++◌, IfOk, IfErr, OnOk, Some, None, [], ◌∷◌, length, drop, option_map};
 ghost use Rattle.csv.specs.Records.{fields_of};
-ghost use Rattle.stream_type.specs.StreamType.{type_of};
+ghost use Rattle.stream_type.specs.StreamType.{type_of, star};
 ghost use Rattle.stream_prefix.specs.StreamPrefix.{cat_both, int_full};
 ghost use Rattle.stream_prefix.specs.Tree.{prefix_of};
 ghost use Rattle.hist_value.specs.Wholes.{full};
 ghost use Rattle.table_feed.specs.RowType.{IsRowType, IsItemType, item_columns, columns_of};
-ghost use Rattle.table_feed.specs.Tables.{number_of, numbers_of, row_value, table_of, table_value, bad_column, record_fault, table_fault};
+ghost use Rattle.table_feed.specs.Tables.{records_of, numbers_of, row_value, table_of, table_value, bad_column, record_fault, records_fault, table_fault};
+ghost use Rattle.table_feed.specs.Fields.{HasFirst};
 ghost use Rattle.table_feed.specs.declared.fault.FeedFault.TheVariants.{Memory as IsMemory, BadNumber};
 
 use crate::fault::FeedFault;
@@ -20,11 +21,12 @@ use stream_type::{Memory, Ty};
 /// The most bytes that a file may have.
 const MOST: usize = 1_048_576;
 
-/// Where a record stands.
+/// Where a field stands.
 #[derive(Clone, Copy)]
 struct Place {
     file: u32,
     row: u32,
+    column: u32,
 }
 
 /// The table in the bytes of a file, as the whole prefix of its type: `full` of `table_value` of `specs/Tables.antt`.
@@ -47,7 +49,13 @@ pub fn table(alloc: Global, t: &Ty, file: u32, bytes: &[u8]) -> Result<Prefix, F
 }
 
 // The rows of a file that isn't too long.
-fn read_rows(alloc: Global, item: &Ty, file: u32, bytes: &[u8]) -> Result<Prefix, FeedFault> {
+fn read_rows(alloc: Global, item: &Ty, file: u32, bytes: &[u8]) -> Result<Prefix, FeedFault>
+    requires item { IsItemType (type_of item.now) }
+    requires bytes { length bytes.now ≤ 1048576 }
+    ensures table { IfOk result (λ p. prefix_of p ≡ full (star (type_of item.now)) (table_value (table_of bytes.now))) }
+    ensures good { OnOk result (records_fault (item_columns (type_of item.now)) file 0 (records_of bytes.now) ≡ None) }
+    ensures fault { IfErr result (λ e. (e ≡ IsMemory) ⊎ (records_fault (item_columns (type_of item.now)) file 0 (records_of bytes.now) ≡ Some e)) }
+{
     let records = ReaderBuilder::new()
         .has_headers(false)
         .flexible(true)
@@ -58,37 +66,48 @@ fn read_rows(alloc: Global, item: &Ty, file: u32, bytes: &[u8]) -> Result<Prefix
         let Ok(record) = record else {
             return Err(FeedFault::Memory);
         };
-        let place = Place {
-            file,
-            row: rows.len() as u32,
-        };
-        let row = read_row(alloc, item, &record, place)?;
+        let row = read_row(alloc, item, &record, file, rows.len() as u32)?;
         push(&mut rows, row)?;
     }
     Ok(Prefix::Star(rows, StarEnd::Done))
 }
 
 // One row more.
-fn push(rows: &mut Vec<Prefix>, row: Prefix) -> Result<(), Memory> {
+fn push(rows: &mut Vec<Prefix>, row: Prefix) -> Result<(), Memory>
+    ensures { OnOk result (rows.new.items ≡ rows.old.items ++ row ∷ []) }
+{
     Ok(rows.push(row)?)
 }
 
 // A record as a row.
-fn read_row(alloc: Global, item: &Ty, record: &ByteRecord, place: Place) -> Result<Prefix, FeedFault> {
+fn read_row(
+    alloc: Global,
+    item: &Ty,
+    record: &ByteRecord,
+    file: u32,
+    row: u32,
+) -> Result<Prefix, FeedFault>
+    requires item { IsItemType (type_of item.now) }
+    requires few { length (fields_of record.now) < 2 ^ 32 }
+    ensures row { IfOk result (λ p. prefix_of p ≡ full (type_of item.now) (row_value (numbers_of (fields_of record.now)))) }
+    ensures good { OnOk result (record_fault (item_columns (type_of item.now)) file row (fields_of record.now) ≡ None) }
+    ensures fault { IfErr result (λ e. (e ≡ IsMemory) ⊎ (record_fault (item_columns (type_of item.now)) file row (fields_of record.now) ≡ Some e)) }
+{
     if !has_columns(item, record.len()) {
-        return Err(FeedFault::Ragged {
-            file: place.file,
-            row: place.row,
-        });
+        return Err(FeedFault::Ragged { file, row });
     }
-    read_item(alloc, item, record, 0, place)
+    read_item(alloc, item, record, Place { file, row, column: 0 })
 }
 
 // Whether a row of the type has so many numbers.
-fn has_columns(item: &Ty, columns: usize) -> bool {
+fn has_columns(item: &Ty, columns: usize) -> bool
+    requires { IsItemType (type_of item.now) }
+    ensures { result ≡ (columns == item_columns (type_of item.now)) }
+{
     match item {
+        Ty::Int => columns == 1,
         Ty::Cat(_, rest) => columns > 0 && has_columns(rest, columns - 1),
-        _ => columns == 1,
+        _ => unreachable!(),
     }
 }
 
@@ -97,28 +116,46 @@ fn read_item(
     alloc: Global,
     item: &Ty,
     record: &ByteRecord,
-    column: usize,
     place: Place,
-) -> Result<Prefix, FeedFault> {
-    let number = read_number(record, column, place)?;
+) -> Result<Prefix, FeedFault>
+    requires item { IsItemType (type_of item.now) }
+    requires columns { length (drop place.column (fields_of record.now)) ≡ item_columns (type_of item.now) }
+    requires few { length (fields_of record.now) < 2 ^ 32 }
+    ensures row { IfOk result (λ p. prefix_of p ≡ full (type_of item.now) (row_value (numbers_of (drop place.column (fields_of record.now))))) }
+    ensures good { OnOk result (bad_column place.column (drop place.column (fields_of record.now)) ≡ None) }
+    ensures fault { IfErr result (λ e. (e ≡ IsMemory) ⊎ (option_map (λ column. BadNumber place.file place.row column) (bad_column place.column (drop place.column (fields_of record.now))) ≡ Some e)) }
+{
+    let number = read_number(record, place)?;
     match item {
+        Ty::Int => Ok(Prefix::IntFull(number)),
         Ty::Cat(_, rest) => {
-            let rest = read_item(alloc, rest, record, column + 1, place)?;
+            let next = Place {
+                column: place.column + 1,
+                ..place
+            };
+            let rest = read_item(alloc, rest, record, next)?;
             Ok(before(alloc, number, rest)?)
         }
-        _ => Ok(Prefix::IntFull(number)),
+        _ => unreachable!(),
     }
 }
 
 // The number in a column.
-fn read_number(record: &ByteRecord, column: usize, place: Place) -> Result<i64, FeedFault> {
-    match record.get(column) {
+fn read_number(record: &ByteRecord, place: Place) -> Result<i64, FeedFault>
+    requires { place.column < length (fields_of record.now) }
+    ensures number { IfOk result (λ n. HasFirst (drop place.column (fields_of record.now)) (Some n) (drop (place.column + 1) (fields_of record.now))) }
+    ensures fault { IfErr result (λ e. (e ≡ BadNumber place.file place.row place.column) × HasFirst (drop place.column (fields_of record.now)) None (drop (place.column + 1) (fields_of record.now))) }
+{
+    match record.get(place.column as usize) {
         None => unreachable!(),
-        Some(field) => number(field).ok_or(FeedFault::BadNumber {
-            file: place.file,
-            row: place.row,
-            column: column as u32,
-        }),
+        Some(field) => match number(field) {
+            Some(number) => Ok(number),
+            None => Err(FeedFault::BadNumber {
+                file: place.file,
+                row: place.row,
+                column: place.column,
+            }),
+        },
     }
 }
 
