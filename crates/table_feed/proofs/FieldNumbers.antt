@@ -13,7 +13,7 @@ use Rattle.std.proofs.lemmas.Str.Parse.{parse_signed_minus, parse_signed_plain, 
 use Rattle.event_word.specs.declared.event.Leaf.{Leaf}
 use Rattle.event_word.specs.declared.event.Leaf.TheVariants.{Int}
 use Rattle.event_text.specs.Reading.{is_number, number_leaf}
-use Rattle.event_text.proofs.Numbers.{own, number_too_big, number_text}
+use Rattle.event_text.proofs.Numbers.{own, some_digits as digits_of, number_too_big, number_text}
 use Rattle.table_feed.specs.Tables.{number_in, number_of}
 
 -- a field that is no number
@@ -37,6 +37,22 @@ not_read w e h = elim (cases_Bool (is_number w)) [
   | inl is ↦ let none = number_too_big w e is h in rw (is, none) refl
   | inr not ↦ not_number w not
 ]
+
+-- a field with a plus in front
+pub plus_in_front : (w : List ℕ) → (get_or w 0 0 == 43) ≡ true → number_of w ≡ None
+plus_in_front w plus =
+    let first : get_or w 0 0 ≡ 43 = eqb-true (get_or w 0 0) 43 plus in
+    let no_minus : starts_with_minus w ≡ false = grind (arith, nat_tests) in
+    elim (cases_Bool (is_number w)) [
+      | inl is ↦
+          let digits = digits_of w (rw no_minus at is) in
+          let range = digit_at w 0 (own.to w digits.0) digits.1 in
+          absurd (omega (arith, first, range))
+      | inr not ↦ not_number w not
+    ]
+
+pub no_plus_in_front : (w : List ℕ) → (get_or w 0 0 == 43) ≡ false → get_or w 0 0 ≢ 43
+no_plus_in_front w other e = grind (arith, nat_tests)
 
 some_digits : (ds : List ℕ) → all_ascii_digits ds ≡ true → 0 < length ds → (nat_lt 0 (length ds) && all_ascii_digits ds) ≡ true
 some_digits ds is some = grind (arith, nat_tests)

@@ -1,5 +1,5 @@
 -- The steps that lead to a word among several, and the room for them.
-use Rattle.std.proofs.Common.{◌≡◌, ◌≢◌, ℕ, zero, suc, ◌+◌, ◌-◌, ◌<◌, ◌≤◌, max, Bool, true, false, List, [], ◌∷◌, ◌++◌, map, length, get_or, Option, Some, None, refl, sym, ap, ap₂, ◌∙◌, append_assoc, subst, arith}
+use Rattle.std.proofs.Common.{◌≡◌, ◌≢◌, ℕ, zero, suc, ◌+◌, ◌-◌, ◌<◌, ◌≤◌, max, Bool, true, false, List, [], ◌∷◌, ◌++◌, map, length, get_or, Option, Some, None, refl, sym, ap, ap₂, ◌∙◌, append_assoc, length-append, subst, arith}
 use Rattle.std.specs.Prelude.{All, IfSome, option_map, slice_get, ◌==◌, if◌then◌else◌}
 use Rattle.std.proofs.Math.ListN.{set}
 use Rattle.std.proofs.lemmas.Bool.{cases_Bool}
@@ -200,3 +200,39 @@ taken_events i later ws rest x e = ap (λ o. take_or_pass (take_at later) o ws) 
 
 pub passed_events : (i : ℕ) (later : List ℕ) (ws : List (List StreamEvent)) → next_of i ws ≡ None → take_at (i ∷ later) ws ≡ take_at later ws
 passed_events i later ws e = ap (λ o. take_or_pass (take_at later) o ws) e
+
+-- one step more to the right has room
+pub room_left : (last : Bool) (depth step : ℕ) (event at_step : StreamEvent) → step < depth → (if last then depth else depth + 1) + length event.path ≤ 63
+    → at_step ≡ right_by step (if last then event else under Left event) → length at_step.path < 63
+room_left true depth step event at_step l h e = omega (arith, l, h, length-right_by step event, ap (λ (x : StreamEvent). length x.path) e)
+room_left false depth step event at_step l h e = omega (arith, l, h, length-right_by step (under Left event), ap (λ (x : StreamEvent). length x.path) e)
+
+-- a word with none behind it is the last
+pub told_empty : (last : Bool) (n m : ℕ) → last ≡ (n == 0) → m ≡ suc n → IsLast 0 m last
+told_empty true n m e k = is_last (grind (arith, nat_tests))
+told_empty false n m e k = not_last (grind (arith, nat_tests))
+
+none_longer : (a events : List StreamEvent) → length (a ++ events) ≡ length a → events ≡ []
+none_longer a [] e = refl
+none_longer a (x ∷ events) e = absurd (omega (arith, e, length-append a (x ∷ events)))
+
+-- a round that took nothing leaves what is still to come, in order
+pub idle_round : (a b : List StreamEvent) (schedule : List ℕ) (ws vs : List (List StreamEvent)) (n : ℕ) → b ≡ a ++ (take_at schedule ws).events → length b ≡ length a → vs ≡ (take_at schedule ws).left
+    → b ++ in_order vs ≡ a ++ rest_of n schedule ws
+idle_round a b schedule ws vs n e l f =
+    let none : (take_at schedule ws).events ≡ [] = none_longer a (take_at schedule ws).events (ap length (sym e) ∙ l) in
+    ap₂ (λ (xs : List StreamEvent) (us : List (List StreamEvent)). xs ++ in_order us) (e ∙ ap (λ (xs : List StreamEvent). a ++ xs) none ∙ append-nil a) (f ∙ idle schedule ws none)
+    ∙ ap (λ (xs : List StreamEvent). a ++ xs) (sym (idle_rest n schedule ws none))
+
+-- what a round took, and what is still to come
+pub round_more : (a b : List StreamEvent) (schedule : List ℕ) (ws vs : List (List StreamEvent)) (n k : ℕ) → n ≡ suc k → b ≡ a ++ (take_at schedule ws).events → vs ≡ (take_at schedule ws).left
+    → b ++ rest_of k schedule vs ≡ a ++ rest_of n schedule ws
+round_more a b schedule ws vs n k m e f =
+    ap₂ (λ (xs : List StreamEvent) (us : List (List StreamEvent)). xs ++ rest_of k schedule us) e f
+    ∙ append_assoc a (take_at schedule ws).events (rest_of k schedule (take_at schedule ws).left)
+    ∙ ap (λ (xs : List StreamEvent). a ++ xs) (sym (round_rest k schedule ws) ∙ ap (λ (i : ℕ). rest_of i schedule ws) (sym m))
+
+-- no step to the right changes nothing
+pub map-right_by : (xs : List StreamEvent) → map (right_by 0) xs ≡ xs
+map-right_by [] = refl
+map-right_by (x ∷ xs) = ap (λ (ys : List StreamEvent). x ∷ ys) (map-right_by xs)

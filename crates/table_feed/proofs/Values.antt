@@ -1,5 +1,5 @@
 -- Tables as values and as whole prefixes.
-use Rattle.std.proofs.Common.{◌≡◌, ℕ, zero, suc, ◌+◌, ◌<◌, ◌≤◌, Bool, true, false, List, [], ◌∷◌, ◌++◌, map, length, Option, Some, None, refl, sym, ap, ap₂, ◌∙◌, inl, inr, arith}
+use Rattle.std.proofs.Common.{◌≡◌, ℕ, zero, suc, ◌+◌, ◌<◌, ◌≤◌, Bool, true, false, List, [], ◌∷◌, ◌++◌, map, drop, length, length-drop, Option, Some, None, refl, sym, ap, ap₂, ◌∙◌, inl, inr, arith}
 use Rattle.std.proofs.lemmas.List.{length-map}
 use Rattle.std.specs.Prelude.{ℤ, option_map, is_some, nat_le, ◌==◌, if◌then◌else◌}
 use Rattle.std.proofs.lemmas.Bool.{cases_Bool, eqb-true}
@@ -36,6 +36,20 @@ some_columns int = omega arith
 some_columns (par s t) = omega arith
 some_columns (sum s t) = omega arith
 some_columns (star s) = omega arith
+
+-- so a row that is left begins within its record
+pub column_within : (s : StreamType) (fields : List (List ℕ)) (i : ℕ) → length (drop i fields) ≡ item_columns s → i < length fields
+column_within s fields i e = omega (arith, e, length-drop i fields, some_columns s)
+
+-- a row of several numbers begins with one
+pub first_is_int : (s t : StreamType) → IsItemType (cat s t) → s ≡ int
+first_is_int int t h = refl
+first_is_int eps t h = absurd h
+first_is_int one t h = absurd h
+first_is_int (cat a b) t h = absurd h
+first_is_int (par a b) t h = absurd h
+first_is_int (sum a b) t h = absurd h
+first_is_int (star a) t h = absurd h
 
 -- the last number of a row
 pub last_number : (fields behind : List (List ℕ)) (n : ℤ) → HasFirst fields (Some n) behind → length fields ≡ 1 → full int (row_value (numbers_of fields)) ≡ int_full n

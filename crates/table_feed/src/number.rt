@@ -1,6 +1,6 @@
 //! A field as a number.
 
-ghost use Rattle.std.specs.Prelude.{◌≡◌};
+ghost use Rattle.std.specs.Prelude.{◌≡◌, ◌==◌, get_or};
 ghost use Rattle.table_feed.specs.Tables.{number_of};
 
 use std::str;
@@ -10,7 +10,7 @@ pub(crate) fn number(field: &[u8]) -> Option<i64>
     ensures { result ≡ number_of field.now }
 {
     // A plus may stand before a number in Rust, and may not in a field.
-    if let [b'+', ..] = field {
+    if begins_with_plus(field) {
         return None;
     }
     let Ok(text) = str::from_utf8(field) else {
@@ -19,5 +19,14 @@ pub(crate) fn number(field: &[u8]) -> Option<i64>
     match text.parse() {
         Ok(number) => Some(number),
         Err(_) => None,
+    }
+}
+
+fn begins_with_plus(field: &[u8]) -> bool
+    ensures { result ≡ (get_or field.now 0 0 == 43) }
+{
+    match field.split_first() {
+        None => false,
+        Some((byte, _)) => *byte == b'+',
     }
 }

@@ -1,5 +1,5 @@
 -- The word by its number, and what its first event leaves of the words.
-use Rattle.std.proofs.Common.{◌≡◌, List, [], ◌∷◌, Some, map, length, ap, ◌∙◌, sym, refl}
+use Rattle.std.proofs.Common.{◌≡◌, List, [], ◌∷◌, Some, map, length, ap, ◌∙◌, sym, refl, rules}
 use Rattle.std.specs.Prelude.{slice_get}
 use Rattle.std.proofs.lemmas.List.{length-map, nil_from_length}
 use Rattle.event_word.specs.StreamEvent.{StreamEvent}
@@ -9,7 +9,8 @@ use Rattle.table_feed.proofs.mixing.take.Goals as goal
 pub place-requires : goal.place-requires
 place-requires c =
     let here = at_number (λ w. w.now) c.args.left.now.items c.args.number c.index.result.now c.requires.number c.index.ensures in
-    take_room c.args.number c.len.result (map (λ w. w.now) c.args.left.now.items) c.in-Some.event.now c.in-Some.rest.now (c.len.ensures ∙ sym (length-map c.args.left.now.items (λ w. w.now))) c.requires.room (here ∙ ap Some c.in-Some.ensures.cases)
+    let count : c.len.result ≡ length c.args.left.now.items = search rules in
+    take_room c.args.number c.len.result (map (λ w. w.now) c.args.left.now.items) c.in-Some.event.now c.in-Some.rest.now (count ∙ sym (length-map c.args.left.now.items (λ w. w.now))) c.requires.room (here ∙ ap Some c.in-Some.ensures.cases.0)
 
 pub returns-in-None-clause-none : goal.returns-in-None-clause-none
 returns-in-None-clause-none c none =
@@ -19,10 +20,12 @@ returns-in-None-clause-none c none =
 pub returns-in-Some-clause-event : goal.returns-in-Some-clause-event
 returns-in-Some-clause-event c =
     let here = at_number (λ w. w.now) c.args.left.now.items c.args.number c.index.result.now c.requires.number c.index.ensures in
-    take_next (λ w. w.now) c.args.number c.len.result c.args.left.now.items c.in-Some.event.now c.place.result c.in-Some.rest c.in-Some.rest.now c.len.ensures (here ∙ ap Some c.in-Some.ensures.cases) c.place.ensures refl
+    let count : c.len.result ≡ length c.args.left.now.items = search rules in
+    take_next (λ w. w.now) c.args.number c.len.result c.args.left.now.items c.in-Some.event.now c.place.result c.in-Some.rest c.in-Some.rest.now count (here ∙ ap Some c.in-Some.ensures.cases.0) c.place.ensures refl
 
 pub returns-in-Some-clause-room : goal.returns-in-Some-clause-room
 returns-in-Some-clause-room c =
     let here = at_number (λ w. w.now) c.args.left.now.items c.args.number c.index.result.now c.requires.number c.index.ensures in
-    let next = take_next (λ w. w.now) c.args.number c.len.result c.args.left.now.items c.in-Some.event.now c.place.result c.in-Some.rest c.in-Some.rest.now c.len.ensures (here ∙ ap Some c.in-Some.ensures.cases) c.place.ensures refl in
+    let count : c.len.result ≡ length c.args.left.now.items = search rules in
+    let next = take_next (λ w. w.now) c.args.number c.len.result c.args.left.now.items c.in-Some.event.now c.place.result c.in-Some.rest c.in-Some.rest.now count (here ∙ ap Some c.in-Some.ensures.cases.0) c.place.ensures refl in
     left_room c.args.number _ _ _ c.requires.room next
