@@ -1,5 +1,5 @@
 -- Tables as values and as whole prefixes.
-use Rattle.std.proofs.Common.{◌≡◌, ℕ, zero, suc, ◌+◌, ◌<◌, ◌≤◌, Bool, true, false, List, [], ◌∷◌, ◌++◌, map, drop, length, length-drop, Option, Some, None, refl, sym, ap, ap₂, ◌∙◌, inl, inr, arith}
+use Rattle.std.proofs.Common.{◌≡◌, ℕ, zero, suc, ◌+◌, ◌<◌, ◌≤◌, Bool, true, false, List, [], ◌∷◌, ◌++◌, map, drop, length, length-drop, Option, Some, None, refl, sym, ap, ap₂, ◌∙◌, inl, inr, subst, arith}
 use Rattle.std.proofs.lemmas.List.{length-map}
 use Rattle.std.specs.Prelude.{ℤ, option_map, is_some, nat_le, ◌==◌, if◌then◌else◌}
 use Rattle.std.proofs.lemmas.Bool.{cases_Bool, eqb-true}
@@ -11,7 +11,7 @@ use Rattle.hist_value.specs.HistValue.{HistValue, HasType, list_of}
 use Rattle.hist_value.specs.Wholes.{full}
 use Rattle.table_feed.specs.declared.fault.FeedFault.{FeedFault}
 use Rattle.table_feed.specs.declared.fault.FeedFault.TheVariants.{Long, Ragged, BadNumber}
-use Rattle.table_feed.specs.RowType.{item_type, row_type, IsItemType, item_columns}
+use Rattle.table_feed.specs.RowType.{item_type, row_type, IsRowType, IsItemType, item_columns}
 use Rattle.table_feed.specs.Tables.{number_of, or_zero, numbers_of, row_value, table_of, table_value, bad_column, record_fault, records_fault, records_of, table_fault}
 use Rattle.table_feed.specs.Fields.{HasFirst}
 use Rattle.table_feed.proofs.Faults.{first_none, second_none}
@@ -101,3 +101,12 @@ good_records columns file bytes e = elim (cases_Bool (nat_le (length bytes) 1048
 
 pub table_is_value : (columns file : ℕ) (bytes : List ℕ) → 1 ≤ columns → table_fault columns file bytes ≡ None → HasType (past (row_type columns)) (table_value (table_of bytes))
 table_is_value columns file bytes l e = rows_have_type columns file 0 (records_of bytes) l (good_records columns file bytes e)
+
+-- the rows of a table are of a row's type
+star_parts : (s t : StreamType) → star s ≡ star t → s ≡ t
+star_parts s t e = cc e
+
+pub row_of_table : (s t : StreamType) → IsRowType s → s ≡ star t → IsItemType t
+row_of_table s t h e =
+    let same : t ≡ item_type h.0 = star_parts t (item_type h.0) (sym e ∙ h.2) in
+    subst IsItemType (sym same) (is_item_type h.0 h.1)

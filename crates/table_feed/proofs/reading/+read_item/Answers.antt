@@ -1,8 +1,10 @@
 -- A number, and then the others of its row.
-use Rattle.std.proofs.Common.{◌≡◌, ◌+◌, drop, length, ap, ◌∙◌, sym, subst, arith}
+use Rattle.std.proofs.Common.{◌≡◌, ◌+◌, ℤ, drop, length, ap, ap₂, ◌∙◌, sym, subst, arith, rules}
+use Rattle.std.specs.Int.{w64}
+use Rattle.std.proofs.lemmas.Int.{to_z-of_z}
 use Rattle.csv.specs.Records.{fields_of}
 use Rattle.stream_type.specs.StreamType.{StreamType, type_of, int, cat}
-use Rattle.stream_prefix.specs.StreamPrefix.{cat_both, int_full}
+use Rattle.stream_prefix.specs.StreamPrefix.{StreamPrefix, cat_both, int_full}
 use Rattle.hist_value.specs.Wholes.{full}
 use Rattle.table_feed.specs.RowType.{IsItemType, item_columns}
 use Rattle.table_feed.specs.Tables.{numbers_of, row_value}
@@ -23,6 +25,6 @@ returns-in_ok-before-in-Cat-clause-row t c =
     let columns : length fields ≡ 1 + item_columns rest = c.requires.columns ∙ ap item_columns kind in
     let len : length behind ≡ item_columns rest = omega (arith, columns, ap length first.split) in
     c.in_ok-before-in-Cat.ensures
-    ∙ ap (cat_both (int_full c.in_ok-number.number)) (c.in_ok-rest-in-Cat.ensures.row ∙ ap (λ (s : StreamType). full s (row_value (numbers_of behind))) (ap type_of c.deref.ensures))
+    ∙ ap₂ (λ (n : ℤ) (p : StreamPrefix). cat_both (int_full n) p) (to_z-of_z w64 c.in_ok-number.number (search rules)) (c.in_ok-rest-in-Cat.ensures.row ∙ ap (λ (s : StreamType). full s (row_value (numbers_of behind))) (ap type_of c.deref.ensures))
     ∙ sym (number_before rest fields behind c.in_ok-number.number first len)
     ∙ ap (λ (s : StreamType). full s (row_value (numbers_of fields))) (sym kind)
