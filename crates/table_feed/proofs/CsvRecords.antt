@@ -4,7 +4,7 @@ use Rattle.std.proofs.lemmas.List.{append-nil}
 use Rattle.std.specs.Prelude.{IfSome, ◌==◌, if◌then◌else◌}
 use Rattle.std.proofs.lemmas.Bool.{cases_Bool}
 use Rattle.csv.specs.Machine.{Read, in_field, step, next_record, ends_at_end, is_end, fields_after, field_after}
-use Rattle.csv.specs.Reading.{default_config, records, records_from, records_next, Reached}
+use Rattle.csv.specs.Reading.{default_config, is_bom, records, records_from, Reached, strip_bom}
 use Rattle.csv.specs.declared.parser.State.{State}
 use Rattle.csv.specs.declared.parser.State.TheVariants as st
 use Rattle.csv.specs.declared.parser.Action.{Action}
@@ -173,20 +173,35 @@ all_records xs rows s2 ys h none =
     let whole : length xs + 1 ≡ length rows + suc n = omega (arith, came.len) in
     rw whole (reached_records st.StartRecord xs rows s2 ys (suc n) h ∙ rw (none, append-nil) refl)
 
--- a record that comes next is behind them
-pub next_of_records : (xs : List ℕ) (rows : List (List (List ℕ))) (s2 : State) (ys : List ℕ) (p : Read) → Reached default_config st.StartRecord xs rows s2 ys → next_record default_config s2 [] [] ys ≡ Some p
-    → (later : List (List (List ℕ))) × (records default_config xs ≡ rows ++ p.0 ∷ later)
-unfolding records_from
-next_of_records xs rows s2 ys p h some =
+-- the records of a text begin with those that were reached
+pub records_begin : (xs : List ℕ) (rows : List (List (List ℕ))) (s2 : State) (ys : List ℕ) → Reached default_config st.StartRecord xs rows s2 ys
+    → (later : List (List (List ℕ))) × (records default_config xs ≡ rows ++ later)
+records_begin xs rows s2 ys h =
     let came = reached_came st.StartRecord xs rows s2 ys refl h in
     let n = length xs - length rows in
     let whole : length xs + 1 ≡ length rows + suc n = omega (arith, came.len) in
-    (records_from default_config n p.1 p.2, rw whole (reached_records st.StartRecord xs rows s2 ys (suc n) h ∙ rw some refl))
+    (records_from default_config (suc n) s2 ys, ap (λ (k : ℕ). records_from default_config k st.StartRecord xs) whole ∙ reached_records st.StartRecord xs rows s2 ys (suc n) h)
 
--- it has no more fields than the text has bytes, and one
-pub fields_are_few : (xs : List ℕ) (rows : List (List (List ℕ))) (s2 : State) (ys : List ℕ) (p : Read) → Reached default_config st.StartRecord xs rows s2 ys → next_record default_config s2 [] [] ys ≡ Some p
-    → length p.0 ≤ length xs + 1
-fields_are_few xs rows s2 ys p h some =
-    let came = reached_came st.StartRecord xs rows s2 ys refl h in
-    let is = if_some_at (next_record default_config s2 [] [] ys) (λ q. IsRead [] ys q) p some (next_is_read s2 [] [] ys) in
-    omega (arith, came.len, is.few)
+-- the record that was read last has few fields
+pub last_is_few : (s : State) (xs : List ℕ) (came : List (List (List ℕ))) (f : List (List ℕ)) (s2 : State) (ys : List ℕ) → IsBetween s → Reached default_config s xs (came ++ f ∷ []) s2 ys
+    → length f ≤ length xs + 1
+unfolding Reached
+last_is_few s xs [] f s2 ys b h =
+    let is = if_some_at (next_record default_config s [] [] xs) (λ p. IsRead [] xs p) h.0 h.1 (next_is_read s [] [] xs) in
+    omega (arith, is.few, ap length h.2)
+last_is_few s xs (r ∷ came) f s2 ys b h =
+    let is = if_some_at (next_record default_config s [] [] xs) (λ p. IsRead [] xs p) h.0 h.1 (next_is_read s [] [] xs) in
+    let later = last_is_few h.0.1 h.0.2 came f s2 ys is.between h.3 in
+    omega (arith, is.shorter, later)
+
+-- without a byte order mark a text is no longer
+pub length-strip_bom : (xs : List ℕ) → length (strip_bom xs) ≤ length xs
+unfolding strip_bom
+length-strip_bom [] = omega arith
+length-strip_bom (a ∷ []) = omega arith
+length-strip_bom (a ∷ b ∷ []) = omega arith
+length-strip_bom (a ∷ b ∷ c ∷ xs) = by_mark (is_bom a b c)
+  where
+    by_mark : (m : Bool) → length (if m then xs else a ∷ b ∷ c ∷ xs) ≤ length (a ∷ b ∷ c ∷ xs)
+    by_mark true = omega arith
+    by_mark false = omega arith

@@ -5,4 +5,5 @@ pub mod Fields
 pub mod Rows
 pub mod Mixing
 pub mod Room
+pub mod Written
 pub mod Laws
