@@ -6,3 +6,4 @@ pub mod CsvRecords
 pub mod Faults
 pub mod Values
 pub mod WrittenRows
+pub mod WholeRows

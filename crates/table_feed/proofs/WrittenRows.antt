@@ -54,7 +54,7 @@ later_fields (m ∷ row) h n =
     ap (λ (t : List ℕ). signed_decimal n ++ (44 ∷ (t ++ (10 ∷ [])))) text
     ∙ ap (λ (t : List ℕ). signed_decimal n ++ (44 ∷ t)) (append_assoc (signed_decimal m) (fields_text default_writer (fields_of_row row)) (10 ∷ []) ∙ rest)
 
-not_zero : (n : ℕ) → 0 < n → (n == 0) ≡ false
+pub not_zero : (n : ℕ) → 0 < n → (n == 0) ≡ false
 not_zero n l = grind (arith, nat_tests)
 
 -- a row that shows a number isn't blank

@@ -60,6 +60,18 @@ fn write_row(alloc: Global, writer: &mut Writer<Vec<u8>>, row: &Prefix) -> Resul
     ensures ascii { OnOk result (IsAscii (written writer.old) → IsAscii (written writer.new)) }
 {
     write_numbers(alloc, writer, row)?;
+    end_row(writer)
+}
+
+// The end of a line that shows a number.
+fn end_row(writer: &mut Writer<Vec<u8>>) -> Result<(), Memory>
+    requires setup { writer_setup writer.old ≡ default_writer }
+    requires wrote { has_written writer.old ≡ true }
+    ensures text { OnOk result (written writer.new ≡ written writer.old ++ 10 ∷ []) }
+    ensures setup { OnOk result (writer_setup writer.new ≡ default_writer) }
+    ensures fields { OnOk result (fields_written writer.new ≡ 0) }
+    ensures wrote { OnOk result (has_written writer.new ≡ false) }
+{
     match writer.end_record() {
         Ok(()) => Ok(()),
         Err(_) => Err(Memory),
