@@ -7,3 +7,5 @@ pub mod Faults
 pub mod Values
 pub mod WrittenRows
 pub mod WholeRows
+pub mod CanonicalWords
+pub mod Examples

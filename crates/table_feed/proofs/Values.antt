@@ -1,5 +1,5 @@
 -- Tables as values and as whole prefixes.
-use Rattle.std.proofs.Common.{◌≡◌, ℕ, zero, suc, ◌+◌, ◌<◌, ◌≤◌, Bool, true, false, List, [], ◌∷◌, ◌++◌, map, drop, length, length-drop, Option, Some, None, refl, sym, ap, ap₂, ◌∙◌, inl, inr, subst, arith}
+use Rattle.std.proofs.Common.{◌≡◌, ◌↔◌, ℕ, zero, suc, ◌+◌, ◌<◌, ◌≤◌, Bool, true, false, List, [], ◌∷◌, ◌++◌, map, drop, length, length-drop, Option, Some, None, refl, sym, ap, ap₂, ◌∙◌, inl, inr, subst, arith}
 use Rattle.std.proofs.lemmas.List.{length-map}
 use Rattle.std.specs.Prelude.{ℤ, option_map, is_some, nat_le, ◌==◌, if◌then◌else◌}
 use Rattle.std.proofs.lemmas.Bool.{cases_Bool, eqb-true}
@@ -110,3 +110,42 @@ pub row_of_table : (s t : StreamType) → IsRowType s → s ≡ star t → IsIte
 row_of_table s t h e =
     let same : t ≡ item_type h.0 = star_parts t (item_type h.0) (sym e ∙ h.2) in
     subst IsItemType (sym same) (is_item_type h.0 h.1)
+
+-- the type of a row, by how many numbers it has
+item_by_columns : (s : StreamType) → IsItemType s → s ≡ item_type (item_columns s)
+item_by_columns int h = refl
+item_by_columns (cat int t) h = more (item_columns t) t (some_columns t) (item_by_columns t h)
+  where
+    more : (n : ℕ) (t : StreamType) → 1 ≤ n → t ≡ item_type n → cat int t ≡ item_type (1 + n)
+    more zero t l e = absurd (omega (arith, l))
+    more (suc n) t l e =
+        let two : 1 + suc n ≡ suc (suc n) = omega arith in
+        ap (cat int) e ∙ ap item_type (sym two)
+item_by_columns eps h = absurd h
+item_by_columns one h = absurd h
+item_by_columns (cat eps t) h = absurd h
+item_by_columns (cat one t) h = absurd h
+item_by_columns (cat (cat a b) t) h = absurd h
+item_by_columns (cat (par a b) t) h = absurd h
+item_by_columns (cat (sum a b) t) h = absurd h
+item_by_columns (cat (star a) t) h = absurd h
+item_by_columns (par a b) h = absurd h
+item_by_columns (sum a b) h = absurd h
+item_by_columns (star a) h = absurd h
+
+-- whether a type is a star
+abbrev pub is_a_star : StreamType → Bool
+is_a_star (star s) = true
+is_a_star s = false
+
+-- a star of rows is a table, and no other type is one
+pub table_of_rows : (s : StreamType) → IsItemType s ↔ IsRowType (star s)
+table_of_rows s = (λ h. (item_columns s, some_columns s, ap star (item_by_columns s h)), λ h. row_of_table (star s) s h refl)
+
+no_table : (s : StreamType) (columns : ℕ) → s ≡ star (item_type columns) → is_a_star s ≡ true
+no_table s columns e = rw e refl
+
+pub only_stars : (s : StreamType) → is_a_star s ≡ false → IsRowType s → ⊥
+only_stars s e h = cc (sym e ∙ no_table s h.0 h.2)
+
+pub ruleset shapes = (table_of_rows, only_stars)

@@ -5,12 +5,13 @@ use Rattle.stream_type.specs.StreamType.{StreamType}
 use Rattle.stream_prefix.specs.StreamPrefix.{StreamPrefix}
 use Rattle.event_word.specs.StreamEvent.{StreamEvent}
 use Rattle.event_word.specs.Word.{IsWord, pre}
+use Rattle.event_word.specs.Canon.{canon}
 use Rattle.hist_value.specs.HistType.{past}
 use Rattle.hist_value.specs.HistValue.{HasType}
 use Rattle.table_feed.specs.RowType.{row_type}
 use Rattle.table_feed.specs.Tables.{table_of, table_value, table_fault}
 use Rattle.table_feed.specs.Rows.{rows_text}
-use Rattle.table_feed.specs.Mixing.{AreWords, pre_beside, next_of, rounds, longest, mixed_word}
+use Rattle.table_feed.specs.Mixing.{AreWords, ArePrefixes, pre_beside, beside, next_of, rounds, longest, mixed_word}
 
 -- a good table is a value of the past of its type
 abbrev pub TableIsValue : Type 0
@@ -28,6 +29,14 @@ MixedMeans = (schedule : List ℕ) (s : StreamType) (ws : List (List StreamEvent
 abbrev pub ScheduleDoesNotMatter : Type 0
 ScheduleDoesNotMatter =
     (one other : List ℕ) (s : StreamType) (ws : List (List StreamEvent)) → AreWords s ws → pre s (mixed_word one ws) ≡ pre s (mixed_word other ws)
+
+-- the canonical words of prefixes side by side are words of their types
+abbrev pub CanonsAreWords : Type 0
+CanonsAreWords = (s : StreamType) (ps : List StreamPrefix) → ArePrefixes s ps → AreWords s (map canon ps)
+
+-- and, in whatever order they are mixed, stand for these prefixes side by side
+abbrev pub CanonsAreMixed : Type 0
+CanonsAreMixed = (schedule : List ℕ) (s : StreamType) (ps : List StreamPrefix) → ArePrefixes s ps → pre s (mixed_word schedule (map canon ps)) ≡ beside ps
 
 -- after the rounds no word that the schedule names has an event left
 abbrev pub NamedAreUsedUp : Type 0

@@ -7,7 +7,7 @@
 -- to take, a round changes nothing.
 use Rattle.std.specs.Prelude.{ℕ, zero, suc, max, List, [], ◌∷◌, ◌++◌, map, length, Option, Some, None, option_map}
 use Rattle.stream_type.specs.StreamType.{StreamType, par}
-use Rattle.stream_prefix.specs.StreamPrefix.{StreamPrefix, par_both, emp}
+use Rattle.stream_prefix.specs.StreamPrefix.{StreamPrefix, eps_emp, par_both, emp, IsPrefix}
 use Rattle.event_word.specs.declared.event.Step.TheVariants.{Left, Right}
 use Rattle.event_word.specs.StreamEvent.{StreamEvent, under}
 use Rattle.event_word.specs.Word.{IsWord, pre}
@@ -30,6 +30,19 @@ pre_beside s [] = emp s
 pre_beside s (w ∷ []) = pre s w
 pre_beside (par s t) (w ∷ v ∷ ws) = par_both (pre s w) (pre_beside t (v ∷ ws))
 pre_beside s (w ∷ v ∷ ws) = emp s
+
+-- prefixes of the parts of a type, which stand side by side and are grouped to the right
+abbrev pub ArePrefixes : StreamType → List StreamPrefix → Type 0
+ArePrefixes s [] = ⊥
+ArePrefixes s (p ∷ []) = IsPrefix s p
+ArePrefixes (par s t) (p ∷ q ∷ ps) = IsPrefix s p × ArePrefixes t (q ∷ ps)
+ArePrefixes s (p ∷ q ∷ ps) = ⊥
+
+-- prefixes side by side, as one
+abbrev pub beside : List StreamPrefix → StreamPrefix
+beside [] = eps_emp
+beside (p ∷ []) = p
+beside (p ∷ q ∷ ps) = par_both p (beside (q ∷ ps))
 
 -- the next event of the word of a number, under the steps that lead to it, and what is then left of the words
 abbrev pub next_of : ℕ → List (List StreamEvent) → Option (StreamEvent × List (List StreamEvent))

@@ -1,7 +1,7 @@
 -- The types of tables.
 --
 -- A table is a stream of rows, and a row has as many numbers as the table has columns, one after another.
-use Rattle.std.specs.Prelude.{ℕ, zero, suc, ◌+◌, ◌≡◌, ◌≤◌, List, [], ◌∷◌, ⊤}
+use Rattle.std.specs.Prelude.{ℕ, zero, suc, ◌+◌, ◌≡◌, ◌≤◌, ⊤}
 use Rattle.stream_type.specs.StreamType.{StreamType, eps, one, int, cat, par, sum, star}
 
 -- a row of so many columns: as many times `Int`, joined by `.` and grouped to the right; there is none without
@@ -35,8 +35,13 @@ abbrev pub columns_of : StreamType → ℕ
 columns_of (star s) = item_columns s
 columns_of s = 0
 
--- types side by side: joined by `||`, grouped to the right; there is none without a type
-abbrev pub beside : List StreamType → StreamType
-beside [] = eps
-beside (s ∷ []) = s
-beside (s ∷ t ∷ ts) = par s (beside (t ∷ ts))
+-- the type is that of so many tables side by side: joined by `||`, grouped to the right
+abbrev pub AreTables : ℕ → StreamType → Type 0
+AreTables zero s = ⊥
+AreTables (suc zero) s = IsRowType s
+AreTables (suc (suc more)) (par s t) = IsRowType s × AreTables (suc more) t
+AreTables (suc (suc more)) s = ⊥
+
+-- a program of these types takes so many tables, at most eight, and gives one
+abbrev pub HasShape : (input output : StreamType) → ℕ → Type 0
+HasShape input output tables = (tables ≤ 8) × AreTables tables input × IsRowType output

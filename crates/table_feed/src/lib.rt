@@ -7,9 +7,11 @@ pub mod laws;
 mod mixing;
 mod number;
 mod reading;
+mod shape;
 mod writing;
 
 pub use fault::FeedFault;
 pub use mixing::mixed;
 pub use reading::table;
+pub use shape::{has_shape, is_row_type};
 pub use writing::rows_text;

@@ -83,20 +83,20 @@ fn push(rows: &mut Vec<Prefix>, row: Prefix) -> Result<(), Memory>
 fn read_row(
     alloc: Global,
     item: &Ty,
-    record: &ByteRecord,
+    fields: &ByteRecord,
     file: u32,
     row: u32,
 ) -> Result<Prefix, FeedFault>
     requires item { IsItemType (type_of item.now) }
-    requires few { length (fields_of record.now) < 2 ^ 32 }
-    ensures row { IfOk result (λ p. prefix_of p ≡ full (type_of item.now) (row_value (numbers_of (fields_of record.now)))) }
-    ensures good { OnOk result (record_fault (item_columns (type_of item.now)) file row (fields_of record.now) ≡ None) }
-    ensures fault { IfErr result (λ e. (e ≡ IsMemory) ⊎ (record_fault (item_columns (type_of item.now)) file row (fields_of record.now) ≡ Some e)) }
+    requires few { length (fields_of fields.now) < 2 ^ 32 }
+    ensures row { IfOk result (λ p. prefix_of p ≡ full (type_of item.now) (row_value (numbers_of (fields_of fields.now)))) }
+    ensures good { OnOk result (record_fault (item_columns (type_of item.now)) file row (fields_of fields.now) ≡ None) }
+    ensures fault { IfErr result (λ e. (e ≡ IsMemory) ⊎ (record_fault (item_columns (type_of item.now)) file row (fields_of fields.now) ≡ Some e)) }
 {
-    if !has_columns(item, record.len()) {
+    if !has_columns(item, fields.len()) {
         return Err(FeedFault::Ragged { file, row });
     }
-    read_item(alloc, item, record, Place { file, row, column: 0 })
+    read_item(alloc, item, fields, Place { file, row, column: 0 })
 }
 
 // Whether a row of the type has so many numbers.
@@ -115,17 +115,17 @@ fn has_columns(item: &Ty, columns: usize) -> bool
 fn read_item(
     alloc: Global,
     item: &Ty,
-    record: &ByteRecord,
+    fields: &ByteRecord,
     place: Place,
 ) -> Result<Prefix, FeedFault>
     requires item { IsItemType (type_of item.now) }
-    requires columns { length (drop place.column (fields_of record.now)) ≡ item_columns (type_of item.now) }
-    requires few { length (fields_of record.now) < 2 ^ 32 }
-    ensures row { IfOk result (λ p. prefix_of p ≡ full (type_of item.now) (row_value (numbers_of (drop place.column (fields_of record.now))))) }
-    ensures good { OnOk result (bad_column place.column (drop place.column (fields_of record.now)) ≡ None) }
-    ensures fault { IfErr result (λ e. (e ≡ IsMemory) ⊎ (option_map (λ column. BadNumber place.file place.row column) (bad_column place.column (drop place.column (fields_of record.now))) ≡ Some e)) }
+    requires columns { length (drop place.column (fields_of fields.now)) ≡ item_columns (type_of item.now) }
+    requires few { length (fields_of fields.now) < 2 ^ 32 }
+    ensures row { IfOk result (λ p. prefix_of p ≡ full (type_of item.now) (row_value (numbers_of (drop place.column (fields_of fields.now))))) }
+    ensures good { OnOk result (bad_column place.column (drop place.column (fields_of fields.now)) ≡ None) }
+    ensures fault { IfErr result (λ e. (e ≡ IsMemory) ⊎ (option_map (λ column. BadNumber place.file place.row column) (bad_column place.column (drop place.column (fields_of fields.now))) ≡ Some e)) }
 {
-    let number = read_number(record, place)?;
+    let number = read_number(fields, place)?;
     match item {
         Ty::Int => Ok(Prefix::IntFull(number)),
         Ty::Cat(_, rest) => {
@@ -133,7 +133,7 @@ fn read_item(
                 column: place.column + 1,
                 ..place
             };
-            let rest = read_item(alloc, rest, record, next)?;
+            let rest = read_item(alloc, rest, fields, next)?;
             Ok(before(alloc, number, rest)?)
         }
         _ => unreachable!(),
@@ -141,12 +141,12 @@ fn read_item(
 }
 
 // The number in a column.
-fn read_number(record: &ByteRecord, place: Place) -> Result<i64, FeedFault>
-    requires { place.column < length (fields_of record.now) }
-    ensures number { IfOk result (λ n. HasFirst (drop place.column (fields_of record.now)) (Some n) (drop (place.column + 1) (fields_of record.now))) }
-    ensures fault { IfErr result (λ e. (e ≡ BadNumber place.file place.row place.column) × HasFirst (drop place.column (fields_of record.now)) None (drop (place.column + 1) (fields_of record.now))) }
+fn read_number(fields: &ByteRecord, place: Place) -> Result<i64, FeedFault>
+    requires { place.column < length (fields_of fields.now) }
+    ensures number { IfOk result (λ n. HasFirst (drop place.column (fields_of fields.now)) (Some n) (drop (place.column + 1) (fields_of fields.now))) }
+    ensures fault { IfErr result (λ e. (e ≡ BadNumber place.file place.row place.column) × HasFirst (drop place.column (fields_of fields.now)) None (drop (place.column + 1) (fields_of fields.now))) }
 {
-    match record.get(place.column as usize) {
+    match fields.get(place.column as usize) {
         None => unreachable!(),
         Some(field) => match number(field) {
             Some(number) => Ok(number),

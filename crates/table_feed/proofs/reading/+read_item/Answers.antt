@@ -12,13 +12,13 @@ use Rattle.table_feed.proofs.Values.{column_within, first_is_int, number_before}
 use Rattle.table_feed.proofs.reading.+read_item.Goals as goal
 
 pub read_number-requires : goal.read_number-requires
-read_number-requires t c = column_within (type_of c.args.item.now) (fields_of c.args.record.now) c.args.place.column c.requires.columns
+read_number-requires t c = column_within (type_of c.args.item.now) (fields_of c.args.fields.now) c.args.place.column c.requires.columns
 
 pub returns-in_ok-before-in-Cat-clause-row : goal.returns-in_ok-before-in-Cat-clause-row
 returns-in_ok-before-in-Cat-clause-row t c =
     let rest = type_of c.in-Cat.rest.value in
-    let fields = drop c.args.place.column (fields_of c.args.record.now) in
-    let behind = drop (c.args.place.column + 1) (fields_of c.args.record.now) in
+    let fields = drop c.args.place.column (fields_of c.args.fields.now) in
+    let behind = drop (c.args.place.column + 1) (fields_of c.args.fields.now) in
     let is_item = subst IsItemType (ap type_of c.in-Cat.is) c.requires.item in
     let kind : type_of c.args.item.now ≡ cat int rest = ap type_of c.in-Cat.is ∙ ap (λ (s : StreamType). cat s rest) (first_is_int (type_of c.in-Cat.field-0.value) rest is_item) in
     let first = c.in_ok-number.ensures.number in
