@@ -59,8 +59,8 @@ next_is zero s ((x ∷ w) ∷ v ∷ ws) h = absurd h
 next_is (suc i) s (w ∷ []) h = tt
 next_is (suc i) (par s t) (w ∷ v ∷ ws) h =
     mapped (next_of i (v ∷ ws)) (λ (next : StreamEvent × List (List StreamEvent)). (under Right next.0, w ∷ next.1)) (λ next. IsNext t (v ∷ ws) next.0 next.1) (λ next. IsNext (par s t) (w ∷ v ∷ ws) next.0 next.1)
-      (λ next k. next_right s t w v ws next.0 next.1 h.0 k)
-      (next_is i t (v ∷ ws) h.1)
+    (λ next k. next_right s t w v ws next.0 next.1 h.0 k)
+    (next_is i t (v ∷ ws) h.1)
 next_is (suc i) s (w ∷ v ∷ ws) h = absurd h
 
 -- events that are a word, and stand for all the words

@@ -59,8 +59,8 @@ next_has_room zero depth ((x ∷ w) ∷ v ∷ ws) h = record { room = (All-tail 
 next_has_room (suc i) depth (w ∷ []) h = tt
 next_has_room (suc i) depth (w ∷ v ∷ ws) h =
     mapped (next_of i (v ∷ ws)) (λ (next : StreamEvent × List (List StreamEvent)). (under Right next.0, w ∷ next.1)) (λ next. StillHasRoom (depth + 1) (v ∷ ws) next.1) (λ next. StillHasRoom depth (w ∷ v ∷ ws) next.1)
-      (λ next k. later_room depth w v ws next.1 h.0 k)
-      (next_has_room i (depth + 1) (v ∷ ws) h.1)
+    (λ next k. later_room depth w v ws next.1 h.0 k)
+    (next_has_room i (depth + 1) (v ∷ ws) h.1)
 
 -- the number is that of the last word, or isn't
 pub data IsLast (i n : ℕ) : Bool → Type 0 where
@@ -92,6 +92,12 @@ no_next_at i [] e = absurd (cc e)
 no_next_at zero ([] ∷ ws) e = refl
 no_next_at zero ((x ∷ w) ∷ ws) e = absurd (cc e)
 no_next_at (suc i) (v ∷ ws) e = rw (no_next_at i ws e) refl
+
+-- no word has a number as great as there are words
+pub past_words : (i : ℕ) (ws : List (List StreamEvent)) → length ws ≤ i → next_of i ws ≡ None
+past_words i [] l = refl
+past_words zero (w ∷ ws) l = absurd (omega (arith, l))
+past_words (suc i) (w ∷ ws) l = rw (past_words i ws (omega (arith, l))) refl
 
 -- the first event of a word has room for the steps that lead to it
 pub room_at : (i depth : ℕ) (ws : List (List StreamEvent)) (last : Bool) (x : StreamEvent) (w : List StreamEvent)

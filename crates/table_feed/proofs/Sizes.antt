@@ -110,8 +110,8 @@ each P schedule h = λ k d l vs. h vs k d l
 pub named_are_used_up : (schedule : List ℕ) (ws : List (List StreamEvent)) → All (λ i. next_of i (rounds (longest ws) schedule ws).left ≡ None) schedule
 named_are_used_up schedule ws =
     All-weaker (λ i. (vs : List (List StreamEvent)) → IsFewer 1 vs (take_at schedule vs).left i) (λ i. next_of i (rounds (longest ws) schedule ws).left ≡ None)
-      (λ i h.
-          let few = rounds_fewer (longest ws) schedule ws i h in
-          none_left i (rounds (longest ws) schedule ws).left (omega (arith, few, size-longest i ws)))
-      schedule
-      (each (λ vs i. IsFewer 1 vs (take_at schedule vs).left i) schedule (λ vs. take_fewer schedule vs))
+    (λ i h.
+    let few = rounds_fewer (longest ws) schedule ws i h in
+    none_left i (rounds (longest ws) schedule ws).left (omega (arith, few, size-longest i ws)))
+    schedule
+    (each (λ vs i. IsFewer 1 vs (take_at schedule vs).left i) schedule (λ vs. take_fewer schedule vs))

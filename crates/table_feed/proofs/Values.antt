@@ -1,14 +1,15 @@
 -- Tables as values and as whole prefixes.
 use Rattle.std.proofs.Common.{◌≡◌, ◌↔◌, ℕ, zero, suc, ◌+◌, ◌<◌, ◌≤◌, Bool, true, false, List, [], ◌∷◌, ◌++◌, map, drop, length, length-drop, Option, Some, None, refl, sym, ap, ap₂, ◌∙◌, inl, inr, subst, arith}
 use Rattle.std.proofs.lemmas.List.{length-map}
-use Rattle.std.specs.Prelude.{ℤ, option_map, is_some, nat_le, ◌==◌, if◌then◌else◌}
+use Rattle.std.specs.Prelude.{ℤ, IsTrue, Result, Ok, Err, IfOk, OnOk, option_map, is_some, nat_le, ◌==◌, if◌then◌else◌}
 use Rattle.std.proofs.lemmas.Bool.{cases_Bool, eqb-true}
 use Rattle.stream_type.specs.StreamType.{StreamType, eps, one, int, cat, par, sum, star}
-use Rattle.stream_prefix.specs.StreamPrefix.{StreamPrefix, int_full, cat_both, star_done}
+use Rattle.stream_prefix.specs.StreamPrefix.{StreamPrefix, int_full, cat_both, star_done, IsPrefix, is_maximal}
 use Rattle.stream_prefix.specs.Tree.{star_of}
 use Rattle.hist_value.specs.HistType.{HistType, past, list_type}
 use Rattle.hist_value.specs.HistValue.{HistValue, HasType, list_of}
 use Rattle.hist_value.specs.Wholes.{full}
+use Rattle.hist_value.proofs.WholeLaws.{full_is_prefix, full_is_maximal}
 use Rattle.table_feed.specs.declared.fault.FeedFault.{FeedFault}
 use Rattle.table_feed.specs.declared.fault.FeedFault.TheVariants.{Long, Ragged, BadNumber}
 use Rattle.table_feed.specs.RowType.{item_type, row_type, IsRowType, IsItemType, item_columns}
@@ -132,6 +133,24 @@ item_by_columns (cat (star a) t) h = absurd h
 item_by_columns (par a b) h = absurd h
 item_by_columns (sum a b) h = absurd h
 item_by_columns (star a) h = absurd h
+
+-- good records are a whole prefix of their table's type
+pub record IsWhole (t : StreamType) (bytes : List ℕ) : Type 0 where
+  pub is_prefix : IsPrefix (star t) (full (star t) (table_value (table_of bytes)))
+  pub maximal : IsTrue (is_maximal (full (star t) (table_value (table_of bytes))))
+
+pub rows_are_whole : (t : StreamType) (file : ℕ) (bytes : List ℕ) → IsItemType t → records_fault (item_columns t) file 0 (records_of bytes) ≡ None → IsWhole t bytes
+rows_are_whole t file bytes h e =
+    let value = subst (λ (s : StreamType). HasType (past (star s)) (table_value (table_of bytes))) (sym (item_by_columns t h)) (rows_have_type (item_columns t) file 0 (records_of bytes) (some_columns t) e) in
+    record {
+      is_prefix = full_is_prefix (star t) (table_value (table_of bytes)) value;
+      maximal = full_is_maximal (star t) (table_value (table_of bytes)) value;
+    }
+
+-- what follows from what holds at Ok of the value and beside it
+pub if_ok_both : {T E : Type 0} (r : Result T E) (P : T → Type 0) (Q : Type 0) (R : T → Type 0) → ((x : T) → P x → Q → R x) → IfOk r P → OnOk r Q → IfOk r R
+if_ok_both (Ok x) P Q R more h k = more x h k
+if_ok_both (Err e) P Q R more h k = tt
 
 -- whether a type is a star
 abbrev pub is_a_star : StreamType → Bool

@@ -72,7 +72,6 @@ line_is_written (n ∷ row) l h =
     let blank = not_blank n row fits in
     rw (blank, text) (append_assoc (signed_decimal n) (fields_text default_writer (fields_of_row row)) (10 ∷ []) ∙ later_fields row (All-tail (FitsSigned w64) n row h) n)
 
-
 same_back : (row : List ℤ) → 0 < length row → read_back (fields_of_row row) ≡ fields_of_row row
 same_back [] l = absurd (omega (arith, l))
 same_back (n ∷ row) l = refl

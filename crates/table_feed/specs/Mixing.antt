@@ -1,7 +1,7 @@
 -- One word of several, side by side, whose events come in the order that a schedule says.
 --
 -- A schedule is a list of numbers of words, from 0. It is gone through over and over. At each number the next event
--- of that word comes; a number whose word is used up is passed over. Once all words that the schedule names are
+-- of that word comes; a number whose word is used up, or that no word has, is passed over. Once all words that the schedule names are
 -- used up, the others follow, one after another. A round takes at least one event of each word that the schedule
 -- names and that isn't used up, so as many rounds as the longest word has events are enough; where nothing is left
 -- to take, a round changes nothing.

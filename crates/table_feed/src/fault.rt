@@ -41,7 +41,6 @@ pub enum FeedFault {
 
 impl From<Memory> for FeedFault {
     ghost use Rattle.std.specs.Prelude.{◌≡◌};
-
     ghost use Rattle.table_feed.specs.declared.fault.FeedFault.TheVariants.{Memory};
 
     ghost from_gives = { λ _ fault. fault ≡ Memory };

@@ -13,7 +13,8 @@ use stream_type::{Memory, Ty};
 
 /// Words of the parts of a type, which stand side by side and are grouped to the right, as one word of it, whose
 /// events come in the order that the schedule says: `mixed_word` of `specs/Mixing.antt`. A number of the schedule is
-/// that of a word, from 0. The type serves the conditions alone. Its one error is want of memory.
+/// that of a word, from 0; one that no word has is passed over. The type serves the conditions alone. Its one error
+/// is want of memory.
 pub fn mixed(
     alloc: Global,
     s: &Ty,
@@ -22,7 +23,6 @@ pub fn mixed(
 ) -> Result<Vec<Event>, Memory>
     requires words { AreWords (type_of s.now) (map (λ w. w.items) words.now) }
     requires reach { reach_of (type_of s.now) ≤ 63 }
-    requires numbers { All (λ i. i < length words.now) schedule.now }
     ensures mixed { IfOk result (λ w. w.items ≡ mixed_word schedule.now (map (λ w. w.items) words.now)) }
     ensures word { IfOk result (λ w. IsWord (type_of s.now) w.items) }
     ensures means { IfOk result (λ w. pre (type_of s.now) w.items ≡ pre_beside (type_of s.now) (map (λ w. w.items) words.now)) }
@@ -55,7 +55,6 @@ fn take_rounds(
     most: usize,
 ) -> Result<(), Memory>
     requires room { HasRoom 0 (map (λ w. w.now) left.old.items) }
-    requires numbers { All (λ i. i < length left.old.items) schedule.now }
     ensures events { OnOk result (mixed.new.items ++ in_order (map (λ w. w.now) left.new.items) ≡ mixed.old.items ++ rest_of most schedule.now (map (λ w. w.now) left.old.items)) }
     ensures room { OnOk result (HasRoom 0 (map (λ w. w.now) left.new.items)) }
     ensures len { OnOk result (length left.new.items ≡ length left.old.items) }
@@ -77,7 +76,6 @@ fn take_round(
     mixed: &mut Vec<Event>,
 ) -> Result<(), Memory>
     requires room { HasRoom 0 (map (λ w. w.now) left.old.items) }
-    requires numbers { All (λ i. i < length left.old.items) schedule.now }
     ensures events { OnOk result (mixed.new.items ≡ mixed.old.items ++ (take_at schedule.now (map (λ w. w.now) left.old.items)).events) }
     ensures left { OnOk result (map (λ w. w.now) left.new.items ≡ (take_at schedule.now (map (λ w. w.now) left.old.items)).left) }
     ensures room { OnOk result (HasRoom 0 (map (λ w. w.now) left.new.items)) }
@@ -90,13 +88,8 @@ fn take_round(
 }
 
 // The next event of a word behind those that came, if the word isn't used up.
-fn take_into(
-    left: &mut Vec<&[Event]>,
-    number: usize,
-    mixed: &mut Vec<Event>,
-) -> Result<(), Memory>
+fn take_into(left: &mut Vec<&[Event]>, number: usize, mixed: &mut Vec<Event>) -> Result<(), Memory>
     requires room { HasRoom 0 (map (λ w. w.now) left.old.items) }
-    requires number { number < length left.old.items }
     ensures events { OnOk result ((later : List ℕ) → mixed.new.items ++ (take_at later (map (λ w. w.now) left.new.items)).events ≡ mixed.old.items ++ (take_at (number ∷ later) (map (λ w. w.now) left.old.items)).events) }
     ensures left { OnOk result ((later : List ℕ) → (take_at later (map (λ w. w.now) left.new.items)).left ≡ (take_at (number ∷ later) (map (λ w. w.now) left.old.items)).left) }
     ensures room { OnOk result (HasRoom 0 (map (λ w. w.now) left.new.items)) }
@@ -111,13 +104,16 @@ fn take_into(
 // The next event of a word, if it isn't used up.
 fn take(left: &mut Vec<&[Event]>, number: usize) -> Option<Event>
     requires room { HasRoom 0 (map (λ w. w.now) left.old.items) }
-    requires number { number < length left.old.items }
     ensures event { IfSome result (λ x. next_of number (map (λ w. w.now) left.old.items) ≡ Some (x, map (λ w. w.now) left.new.items)) }
     ensures none { IsNone result → (next_of number (map (λ w. w.now) left.old.items) ≡ None) × (left.new ≡ left.old) }
     ensures room { HasRoom 0 (map (λ w. w.now) left.new.items) }
     ensures len { length left.new.items ≡ length left.old.items }
 {
-    let is_last = number + 1 == left.len();
+    let words = left.len();
+    if number >= words {
+        return None;
+    }
+    let is_last = number + 1 == words;
     match left[number].split_first() {
         None => None,
         Some((event, rest)) => {

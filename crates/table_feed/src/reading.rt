@@ -1,9 +1,9 @@
 //! Files read as tables.
 
-ghost use Rattle.std.specs.Prelude.{◌≡◌, ◌⊎◌, ◌<◌, ◌≤◌, ◌+◌, ◌^◌, ◌==◌, ◌++◌, IfOk, IfErr, OnOk, Some, None, [], ◌∷◌, length, drop, option_map};
+ghost use Rattle.std.specs.Prelude.{◌≡◌, ◌⊎◌, ◌<◌, ◌≤◌, ◌+◌, ◌^◌, ◌==◌, ◌++◌, IfOk, IfErr, OnOk, IsTrue, Some, None, [], ◌∷◌, length, drop, option_map};
 ghost use Rattle.csv.specs.Records.{fields_of};
 ghost use Rattle.stream_type.specs.StreamType.{type_of, star};
-ghost use Rattle.stream_prefix.specs.StreamPrefix.{cat_both, int_full};
+ghost use Rattle.stream_prefix.specs.StreamPrefix.{IsPrefix, is_maximal, cat_both, int_full};
 ghost use Rattle.stream_prefix.specs.Tree.{prefix_of};
 ghost use Rattle.hist_value.specs.Wholes.{full};
 ghost use Rattle.table_feed.specs.RowType.{IsRowType, IsItemType, item_columns, columns_of};
@@ -36,6 +36,8 @@ struct Place {
 pub fn table(alloc: Global, t: &Ty, file: u32, bytes: &[u8]) -> Result<Prefix, FeedFault>
     requires { IsRowType (type_of t.now) }
     ensures table { IfOk result (λ p. prefix_of p ≡ full (type_of t.now) (table_value (table_of bytes.now))) }
+    ensures prefix { IfOk result (λ p. IsPrefix (type_of t.now) (prefix_of p)) }
+    ensures whole { IfOk result (λ p. IsTrue (is_maximal (prefix_of p))) }
     ensures good { OnOk result (table_fault (columns_of (type_of t.now)) file bytes.now ≡ None) }
     ensures fault { IfErr result (λ e. (e ≡ IsMemory) ⊎ (table_fault (columns_of (type_of t.now)) file bytes.now ≡ Some e)) }
 {
@@ -96,7 +98,16 @@ fn read_row(
     if !has_columns(item, fields.len()) {
         return Err(FeedFault::Ragged { file, row });
     }
-    read_item(alloc, item, fields, Place { file, row, column: 0 })
+    read_item(
+        alloc,
+        item,
+        fields,
+        Place {
+            file,
+            row,
+            column: 0,
+        },
+    )
 }
 
 // Whether a row of the type has so many numbers.

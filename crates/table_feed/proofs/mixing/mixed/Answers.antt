@@ -10,10 +10,10 @@ use Rattle.table_feed.proofs.MixedWords.{mixed_spells}
 use Rattle.table_feed.proofs.Placing.{words_have_room, map-right_by}
 use Rattle.table_feed.proofs.mixing.mixed.Goals as goal
 
-pub take_rounds-requires-clause-room : goal.take_rounds-requires-clause-room
-take_rounds-requires-clause-room c =
+pub take_rounds-requires : goal.take_rounds-requires
+take_rounds-requires c =
     let all = c.loop-word.invariant ∙ ap (map (λ w. w.items)) (take_all c.loop-word.word-index c.args.words.now c.loop-word-test.false) in
-    subst (HasRoom 0) (sym all) (words_have_room (type_of c.args.s.now) (map (λ w. w.items) c.args.words.now) 0 (omega (arith, c.requires.reach)) c.requires.words)
+    record { room = subst (HasRoom 0) (sym all) (words_have_room (type_of c.args.s.now) (map (λ w. w.items) c.args.words.now) 0 (omega (arith, c.requires.reach)) c.requires.words) }
 
 pub returns-clause-mixed : goal.returns-clause-mixed
 returns-clause-mixed c =

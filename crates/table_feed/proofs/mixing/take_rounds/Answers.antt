@@ -16,7 +16,7 @@ loop-round-preserved c =
     let one : c.args.most - c.loop-round.round ≡ suc (c.args.most - (c.loop-round.round + 1)) = omega (arith, c.loop-round-test.true) in
     record {
       events = round_more c.loop-round.mixed.items c.take_round.new.mixed.items c.args.schedule.now (map (λ w. w.now) c.loop-round.left.items) (map (λ w. w.now) c.take_round.new.left.items) (c.args.most - c.loop-round.round) (c.args.most - (c.loop-round.round + 1)) one came.events came.left
-      ∙ c.loop-round.invariant.events;
+          ∙ c.loop-round.invariant.events;
       room = came.room;
       len = came.len ∙ c.loop-round.invariant.len;
     }

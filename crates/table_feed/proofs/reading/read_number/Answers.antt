@@ -17,8 +17,11 @@ returns-in-Some-number-clause-number c = record {
 }
 
 pub returns-in-None-number-clause-fault : goal.returns-in-None-number-clause-fault
-returns-in-None-number-clause-fault c = (refl, record {
-  field = c.in-Some.field.now;
-  split = at_column (fields_of c.args.fields.now) c.args.place.column c.in-Some.field.now c.in-Some.ensures.value;
-  is = sym c.in-None-number.ensures;
-})
+returns-in-None-number-clause-fault c = (
+  refl,
+  record {
+    field = c.in-Some.field.now;
+    split = at_column (fields_of c.args.fields.now) c.args.place.column c.in-Some.field.now c.in-Some.ensures.value;
+    is = sym c.in-None-number.ensures;
+  },
+)
