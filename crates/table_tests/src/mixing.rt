@@ -38,3 +38,47 @@ fn mixed_lines(alloc: Global, schedule: &[u32], first: &[u8], second: &[u8]) -> 
     let same = canon(alloc, &both, &whole)?;
     Ok((lines(alloc, &word)?, lines(alloc, &same)?))
 }
+
+/// One word after the other.
+const IN_ORDER: &str = "L item\nL F int 1\nL cut\nL item\nL F int 2\nL cut\nL end\nR item\nR F int 10\nR cut\nR item\nR F int 20\nR cut\nR end\n";
+
+// Whether a schedule mixes the words of two tables of two rows to these lines, which stand for what the words stand
+// for one after the other.
+fn is_mixed(alloc: Global, schedule: &[u32], text: &str) -> bool {
+    match mixed_lines(alloc, schedule, b"1\n2\n", b"10\n20\n") {
+        Ok((word, whole)) => word.as_str() == text && whole.as_str() == IN_ORDER,
+        Err(_) => false,
+    }
+}
+
+#[test]
+fn schedules_mix(rt: HostRuntime) -> Result<(), Fail> {
+    let rows: [(&[u32], &str); 7] = [
+        (&[0], IN_ORDER),
+        (&[], IN_ORDER),
+        (
+            &[1],
+            "R item\nR F int 10\nR cut\nR item\nR F int 20\nR cut\nR end\nL item\nL F int 1\nL cut\nL item\nL F int 2\nL cut\nL end\n",
+        ),
+        (
+            &[5, 1],
+            "R item\nR F int 10\nR cut\nR item\nR F int 20\nR cut\nR end\nL item\nL F int 1\nL cut\nL item\nL F int 2\nL cut\nL end\n",
+        ),
+        (
+            &[0, 1],
+            "L item\nR item\nL F int 1\nR F int 10\nL cut\nR cut\nL item\nR item\nL F int 2\nR F int 20\nL cut\nR cut\nL end\nR end\n",
+        ),
+        (
+            &[0, 0, 1, 1],
+            "L item\nL F int 1\nR item\nR F int 10\nL cut\nL item\nR cut\nR item\nL F int 2\nL cut\nR F int 20\nR cut\nL end\nR end\n",
+        ),
+        (
+            &[1, 0, 1, 1],
+            "R item\nL item\nR F int 10\nR cut\nR item\nL F int 1\nR F int 20\nR cut\nR end\nL cut\nL item\nL F int 2\nL cut\nL end\n",
+        ),
+    ];
+    for (schedule, text) in rows {
+        assert!(rt; is_mixed(rt.alloc(), schedule, text), "{text}");
+    }
+    Ok(())
+}
