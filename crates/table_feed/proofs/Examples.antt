@@ -1,18 +1,18 @@
 -- Worked examples of tables, of faults, of mixed words and of lines.
-use Rattle.std.proofs.Common.{◌≡◌, ℕ, ℤ, pos, negsuc, List, [], ◌∷◌, Some, None, refl, codes}
-use Rattle.stream_type.specs.StreamType.{int, cat, par, star}
-use Rattle.stream_prefix.specs.StreamPrefix.{int_full, cat_both, par_both, star_rest, star_done}
+use Rattle.std.proofs.Common.{◌≡◌, pos, negsuc, List, [], ◌∷◌, Some, None, refl, codes}
+use Rattle.std.specs.Fmt.{digits}
+use Rattle.stream_type.specs.StreamType.{int, cat, star}
+use Rattle.stream_prefix.specs.StreamPrefix.{int_full, cat_both, star_rest, star_done}
 use Rattle.event_word.specs.declared.event.Step.TheVariants.{Left, Right, First}
 use Rattle.event_word.specs.declared.event.Leaf.TheVariants.{Int, Cut, Item, End}
 use Rattle.event_word.specs.StreamEvent.{StreamEvent, leaf_of, under}
-use Rattle.event_word.specs.Word.{pre}
 use Rattle.hist_value.specs.Wholes.{full}
 use Rattle.csv.proofs.OnLiterals.{csv_on_literals}
 use Rattle.table_feed.specs.declared.fault.FeedFault.TheVariants.{Ragged, BadNumber}
 use Rattle.table_feed.specs.RowType.{row_type}
 use Rattle.table_feed.specs.Tables.{number_of, table_of, table_value, table_fault}
 use Rattle.table_feed.specs.Rows.{rows_text}
-use Rattle.table_feed.specs.Mixing.{next_of, in_order, mixed_word}
+use Rattle.table_feed.specs.Mixing.{next_of, mixed_word}
 
 -- two columns
 two_columns : row_type 2 ≡ star (cat int int)
@@ -88,4 +88,5 @@ in_turn = refl
 
 -- the lines of two rows
 lines : rows_text ((pos 1 ∷ negsuc 1 ∷ []) ∷ (pos 30 ∷ pos 0 ∷ []) ∷ []) ≡ codes "1,-2\n30,0\n"
+unfolding digits
 lines = refl
