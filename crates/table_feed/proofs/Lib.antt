@@ -1,0 +1,11 @@
+pub mod MixedWords
+pub mod Sizes
+pub mod Placing
+pub mod FieldNumbers
+pub mod CsvRecords
+pub mod Faults
+pub mod Values
+pub mod WrittenRows
+pub mod WholeRows
+pub mod CanonicalWords
+pub mod Examples
