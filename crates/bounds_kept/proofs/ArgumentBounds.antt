@@ -1,11 +1,9 @@
 -- What arguments can hold where some are left out, and where those of two calls become one: an argument that may
 -- hold something is passed on once at most, so it counts once at most.
-use Rattle.std.proofs.Common.{◌≡◌, ◌∙◌, ℕ, Bool, true, false, true≢false, not, ◌&&◌, ◌||◌, ◌⊎◌, inl, inr, List, [], ◌∷◌, eqb, if◌then◌else◌, ap, ap₂, refl, subst, sym, ⊎_elim, arith}
+use Rattle.std.proofs.Common.{◌≡◌, ◌∙◌, ℕ, Bool, true, false, true≢false, not, ◌&&◌, ◌||◌, ◌⊎◌, inl, inr, List, [], ◌∷◌, eqb, if◌then◌else◌, ap, refl, subst, sym, ⊎_elim, arith}
 use Rattle.std.proofs.lemmas.Bool.{eqb-true}
 use Rattle.std.specs.Prelude.{Some, None, is_some}
-use Rattle.std.specs.List.{list_all}
-use Rattle.stream_type.specs.StreamType.{StreamType}
-use Rattle.bunch.specs.Names.{put, holds}
+use Rattle.bunch.specs.Names.{holds}
 use Rattle.core_term.specs.CoreTerm.{CoreBody}
 use Rattle.core_term.specs.FreeNames.{without}
 use Rattle.core_term.specs.Typing.{Context, AllBefore}

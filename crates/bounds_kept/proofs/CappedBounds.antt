@@ -1,7 +1,7 @@
 -- No bound of a term or of a state is above the limit of sums. So a bound beside another one is at least itself.
 use Rattle.std.proofs.Common.{◌≤◌, ℕ, Bool, List, [], ◌∷◌, arith}
 use Rattle.std.specs.Prelude.{Some, None, ⊤}
-use Rattle.bunch.specs.Facts.{Facts, place_let}
+use Rattle.bunch.specs.Facts.{Facts}
 use Rattle.core_term.specs.CoreTerm.{CoreTerm, CoreBody, var_term, eps_term, unit_term, nil_term, past_term, par_term, cat_term, cons_term, inl_term, inr_term, let_term, let_par_term, let_cat_term, case_sum_term, case_star_term, wait_term, call_term, fun_at}
 use Rattle.core_term.specs.FreeNames.{free_names, without, once}
 use Rattle.core_term.specs.Environment.{NameTypes}

@@ -1,7 +1,7 @@
 -- Worked examples: what rewritings do to the bounds of single states, and why two calls don't always become one.
-use Rattle.std.proofs.Common.{◌≡◌, ℕ, false, [], ◌∷◌, refl}
+use Rattle.std.proofs.Common.{◌≡◌, false, [], ◌∷◌, refl}
 use Rattle.std.specs.Prelude.{Some, None}
-use Rattle.stream_type.specs.StreamType.{StreamType, one, int, sum}
+use Rattle.stream_type.specs.StreamType.{one, int, sum}
 use Rattle.stream_prefix.specs.StreamPrefix.{sum_emp, int_emp}
 use Rattle.bunch.specs.Names.{put}
 use Rattle.core_term.specs.CoreTerm.{var_term}

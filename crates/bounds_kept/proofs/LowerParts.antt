@@ -1,5 +1,5 @@
 -- Where a part is replaced by one that can hold no more, the whole can hold no more: once for any replacement.
-use Rattle.std.proofs.Common.{◌≡◌, ◌∙◌, ℕ, Bool, true, false, not, ◌&&◌, List, [], ◌∷◌, ◌++◌, eqb, if◌then◌else◌, ap, ap₂, refl, sym}
+use Rattle.std.proofs.Common.{◌≡◌, ◌∙◌, ℕ, Bool, true, false, not, ◌&&◌, List, ◌∷◌, eqb, if◌then◌else◌, ap, ap₂, refl, sym}
 use Rattle.std.specs.Prelude.{Some}
 use Rattle.stream_type.specs.StreamType.{StreamType, null_of}
 use Rattle.bunch.specs.Names.{put, holds}
@@ -9,7 +9,7 @@ use Rattle.core_term.specs.FreeNames.{without, free_names}
 use Rattle.core_term.specs.Parts.{par_left, par_right, cat_first, cat_second}
 use Rattle.core_term.specs.Typing.{Context, type_at, types_of, AllBefore, with_name, with_fact, with_parts}
 use Rattle.core_term.proofs.Sides.{and_first, and_second}
-use Rattle.delta_state.specs.StateTree.{LaterTree, StateTree, ArgumentTrees, argument_names, argument_at, free_in_state, free_in_arguments}
+use Rattle.delta_state.specs.StateTree.{StateTree, ArgumentTrees, argument_names, argument_at, free_in_state, free_in_arguments}
 use Rattle.delta_state.specs.StateTyping.{HasStateType, HaveArgumentTypes, marks_of_arguments, context_of_arguments}
 use Rattle.delta_state.specs.Settled.{is_settled, are_settled}
 use Rattle.state_rewriting.specs.Rewriting.{Replaced, ReplacedArgument, here, in_left, in_right, in_first, in_bound, in_let, in_let_par, in_let_cat, in_arguments, in_body, at_first, at_other}
@@ -17,7 +17,6 @@ use Rattle.state_rewriting.proofs.FittingParts.{row_at, row_of, Served, served_s
 use Rattle.state_bounds.specs.Bounds.{Bound, ◌⊑◌}
 use Rattle.state_bounds.specs.StateBounds.{code_bound, state_bound, argument_bounds}
 use Rattle.state_bounds.proofs.BoundOrder.{at_most_same, both_at_most, greater_at_most}
-use Rattle.state_bounds.proofs.MoreFacts.{Gains}
 use Rattle.state_bounds.proofs.StatesWithMoreFacts.{Roomy, state_at_most}
 use Rattle.bounds_kept.proofs.NamesThatServe.{AllServe, serve_let, serve_parts, serve_fact, serve_body, still_served, still_before, still_placed}
 

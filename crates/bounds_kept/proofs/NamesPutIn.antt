@@ -1,16 +1,16 @@
 -- Where a name is put in for the one that is bound to it, or for the pair of its parts, the state can hold no more.
-use Rattle.std.proofs.Common.{◌≡◌, ◌≢◌, ◌∙◌, ℕ, Bool, true, false, true≢false, List, [], ◌∷◌, eqb, if◌then◌else◌, ap, refl, subst, sym, arith}
+use Rattle.std.proofs.Common.{◌≡◌, ◌≢◌, ◌∙◌, ℕ, Bool, true, false, true≢false, List, [], ◌∷◌, eqb, if◌then◌else◌, ap, refl, subst, sym}
 use Rattle.std.proofs.lemmas.Bool.{eqb-true, ne_eqb}
 use Rattle.std.specs.Prelude.{Option, Some, is_some}
 use Rattle.stream_type.specs.StreamType.{StreamType}
-use Rattle.bunch.specs.Names.{put, holds}
+use Rattle.bunch.specs.Names.{put}
 use Rattle.bunch.specs.Facts.{Facts, place_let, place_like}
 use Rattle.core_term.specs.CoreTerm.{CoreBody}
 use Rattle.core_term.specs.Parts.{par_left, par_right}
 use Rattle.core_term.specs.Typing.{Context, type_at, with_name, with_parts}
-use Rattle.core_term.proofs.Sides.{and_first, holds-head, put-other, eqb-same}
+use Rattle.core_term.proofs.Sides.{and_first, holds-head, eqb-same}
 use Rattle.core_term.proofs.Without.{holds-tail}
-use Rattle.delta_state.specs.StateTree.{StateTree, var_state, par_state, let_state, let_par_state, free_in_state}
+use Rattle.delta_state.specs.StateTree.{StateTree, var_state, let_state, let_par_state}
 use Rattle.delta_state.specs.StateTyping.{HasStateType}
 use Rattle.delta_state.specs.Settled.{is_settled}
 use Rattle.state_rewriting.specs.Rewriting.{Replaced, IsAlias, IsPair, alias_for, pair_for}

@@ -1,5 +1,5 @@
 -- Names that serve for others, in each context on the way into a state.
-use Rattle.std.proofs.Common.{⊎_elim, ◌≡◌, ◌∙◌, ◌&&◌, ◌⊎◌, inl, inr, ℕ, Bool, true, false, true≢false, List, [], ◌∷◌, eqb, if◌then◌else◌, ap, ap₂, refl, sym}
+use Rattle.std.proofs.Common.{⊎_elim, ◌≡◌, ◌∙◌, ◌&&◌, ◌⊎◌, inl, inr, ℕ, Bool, true, false, true≢false, List, [], eqb, if◌then◌else◌, ap, ap₂, sym}
 use Rattle.std.specs.Prelude.{Some, is_some}
 use Rattle.std.specs.List.{list_all}
 use Rattle.stream_type.specs.StreamType.{StreamType}

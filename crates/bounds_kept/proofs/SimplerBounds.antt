@@ -1,7 +1,6 @@
 -- The laws: no rewriting lets a state hold more.
-use Rattle.std.proofs.Common.{◌≡◌, ◌∙◌, ℕ, Bool, true, true≢false, List, [], ◌∷◌, ◌++◌, ap, refl, subst, sym}
+use Rattle.std.proofs.Common.{◌≡◌, ◌∙◌, ℕ, Bool, true, true≢false, List, [], ap, refl, subst, sym}
 use Rattle.std.specs.Prelude.{Option, Some, None, is_some}
-use Rattle.std.specs.List.{All}
 use Rattle.stream_type.specs.StreamType.{StreamType}
 use Rattle.stream_prefix.specs.StreamPrefix.{StreamPrefix}
 use Rattle.stream_prefix.proofs.Derivations.{is_prefix}
@@ -10,9 +9,9 @@ use Rattle.bunch.specs.Names.{holds}
 use Rattle.bunch.specs.Facts.{place_let}
 use Rattle.core_term.specs.CoreTerm.{CoreBody, CoreProgram}
 use Rattle.core_term.specs.Inert.{is_inert_fun}
-use Rattle.core_term.specs.Typing.{Context, type_at, with_name}
+use Rattle.core_term.specs.Typing.{Context, with_name}
 use Rattle.core_term.proofs.TypedRuns.{AreStreams}
-use Rattle.delta_state.specs.StateTree.{StateTree, let_state, let_par_state, let_cat_state, frame_state, var_state, free_in_state}
+use Rattle.delta_state.specs.StateTree.{StateTree, free_in_state}
 use Rattle.delta_state.specs.StateTyping.{HasStateType, context_of_arguments}
 use Rattle.delta_state.specs.Settled.{is_settled}
 use Rattle.delta_state.specs.Stands.{input_type, context_after, output_left, depth_after}
@@ -20,7 +19,7 @@ use Rattle.delta_state.specs.MachineView.{input_of}
 use Rattle.state_steps.proofs.Seeing.{Sees}
 use Rattle.state_rewriting.specs.Rewriting.{Rewritten, finished, unused, unused_pair, unused_row, unused_argument, alias, pair, renamed, frames, Simpler, SimplerBy, as_it_is, one_more, composed, without_argument}
 use Rattle.state_rewriting.proofs.HiddenNames.{without_name, let_facts, without_parts, without_row}
-use Rattle.state_rewriting.proofs.FittingParts.{Served, Fits, FitsLocally, fits}
+use Rattle.state_rewriting.proofs.FittingParts.{Fits, FitsLocally, fits}
 use Rattle.state_rewriting.proofs.BindingsLeftOut.{NoOther, finished_fits, unused_fits, unused_pair_fits, unused_row_fits, renamed_fits}
 use Rattle.state_rewriting.proofs.AliasPutIn.{alias_fits}
 use Rattle.state_rewriting.proofs.PairPutIn.{pair_fits}
@@ -33,9 +32,9 @@ use Rattle.state_bounds.specs.Laws.{bound_after}
 use Rattle.state_bounds.proofs.BoundOrder.{at_most_same, at_most_next, both_at_most, nothing_at_most}
 use Rattle.state_bounds.proofs.StateStreams.{state_streams}
 use Rattle.state_bounds.proofs.StatesWithMoreFacts.{Roomy, state_at_most}
-use Rattle.bounds_kept.specs.Laws.{SimplerHoldsNoMore, SimplerKeepsBound, SimplerStaysBelow, SimplerIsWithin, IsBounded}
+use Rattle.bounds_kept.specs.Laws.{SimplerHoldsNoMore, SimplerKeepsBound, SimplerStaysBelow, SimplerIsWithin}
 use Rattle.bounds_kept.proofs.CappedBounds.{beside_left, beside_right, state_capped}
-use Rattle.bounds_kept.proofs.LowerParts.{Lowers, LowersLocally, lowers}
+use Rattle.bounds_kept.proofs.LowerParts.{LowersLocally, lowers}
 use Rattle.bounds_kept.proofs.NamesPutIn.{alias_lowers, pair_lowers}
 use Rattle.bounds_kept.proofs.ArgumentBounds.{roomy_without, roomy_composed, fewer_at_most, composed_at_most}
 

@@ -4,17 +4,17 @@
 -- - A bound is compared over one context, in which the state is typed. A simpler state is typed there too, so where
 --   a state has a typing in which its bound is at most n, the simpler one has such a typing.
 -- - The numbers of the functions are any: a rewriting reaches no code.
-use Rattle.std.specs.Prelude.{ℕ, ◌≡◌, Bool, IsTrue, List, Some}
+use Rattle.std.specs.Prelude.{ℕ, Bool, IsTrue, List, Some}
 use Rattle.std.specs.List.{All}
 use Rattle.stream_type.specs.StreamType.{StreamType}
-use Rattle.stream_prefix.specs.StreamPrefix.{StreamPrefix, IsPrefix}
+use Rattle.stream_prefix.specs.StreamPrefix.{StreamPrefix}
 use Rattle.event_word.specs.StreamEvent.{StreamEvent}
 use Rattle.core_term.specs.CoreTerm.{CoreBody, CoreProgram}
 use Rattle.core_term.specs.Typing.{Context, IsTypedBody}
 use Rattle.delta_state.specs.StateTree.{StateTree}
 use Rattle.delta_state.specs.StateTyping.{HasStateType}
 use Rattle.delta_state.specs.Settled.{is_settled}
-use Rattle.delta_state.specs.Stands.{StandsFor, input_type, output_left}
+use Rattle.delta_state.specs.Stands.{StandsFor, output_left}
 use Rattle.delta_state.specs.PlainState.{without_marks}
 use Rattle.delta_state.specs.MachineView.{MachineView, input_of}
 use Rattle.state_rewriting.specs.Rewriting.{Simpler, SimplerBy}

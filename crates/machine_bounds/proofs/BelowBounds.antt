@@ -1,6 +1,6 @@
 -- A machine's state can hold no more than its program: at its start, after an event, and once it is put into a
 -- simpler form.
-use Rattle.std.proofs.Common.{◌≡◌, ◌∙◌, ℕ, suc, ◌<◌, ◌≤◌, ◌^◌, List, [], ◌∷◌, ◌++◌, length, ap, sym, subst, arith}
+use Rattle.std.proofs.Common.{◌≡◌, ◌∙◌, ℕ, suc, ◌<◌, ◌≤◌, ◌^◌, List, [], ◌∷◌, ◌++◌, ap, sym, subst, arith}
 use Rattle.std.specs.Prelude.{Some}
 use Rattle.stream_type.specs.StreamType.{StreamType}
 use Rattle.stream_prefix.specs.StreamPrefix.{StreamPrefix, emp, der}
@@ -23,14 +23,13 @@ use Rattle.main_steps.specs.Keeping.{Keeps}
 use Rattle.main_steps.specs.Laws.{next_entries, first_run_on, first_state_on, run_on, state_on}
 use Rattle.main_steps.proofs.Keeping.{first_rest, next_run, next_rest}
 use Rattle.state_rewriting.specs.Rewriting.{SimplerBy}
-use Rattle.state_bounds.specs.Bounds.{Bound, ◌⊑◌}
-use Rattle.state_bounds.specs.ProgramBound.{AreEnough, main_bound}
+use Rattle.state_bounds.specs.Bounds.{◌⊑◌}
+use Rattle.state_bounds.specs.ProgramBound.{main_bound}
 use Rattle.state_bounds.specs.Laws.{bound_after}
 use Rattle.state_bounds.proofs.BoundOrder.{at_most_next}
 use Rattle.state_bounds.proofs.ProgramBounds.{first_holds, event_holds, machine_holds}
 use Rattle.bounds_kept.proofs.SimplerBounds.{simpler_stays_below}
 use Rattle.machine_parts.specs.AwaitedTree.{AwaitedTree, whole_of, entries_on, awaited_after}
-use Rattle.machine_parts.specs.KeepsAll.{KeepsAll}
 use Rattle.machine_parts.proofs.Awaiting.{entries_whole, entries_left}
 use Rattle.machine_parts.proofs.StandingTrees.{begins_as, begins_with, goes_on_with}
 use Rattle.machine_bounds.specs.StaysBelow.{IsBelow, KeepsBelow}

@@ -1,6 +1,6 @@
 -- A worked example: a state that holds more than its program, though it gives what the program does. So what a
 -- machine stands for has to speak of its bound.
-use Rattle.std.proofs.Common.{◌≡◌, ℕ, [], ◌∷◌, refl}
+use Rattle.std.proofs.Common.{◌≡◌, [], ◌∷◌, refl}
 use Rattle.std.specs.Prelude.{Some, None}
 use Rattle.stream_type.specs.StreamType.{one, int, sum}
 use Rattle.stream_prefix.specs.StreamPrefix.{sum_emp, int_emp}

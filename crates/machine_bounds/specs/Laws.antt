@@ -1,12 +1,11 @@
 -- What the laws of machines and buffer bounds say.
-use Rattle.std.specs.Prelude.{ℕ, ◌≡◌, ◌^◌, ◌<◌, ◌≤◌, List, [], ◌∷◌, ◌++◌, Some}
+use Rattle.std.specs.Prelude.{ℕ, ◌^◌, ◌<◌, ◌≤◌, List, [], ◌∷◌, ◌++◌, Some}
 use Rattle.stream_type.specs.StreamType.{StreamType}
 use Rattle.stream_prefix.specs.StreamPrefix.{emp}
 use Rattle.event_word.specs.StreamEvent.{StreamEvent}
 use Rattle.event_word.specs.Admits.{Admits}
 use Rattle.event_word.specs.Word.{one_of, after_word}
 use Rattle.core_term.specs.CoreTerm.{CoreProgram}
-use Rattle.core_term.specs.Run.{Run}
 use Rattle.delta_state.specs.StateTree.{StateTree}
 use Rattle.delta_state.specs.Stands.{input_type}
 use Rattle.delta_state.specs.PlainState.{events_held, capped}
