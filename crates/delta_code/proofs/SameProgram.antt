@@ -15,7 +15,8 @@ use Rattle.main_steps.specs.Laws.{first_run_on, first_state_on}
 use Rattle.state_rewriting.specs.Rewriting.{SimplerBy}
 use Rattle.state_rewriting.proofs.SimplerStates.{simpler_stands_for}
 use Rattle.machine_parts.specs.AwaitedTree.{AwaitedTree}
-use Rattle.machine_parts.specs.KeepsAll.{KeepsAll}
+use Rattle.machine_bounds.specs.StaysBelow.{KeepsBelow}
+use Rattle.machine_bounds.proofs.BelowBounds.{simpler_below}
 
 -- a program is that of its parts
 pub same_program : (c : CoreProgram) (funs : List CoreBody) (main : CoreBody) (texts : List (List ℕ)) → funs ≡ c.funs → main ≡ c.main → texts ≡ c.texts → record { funs = funs; main = main; texts = texts } ≡ c
@@ -31,20 +32,25 @@ pub same_rest : (c : CoreProgram) (funs : List CoreBody) (k : ℕ) (main : CoreB
 same_rest c funs k main past es fs e h f g is = λ i. rest_at (fun_at (e i)) (h i) (f i).body (types_held (is i)) (f i).result (prefixes_held (is i)) (g i)
 
 -- a machine keeps what it kept with a simpler state in place of its own
-pub keeps_simpler : (c : CoreProgram) (budget : ℕ) (s t : StateTree) (a : AwaitedTree) (input output : StreamType) (events spent : ℕ) (word : List StreamEvent) → KeepsAll c budget s a input output events spent word → SimplerBy output s t
-    → KeepsAll c budget t a input output events spent word
-keeps_simpler c budget s t a input output events spent word h simpler = record {
-  keeps = record {
-    runnable = h.keeps.runnable;
-    is_word = h.keeps.is_word;
-    stands_for = simpler_stands_for c (depth_after events) (input_of c word) s t h.keeps.runnable.is_typed.funs_typed (is_prefix (word_derives (input_type c) word h.keeps.is_word)) h.keeps.stands_for (subst (λ (r : StreamType). SimplerBy r s t) h.keeps.is_output simpler);
-    is_came = h.keeps.is_came;
-    is_input = h.keeps.is_input;
-    is_output = h.keeps.is_output;
-    is_count = h.keeps.is_count;
-  };
-  awaits = h.awaits;
-  is_place = h.is_place;
-  in_budget = h.in_budget;
-  in_limit = h.in_limit;
-}
+pub keeps_simpler : (c : CoreProgram) (budget : ℕ) (s t : StateTree) (a : AwaitedTree) (input output : StreamType) (events spent : ℕ) (word : List StreamEvent) → KeepsBelow c budget s a input output events spent word → SimplerBy output s t
+    → KeepsBelow c budget t a input output events spent word
+keeps_simpler c budget s t a input output events spent word h simpler =
+    let k = h.keeps.keeps in
+    record {
+      keeps = record {
+        keeps = record {
+          runnable = k.runnable;
+          is_word = k.is_word;
+          stands_for = simpler_stands_for c (depth_after events) (input_of c word) s t k.runnable.is_typed.funs_typed (is_prefix (word_derives (input_type c) word k.is_word)) k.stands_for (subst (λ (r : StreamType). SimplerBy r s t) k.is_output simpler);
+          is_came = k.is_came;
+          is_input = k.is_input;
+          is_output = k.is_output;
+          is_count = k.is_count;
+        };
+        awaits = h.keeps.awaits;
+        is_place = h.keeps.is_place;
+        in_budget = h.keeps.in_budget;
+        in_limit = h.keeps.in_limit;
+      };
+      below = simpler_below c budget s t a input output events spent word h simpler;
+    }

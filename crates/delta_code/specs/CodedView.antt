@@ -11,7 +11,7 @@ use Rattle.delta_state.specs.Rest.{rest_of}
 use Rattle.delta_state.specs.PlainState.{without_marks}
 use Rattle.delta_state.specs.MachineView.{MachineView, StandsAfter}
 use Rattle.machine_parts.specs.AwaitedTree.{AwaitedTree, awaited_in, entries_on, place_in}
-use Rattle.machine_parts.specs.KeepsAll.{KeepsAll}
+use Rattle.machine_bounds.specs.StaysBelow.{KeepsBelow, StaysBelow}
 use Rattle.template_state.specs.declared.code.Code.{Code}
 use Rattle.template_state.specs.Readers.{state_in}
 use Rattle.template_state.specs.Templates.{bodies_in, body_in}
@@ -34,19 +34,23 @@ program_of m = record { funs = bodies_in m.code.value; main = body_in m.code.val
 abbrev pub view_of : Coded → MachineView
 view_of m = record { program = program_of m; budget = m.budget; state = without_marks (state_in m.state.value); place = place_in (awaited_in m.awaited.value); events = m.events; spent = m.spent }
 
--- it stands for its program after the word
+-- it stands for its program after the word, by a state that can hold no more than the program
 abbrev pub CodedStands : Coded → List StreamEvent → Type 0
-CodedStands m word = KeepsAll (program_of m) m.budget (state_in m.state.value) (awaited_in m.awaited.value) (type_of m.input.value) (type_of m.output.value) m.events m.spent word
+CodedStands m word = KeepsBelow (program_of m) m.budget (state_in m.state.value) (awaited_in m.awaited.value) (type_of m.input.value) (type_of m.output.value) m.events m.spent word
 
 -- and so as machines have to
 abbrev pub coded_stands_after : (m : Coded) (word : List StreamEvent) → CodedStands m word → StandsAfter (view_of m) word
 coded_stands_after m word s = record {
-  is_word = s.keeps.is_word;
+  is_word = s.keeps.keeps.is_word;
   marked = state_in m.state.value;
   is_state = refl;
-  stands_for = s.keeps.stands_for;
-  is_place = s.is_place;
-  is_count = s.keeps.is_count;
-  in_budget = s.in_budget;
-  in_limit = s.in_limit;
+  stands_for = s.keeps.keeps.stands_for;
+  is_place = s.keeps.is_place;
+  is_count = s.keeps.keeps.is_count;
+  in_budget = s.keeps.in_budget;
+  in_limit = s.keeps.in_limit;
 }
+
+-- and its state can hold no more than the program
+abbrev pub coded_stays_below : (m : Coded) (word : List StreamEvent) → CodedStands m word → StaysBelow (view_of m) word
+coded_stays_below m word s = record { stands = coded_stands_after m word s; below = s.below }

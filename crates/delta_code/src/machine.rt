@@ -15,7 +15,7 @@ ghost use Rattle.template_state.specs.Readers.{state_in};
 ghost use Rattle.delta_code.specs.Begun.{run_of, rest_of};
 ghost use Rattle.delta_code.specs.Told.{told};
 ghost use Rattle.template_state.specs.Templates.{bodies_in, body_in};
-ghost use Rattle.delta_code.specs.CodedView.{run_awaiting, rest_awaiting, program_of, view_of, CodedStands, coded_stands_after};
+ghost use Rattle.delta_code.specs.CodedView.{run_awaiting, rest_awaiting, program_of, view_of, CodedStands, coded_stands_after, coded_stays_below};
 
 use crate::begun::Begun;
 use crate::compiling::{compile, copy_texts};
@@ -26,6 +26,7 @@ use crate::told::Told;
 use core_term::{Checked, Core};
 use delta_state::{Machine, Place, State, StepRefusal};
 use event_word::Event;
+use machine_bounds::Bounded;
 use machine_parts::awaited::{Awaited, entries, go_on, whole};
 use machine_parts::boxes::{copy_boxed, event_boxed, left_boxed};
 use machine_parts::place::place;
@@ -117,6 +118,10 @@ impl Machine for Coded {
     fn nodes(&self) -> u64 {
         count_states(&self.state)
     }
+}
+
+impl Bounded for Coded {
+    ghost stays_below = { coded_stays_below };
 }
 
 // The code of a program, in a box of its own.

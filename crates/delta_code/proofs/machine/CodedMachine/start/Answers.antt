@@ -15,7 +15,8 @@ use Rattle.delta_state.specs.declared.machine.StepRefusal.{StepRefusal}
 use Rattle.delta_state.specs.declared.machine.StepRefusal.TheVariants.{Budget, Deep}
 use Rattle.delta_state.specs.Stands.{input_type}
 use Rattle.machine_parts.specs.AwaitedTree.{awaited_in}
-use Rattle.machine_parts.proofs.StandingTrees.{begins_with, begins_answer, begins_costly, begins_deep}
+use Rattle.machine_parts.proofs.StandingTrees.{begins_answer, begins_costly, begins_deep}
+use Rattle.machine_bounds.proofs.BelowBounds.{begins_below_with}
 use Rattle.state_rewriting.specs.Rewriting.{SimplerBy}
 use Rattle.template_state.specs.Readers.{state_in}
 use Rattle.template_state.specs.Templates.{bodies_in, body_in}
@@ -54,7 +55,7 @@ returns-clause-stands c =
     let begun = c.in_ok-run.run' in
     let texts : map string_bytes c.in_ok-texts.texts.items ≡ d.texts = c.in_ok-texts.ensures ∙ ap (λ (l : List (String Global)). map string_bytes l) c.deref-4.ensures.value in
     let program : CoreProgram = record { funs = bodies_in code; main = body_in code.main; texts = map string_bytes c.in_ok-texts.texts.items } in
-    let kept = begins_with d (record { is_core = c.core-core.ensures.core; is_typed = c.core-core.ensures.typed }) c.args.budget (run_of begun) (rest_of begun) c.in_ok-run.ensures.run c.in_ok-run.ensures.rest c.in_ok-run.ensures.counted c.requires.budget
+    let kept = begins_below_with d (record { is_core = c.core-core.ensures.core; is_typed = c.core-core.ensures.typed }) c.args.budget (run_of begun) (rest_of begun) c.in_ok-run.ensures.run c.in_ok-run.ensures.rest c.in_ok-run.ensures.counted c.requires.budget
     program (awaited_in c.in_ok-awaited.awaited.value) (type_of c.in_ok-input.input.value) (type_of c.in_ok-output.output.value)
     (same_program d (bodies_in code) (body_in code.main) (map string_bytes c.in_ok-texts.texts.items) c.in_ok-code.ensures.funs c.in_ok-code.ensures.main texts)
     c.in_ok-awaited.ensures

@@ -13,7 +13,8 @@ use Rattle.delta_state.specs.declared.machine.StepRefusal.TheVariants.{Budget, D
 use Rattle.delta_state.specs.Stands.{input_type}
 use Rattle.delta_step.specs.Reached.{run_of, rest_of}
 use Rattle.machine_parts.specs.AwaitedTree.{awaited_in}
-use Rattle.machine_parts.proofs.StandingTrees.{begins_with, begins_answer, begins_costly, begins_deep}
+use Rattle.machine_parts.proofs.StandingTrees.{begins_answer, begins_costly, begins_deep}
+use Rattle.machine_bounds.proofs.BelowBounds.{begins_below_with}
 use Rattle.delta_step.proofs.machine.TreeMachine.start.Goals as goal
 
 pub returns-in_err-run-clause-costly : goal.returns-in_err-run-clause-costly
@@ -37,7 +38,7 @@ returns-clause-stands c =
     let d = core_of c.core-core.result.now in
     let same = ap (λ (k : Core). core_of k) c.core-core.ensures.program in
     let reached = c.in_ok-run.run' in
-    begins_with d (record { is_core = c.core-core.ensures.core; is_typed = c.core-core.ensures.typed }) c.args.budget (run_of reached) (rest_of reached) c.in_ok-run.ensures.run c.in_ok-run.ensures.rest c.in_ok-run.ensures.counted c.requires.budget
+    begins_below_with d (record { is_core = c.core-core.ensures.core; is_typed = c.core-core.ensures.typed }) c.args.budget (run_of reached) (rest_of reached) c.in_ok-run.ensures.run c.in_ok-run.ensures.rest c.in_ok-run.ensures.counted c.requires.budget
     (core_of c.in_ok-core.core.value) (awaited_in c.in_ok-awaited.awaited.value) (type_of c.in_ok-input.input.value) (type_of c.in_ok-output.output.value)
     c.in_ok-core.ensures
     c.in_ok-awaited.ensures

@@ -15,7 +15,8 @@ use Rattle.main_steps.specs.Laws.{run_on, state_on}
 use Rattle.delta_step.specs.Marked.{state_in}
 use Rattle.delta_step.specs.Reached.{run_of}
 use Rattle.machine_parts.specs.AwaitedTree.{awaited_in, entries_on}
-use Rattle.machine_parts.proofs.StandingTrees.{is_costly, is_deep, is_answer, goes_on_with}
+use Rattle.machine_parts.proofs.StandingTrees.{is_costly, is_deep, is_answer}
+use Rattle.machine_bounds.proofs.BelowBounds.{goes_on_below_with}
 use Rattle.delta_step.proofs.machine.TreeMachine.step.Goals as goal
 
 pub returns-in_err-run-clause-costly : goal.returns-in_err-run-clause-costly
@@ -32,7 +33,7 @@ returns-in_err-run-clause-costly c n q =
     let a = awaited_in m.awaited.value in
     let i = type_of m.input.value in
     let o = type_of m.output.value in
-    (told.0, λ word w. is_costly d m.budget s a i o m.events m.spent word x w.stands_after w.admits n (subst (λ (p : StreamPrefix). n < (run_on d s o (entries_on a p)).calls) same told.1))
+    (told.0, λ word w. is_costly d m.budget s a i o m.events m.spent word x w.stands_after.keeps w.admits n (subst (λ (p : StreamPrefix). n < (run_on d s o (entries_on a p)).calls) same told.1))
 
 pub returns-in_err-run-clause-deep : goal.returns-in_err-run-clause-deep
 returns-in_err-run-clause-deep c n q =
@@ -48,7 +49,7 @@ returns-in_err-run-clause-deep c n q =
     let a = awaited_in m.awaited.value in
     let i = type_of m.input.value in
     let o = type_of m.output.value in
-    (told.0, λ word w. is_deep d m.budget s a i o m.events m.spent word x w.stands_after w.admits (subst (λ (p : StreamPrefix). 1001 < (run_on d s o (entries_on a p)).level) same told.1))
+    (told.0, λ word w. is_deep d m.budget s a i o m.events m.spent word x w.stands_after.keeps w.admits (subst (λ (p : StreamPrefix). 1001 < (run_on d s o (entries_on a p)).level) same told.1))
 
 pub returns-clause-stands : goal.returns-clause-stands
 returns-clause-stands c word w =
@@ -66,7 +67,7 @@ returns-clause-stands c word w =
     let k = c.in_ok-advance.ensures in
     let after = c.advance.new.machine in
     let next : after.events ≡ suc m.events = omega (arith, k.events) in
-    goes_on_with d m.budget s a i o m.events m.spent word x w.stands_after w.admits (run_of c.in_ok-run.run') (c.in_ok-run.ensures.run ∙ ap (λ (p : StreamPrefix). run_on d s o (entries_on a p)) same) c.in_ok-run.ensures.counted c.requires.has_room
+    goes_on_below_with d m.budget s a i o m.events m.spent word x w.stands_after w.admits (run_of c.in_ok-run.run') (c.in_ok-run.ensures.run ∙ ap (λ (p : StreamPrefix). run_on d s o (entries_on a p)) same) c.in_ok-run.ensures.counted c.requires.has_room
     (prefix_of c.deref-3.result.now) (state_in after.state.value) (core_of after.core.value) after.budget (awaited_in after.awaited.value) (type_of after.input.value) (type_of after.output.value) after.events after.spent
     again
     (k.state ∙ (c.in_ok-run.ensures.rest ∙ ap (λ (p : StreamPrefix). state_on d s o (entries_on a p)) same))
@@ -83,4 +84,4 @@ returns-clause-answer c word w =
     let a = awaited_in m.awaited.value in
     let i = type_of m.input.value in
     let o = type_of m.output.value in
-    c.in_ok-advance.ensures.answer ∙ is_answer d m.budget s a i o m.events m.spent word x w.stands_after w.admits (run_of c.in_ok-run.run') (c.in_ok-run.ensures.run ∙ ap (λ (p : StreamPrefix). run_on d s o (entries_on a p)) same) c.in_ok-run.ensures.counted c.requires.has_room
+    c.in_ok-advance.ensures.answer ∙ is_answer d m.budget s a i o m.events m.spent word x w.stands_after.keeps w.admits (run_of c.in_ok-run.run') (c.in_ok-run.ensures.run ∙ ap (λ (p : StreamPrefix). run_on d s o (entries_on a p)) same) c.in_ok-run.ensures.counted c.requires.has_room

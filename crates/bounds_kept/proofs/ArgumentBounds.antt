@@ -1,0 +1,201 @@
+-- What arguments can hold where some are left out, and where those of two calls become one: an argument that may
+-- hold something is passed on once at most, so it counts once at most.
+use Rattle.std.proofs.Common.{◌≡◌, ◌∙◌, ℕ, Bool, true, false, true≢false, not, ◌&&◌, ◌||◌, ◌⊎◌, inl, inr, List, [], ◌∷◌, eqb, if◌then◌else◌, ap, refl, subst, sym, ⊎_elim, arith}
+use Rattle.std.proofs.lemmas.Bool.{eqb-true}
+use Rattle.std.specs.Prelude.{Some, None, is_some}
+use Rattle.bunch.specs.Names.{holds}
+use Rattle.core_term.specs.CoreTerm.{CoreBody}
+use Rattle.core_term.specs.FreeNames.{without}
+use Rattle.core_term.specs.Typing.{Context, AllBefore}
+use Rattle.core_term.proofs.Sides.{and_first, and_second, or_split, holds-head, eqb-same}
+use Rattle.delta_state.specs.StateTree.{StateTree, ArgumentTrees, sink, var_state, no_arguments, argument_before, argument_names, argument_at, free_in_state}
+use Rattle.delta_state.specs.StateTyping.{marks_of_arguments, context_of_arguments}
+use Rattle.state_rewriting.specs.Rewriting.{is_plain, are_plain, names_passed, at_most_once, stand_once, passed_on, composed, without_argument}
+use Rattle.state_rewriting.proofs.OtherNames.{apart_from}
+use Rattle.state_rewriting.proofs.FittingParts.{row_at}
+use Rattle.state_bounds.specs.Bounds.{Bound, both, ◌⊑◌, total}
+use Rattle.state_bounds.specs.StateBounds.{state_bound, argument_bounds}
+use Rattle.state_bounds.proofs.BoundOrder.{at_most_same, at_most_next, both_at_most, nothing_at_most, beside_nothing, total_at_most}
+use Rattle.state_bounds.proofs.StatesWithMoreFacts.{Roomy}
+use Rattle.bounds_kept.proofs.CappedBounds.{beside_right, total_capped, arguments_capped}
+use Rattle.bounds_kept.proofs.LowerParts.{roomy_body}
+
+-- of a parameter both arguments have the same
+record SameOf (y : ℕ) (args others : ArgumentTrees) : Type 0 where
+  pub names : holds y (argument_names args) ≡ holds y (argument_names others)
+  pub marks : marks_of_arguments args y ≡ marks_of_arguments others y
+  pub at : argument_at args y ≡ argument_at others y
+
+-- so it is of another one than u where the arguments of u are left out
+same_without : (u : ℕ) (args : ArgumentTrees) (y : ℕ) → eqb y u ≡ false → SameOf y args (without_argument u args)
+same_without u no_arguments y n = record { names = refl; marks = refl; at = refl }
+same_without u (argument_before x t s args) y n = go (eqb x u) refl (same_without u args y n)
+  where
+    go : (b : Bool) → eqb x u ≡ b → SameOf y args (without_argument u args) → SameOf y (argument_before x t s args) (if b then without_argument u args else argument_before x t s (without_argument u args))
+    go true k i =
+        let other : eqb y x ≡ false = ap (λ w. eqb y w) (eqb-true x u k) ∙ n in
+        record {
+          names = ap (λ o. o || holds y (argument_names args)) other ∙ i.names;
+          marks = ap (λ o. if o then Some t else marks_of_arguments args y) other ∙ i.marks;
+          at = ap (λ o. if o then s else argument_at args y) other ∙ i.at;
+        }
+    go false k i = record { names = ap (λ o. eqb y x || o) i.names; marks = ap (λ o. if eqb y x then Some t else o) i.marks; at = ap (λ o. if eqb y x then s else o) i.at }
+
+-- and a body that doesn't use u has no fewer facts without them
+pub roomy_without : (u : ℕ) (args : ArgumentTrees) (c : Context) (xs : List ℕ) → holds u xs ≡ false → Roomy xs (context_of_arguments c args) (context_of_arguments c (without_argument u args))
+roomy_without u args c xs n =
+    roomy_body xs args (without_argument u args) c c (λ y m. (same y m).marks) (λ y m. (same y m).names)
+    (λ y z m o h v w i j. h v w (ap (λ s. holds v (free_in_state s)) (same y m).at ∙ i) (ap (λ s. holds w (free_in_state s)) (same z o).at ∙ j))
+  where
+    same : (y : ℕ) → holds y xs ≡ true → SameOf y args (without_argument u args)
+    same y m = same_without u args y (apart_from u y xs n m)
+
+-- of each parameter composed arguments have what is passed on to the inner ones
+record IsComposedOf (args inner : ArgumentTrees) (y : ℕ) : Type 0 where
+  pub names : holds y (argument_names (composed args inner)) ≡ holds y (argument_names inner)
+  pub marks : marks_of_arguments (composed args inner) y ≡ marks_of_arguments inner y
+  pub at : argument_at (composed args inner) y ≡ passed_on args (argument_at inner y)
+
+composed_of : (args inner : ArgumentTrees) (y : ℕ) → IsComposedOf args inner y
+composed_of args no_arguments y = record { names = refl; marks = refl; at = refl }
+composed_of args (argument_before x t s inner) y =
+    let i = composed_of args inner y in
+    record { names = ap (λ o. eqb y x || o) i.names; marks = ap (λ o. if eqb y x then Some t else o) i.marks; at = chosen (eqb y x) i.at }
+  where
+    chosen : (b : Bool) → argument_at (composed args inner) y ≡ passed_on args (argument_at inner y) → (if b then passed_on args s else argument_at (composed args inner) y) ≡ passed_on args (if b then s else argument_at inner y)
+    chosen true e = refl
+    chosen false e = e
+
+-- where all arguments are names or finished, each is
+plain_at : (inner : ArgumentTrees) (u : ℕ) → are_plain inner ≡ true → is_plain (argument_at inner u) ≡ true
+plain_at no_arguments u p = refl
+plain_at (argument_before x t s inner) u p = go (eqb u x) (plain_at inner u (and_second (is_plain s) (are_plain inner) p))
+  where
+    go : (b : Bool) → is_plain (argument_at inner u) ≡ true → is_plain (if b then s else argument_at inner u) ≡ true
+    go true k = and_first (is_plain s) (are_plain inner) p
+    go false k = k
+
+-- what stands before another thing in the outer body is passed on to what does so outside
+passed_before : (args : ArgumentTrees) (c : Context) (p q : StateTree) → is_plain p ≡ true → is_plain q ≡ true → AllBefore (context_of_arguments c args) (free_in_state p) (free_in_state q) → AllBefore c (free_in_state (passed_on args p)) (free_in_state (passed_on args q))
+passed_before args c (sink t) q m n h x y i j = absurd (true≢false (sym i))
+passed_before args c (var_state u) (sink t) m n h x y i j = absurd (true≢false (sym j))
+passed_before args c (var_state u) (var_state v) m n h x y i j =
+    let k = h u v (holds-head u []) (holds-head v []) in
+    let o = and_second (is_some (marks_of_arguments args u) && is_some (marks_of_arguments args v)) _ k in
+    row_at c (free_in_state (argument_at args u)) (free_in_state (argument_at args v)) (and_second (holds u (argument_names args) && holds v (argument_names args)) _ o) x y i j
+passed_before args c (var_state u) _ m n h x y i j = absurd (true≢false (sym n))
+passed_before args c _ q m n h x y i j = absurd (true≢false (sym m))
+
+-- so the inner body has no fewer facts in the one call
+pub roomy_composed : (args inner : ArgumentTrees) (c : Context) (xs : List ℕ) → are_plain inner ≡ true → Roomy xs (context_of_arguments (context_of_arguments c args) inner) (context_of_arguments c (composed args inner))
+roomy_composed args inner c xs p =
+    roomy_body xs inner (composed args inner) (context_of_arguments c args) c (λ u m. sym (composed_of args inner u).marks) (λ u m. sym (composed_of args inner u).names)
+    (λ u v m n h x y i j. passed_before args c (argument_at inner u) (argument_at inner v) (plain_at inner u p) (plain_at inner v p) h x y (sym (ap (λ s. holds x (free_in_state s)) (composed_of args inner u).at) ∙ i)
+    (sym (ap (λ s. holds y (free_in_state s)) (composed_of args inner v).at) ∙ j))
+
+-- two bounds beside a third one, in the other order
+both_swap : (a b k : Bound) → both a (both k b) ⊑ both k (both a b)
+both_swap None b None = tt
+both_swap None b (Some k) = tt
+both_swap (Some a) b None = tt
+both_swap (Some a) None (Some k) = tt
+both_swap (Some a) (Some b) (Some k) = omega arith
+
+module _ (x : ℕ) (k : Bound) (g : ℕ → Bound) where
+  -- x has the bound k, the others have their own
+  abbrev with_one : ℕ → Bound
+  with_one u = if eqb u x then k else g u
+
+  -- where x isn't in the list, the bounds are those of the others,
+  none_counted : (us : List ℕ) → holds x us ≡ false → total with_one us ⊑ total g (without x us)
+  none_counted [] n = at_most_same (Some 0)
+  none_counted (u ∷ us) n = go (eqb u x) refl (none_counted us)
+    where
+      rest : (c : Bool) → (c || holds x us) ≡ false → holds x us ≡ false
+      rest true m = absurd (true≢false m)
+      rest false m = m
+
+      go : (b : Bool) → eqb u x ≡ b → (holds x us ≡ false → total with_one us ⊑ total g (without x us)) → both (if b then k else g u) (total with_one us) ⊑ total g (if b then without x us else u ∷ without x us)
+      go true e f = absurd (true≢false (sym (ap (λ c. c || holds x us) (ap (λ w. eqb x w) (eqb-true u x e) ∙ eqb-same x)) ∙ n))
+      go false e f = both_at_most _ _ _ _ (at_most_same (g u)) (f (rest (eqb x u) n))
+
+  -- and so they are where the bound of x is nothing
+  nothing_counted : (us : List ℕ) → k ≡ Some 0 → total with_one us ⊑ total g (without x us)
+  nothing_counted [] n = at_most_same (Some 0)
+  nothing_counted (u ∷ us) n = go (eqb u x) (nothing_counted us n)
+    where
+      go : (b : Bool) → total with_one us ⊑ total g (without x us) → both (if b then k else g u) (total with_one us) ⊑ total g (if b then without x us else u ∷ without x us)
+      go true f = subst (λ q. both q (total with_one us) ⊑ total g (without x us)) (sym n) (beside_nothing (total with_one us) (total g (without x us)) f)
+      go false f = both_at_most _ _ _ _ (at_most_same (g u)) f
+
+  -- where x is in the list once at most, its bound counts once at most
+  once_counted : (us : List ℕ) → at_most_once x us ≡ true → total with_one us ⊑ both k (total g (without x us))
+  once_counted [] m = nothing_at_most (both k (Some 0))
+  once_counted (u ∷ us) m = go (eqb u x) m (once_counted us)
+    where
+      is_not : (b : Bool) → not b ≡ true → b ≡ false
+      is_not false h = refl
+      is_not true h = absurd (true≢false (sym h))
+
+      go : (b : Bool) → (if b then not (holds x us) else at_most_once x us) ≡ true → (at_most_once x us ≡ true → total with_one us ⊑ both k (total g (without x us)))
+          → both (if b then k else g u) (total with_one us) ⊑ both k (total g (if b then without x us else u ∷ without x us))
+      go true n f = both_at_most _ _ _ _ (at_most_same k) (none_counted us (is_not (holds x us) n))
+      go false n f = at_most_next _ _ _ (both_at_most _ _ _ _ (at_most_same (g u)) (f n)) (both_swap (g u) (total g (without x us)) k)
+
+  -- so in both cases
+  pub one_counted : (us : List ℕ) → (k ≡ Some 0) ⊎ (at_most_once x us ≡ true) → total with_one us ⊑ both k (total g (without x us))
+  one_counted us (inl e) = at_most_next _ _ _ (nothing_counted us e) (beside_right k (total g (without x us)) (total_capped g (without x us)))
+  one_counted us (inr m) = once_counted us m
+
+module _ (funs : List CoreBody) (numbers : ℕ → Bound) where
+  -- fewer arguments can hold no more
+  pub fewer_at_most : (u : ℕ) (args : ArgumentTrees) (c : Context) → argument_bounds funs numbers (without_argument u args) c ⊑ argument_bounds funs numbers args c
+  fewer_at_most u no_arguments c = at_most_same (Some 0)
+  fewer_at_most u (argument_before x t s args) c = go (eqb x u) (fewer_at_most u args c)
+    where
+      go : (b : Bool) → argument_bounds funs numbers (without_argument u args) c ⊑ argument_bounds funs numbers args c
+          → argument_bounds funs numbers (if b then without_argument u args else argument_before x t s (without_argument u args)) c ⊑ both (state_bound funs numbers s c) (argument_bounds funs numbers args c)
+      go true h = at_most_next _ _ _ h (beside_right (state_bound funs numbers s c) (argument_bounds funs numbers args c) (arguments_capped funs numbers args c))
+      go false h = both_at_most _ _ _ _ (at_most_same (state_bound funs numbers s c)) h
+
+  -- a name and what is finished hold nothing
+  plain_nothing : (s : StateTree) (c : Context) → is_plain s ≡ true → state_bound funs numbers s c ≡ Some 0
+  plain_nothing (sink t) c p = refl
+  plain_nothing (var_state x) c p = refl
+  plain_nothing _ c p = absurd (true≢false (sym p))
+
+  -- what the argument of a parameter can hold
+  abbrev bound_at : ArgumentTrees → Context → ℕ → Bound
+  bound_at args c u = state_bound funs numbers (argument_at args u) c
+
+  -- composed arguments can hold what is passed on,
+  composed_counted : (args inner : ArgumentTrees) (c : Context) → are_plain inner ≡ true → argument_bounds funs numbers (composed args inner) c ⊑ total (bound_at args c) (names_passed inner)
+  composed_counted args no_arguments c p = at_most_same (Some 0)
+  composed_counted args (argument_before x t (sink q) inner) c p = beside_nothing _ _ (composed_counted args inner c p)
+  composed_counted args (argument_before x t (var_state u) inner) c p = both_at_most _ _ _ _ (at_most_same (bound_at args c u)) (composed_counted args inner c p)
+  composed_counted args (argument_before x t _ inner) c p = absurd (true≢false (sym p))
+
+  -- of no arguments nothing is passed on
+  none_passed : (c : Context) (us : List ℕ) → total (bound_at no_arguments c) us ⊑ Some 0
+  none_passed c [] = at_most_same (Some 0)
+  none_passed c (u ∷ us) = beside_nothing (total (bound_at no_arguments c) us) (Some 0) (none_passed c us)
+
+  -- and what is passed on is at most what all arguments can hold, where each that may hold something is passed
+  -- on once at most
+  shares : (args : ArgumentTrees) (c : Context) (us : List ℕ) → stand_once args us ≡ true → total (bound_at args c) us ⊑ argument_bounds funs numbers args c
+  shares no_arguments c us o = none_passed c us
+  shares (argument_before x t s args) c us o =
+      let split = or_split (is_plain s) (at_most_once x us) (and_first (is_plain s || at_most_once x us) (stand_once args (without x us)) o) in
+      at_most_next _ _ _ (at_most_next _ _ _ (by_names us) (one_counted x (state_bound funs numbers s c) (bound_at args c) us (⊎_elim (λ p. inl (plain_nothing s c p)) (λ m. inr m) split)))
+      (both_at_most _ _ _ _ (at_most_same (state_bound funs numbers s c)) (shares args c (without x us) (and_second (is_plain s || at_most_once x us) (stand_once args (without x us)) o)))
+    where
+      at : (u : ℕ) (b : Bool) → state_bound funs numbers (if b then s else argument_at args u) c ⊑ (if b then state_bound funs numbers s c else bound_at args c u)
+      at u true = at_most_same (state_bound funs numbers s c)
+      at u false = at_most_same (bound_at args c u)
+
+      by_names : (us : List ℕ) → total (bound_at (argument_before x t s args) c) us ⊑ total (with_one x (state_bound funs numbers s c) (bound_at args c)) us
+      by_names us = total_at_most (bound_at (argument_before x t s args) c) (with_one x (state_bound funs numbers s c) (bound_at args c)) us (λ u m. at u (eqb u x))
+
+  -- so the arguments of the one call can hold no more than those of the outer one
+  pub composed_at_most : (args inner : ArgumentTrees) (c : Context) → are_plain inner ≡ true → stand_once args (names_passed inner) ≡ true → argument_bounds funs numbers (composed args inner) c ⊑ argument_bounds funs numbers args c
+  composed_at_most args inner c p o = at_most_next _ _ _ (composed_counted args inner c p) (shares args c (names_passed inner) o)

@@ -1,0 +1,8 @@
+-- The lemmas.
+pub mod CappedBounds
+pub mod NamesThatServe
+pub mod LowerParts
+pub mod NamesPutIn
+pub mod ArgumentBounds
+pub mod SimplerBounds
+mod Examples
