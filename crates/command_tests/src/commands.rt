@@ -313,6 +313,36 @@ fn faults_are_told(rt: HostRuntime) -> Result<(), Fail> {
     Ok(())
 }
 
+// The frames of a number to be doubled, in pieces of 6, 11 and 4 bytes.
+const PIECES: &[&[u8]] = &[
+    b"DEV1\0\x15",
+    b"\x01\x03\x11\0\0\0\0\0\0\0\x03",
+    b"\0\x14\0\x16",
+];
+
+// Whether what is due for the first two pieces is written, and the fault told, where the third can't be read.
+fn third_read_fails(alloc: Global) -> Result<bool, Fail> {
+    let mut pieces = Vec::new(alloc);
+    for piece in PIECES {
+        pieces.push(piece.to_vec(alloc)?)?;
+    }
+    let given = words(alloc, "run program")?;
+    let mut shelf = shelf_of(alloc, DOUBLE)?;
+    let fail_reads = [2].to_vec(alloc)?;
+    let mut link = MemLink::new(alloc, pieces, fail_reads, Vec::new(alloc), 4096);
+    let mut notes = MemSink::new(alloc, Vec::new(alloc));
+    let status = outcome(alloc, &given, &mut shelf, &mut link, &mut notes);
+    let told = status == 7 && notes.bytes() == b"delta: outside fault: input\n".as_slice();
+    let due = b"DEV1\0\x15\x01\x03\x11\0\0\0\0\0\0\0\x06\0\x14";
+    Ok(are_written(alloc, &link, due)? && told)
+}
+
+#[test]
+fn what_is_due_is_written_before_a_failed_read(rt: HostRuntime) -> Result<(), Fail> {
+    assert!(rt; third_read_fails(rt.alloc())?);
+    Ok(())
+}
+
 const IN_TURN: &[u8] = b"main(x : Int; y : Int) : Int . Int = (x; y)";
 
 const IN_TURN_FRAMES: &[u8] = b"DEV2\x01\xc0\x11\0\0\0\0\0\0\0\x01\0\x14\0\x11\0\0\0\0\0\0\0\x02";

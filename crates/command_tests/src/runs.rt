@@ -647,26 +647,3 @@ fn a_stop_before_any_event_reads_nothing(rt: HostRuntime) -> Result<(), Fail> {
     assert!(rt; reads_nothing(rt.alloc(), "run program --budget 0", DOUBLE)?);
     Ok(())
 }
-
-// The doubling of one number in pieces of 6, 11 and 4 bytes, of which the last can't be read.
-fn third_read_fails(alloc: Global) -> Result<bool, Fail> {
-    let frames = frames_of(alloc, THREE)?;
-    let mut pieces = Vec::new(alloc);
-    for piece in [0..6, 6..17, 17..21] {
-        pieces.push(frames.as_slice().get(piece).unwrap_or(&[]).to_vec(alloc)?)?;
-    }
-    let given = words(alloc, "run program")?;
-    let mut shelf = shelf_of(alloc, DOUBLE.as_bytes())?;
-    let mut link = MemLink::new(alloc, pieces, [2].to_vec(alloc)?, Vec::new(alloc), 4096);
-    let mut notes = MemSink::new(alloc, Vec::new(alloc));
-    let status = outcome_on::<Coded>(alloc, &given, &mut shelf, &mut link, &mut notes);
-    let due = frames_of(alloc, "item\nF int 6\ncut\n")?;
-    let told = status == 7 && notes.bytes() == b"delta: outside fault: input\n".as_slice();
-    Ok(told && written(alloc, &link)?.as_slice() == due.as_slice())
-}
-
-#[test]
-fn what_is_due_is_written_before_a_failed_read(rt: HostRuntime) -> Result<(), Fail> {
-    assert!(rt; third_read_fails(rt.alloc())?);
-    Ok(())
-}

@@ -10,6 +10,21 @@ const IN_TURN: &str = "main(x : Int; y : Int) : Int . Int = (x; y)";
 
 const LOOP: &str = "fun loop(x : Int) : Int = loop(x)\nmain(x : Int) : Int = loop(x)";
 
+// Types of which each is twice the one before it.
+const DOUBLED_TYPES: &str = "type A1 = Int || Int
+type A2 = A1 || A1
+type A3 = A2 || A2
+type A4 = A3 || A3
+type A5 = A4 || A4
+type A6 = A5 || A5
+type A7 = A6 || A6
+type A8 = A7 || A7
+type A9 = A8 || A8
+type A10 = A9 || A9
+type A11 = A10 || A10
+type A12 = A11 || A11
+main() : 1 = ()";
+
 // A text that is checked, and what is told of it.
 #[derive(Clone, Copy)]
 struct Text {
@@ -49,6 +64,10 @@ const TEXTS: &[Text] = &[
     Text {
         text: "main(x : Number) : Int = x",
         note: "delta: program refused: NoType at 9\n",
+    },
+    Text {
+        text: DOUBLED_TYPES,
+        note: "delta: program refused: TooWide at 226\n",
     },
     Text {
         text: "main(x : Int) : 1 = x",
@@ -119,6 +138,24 @@ fn repeated(
     Ok(text)
 }
 
+// A text of so many functions, whose lines have 25 bytes each.
+fn functions(alloc: Global, count: u64) -> Result<String, Fail> {
+    let mut text = String::new(alloc);
+    for k in 0..count.min(1_001) {
+        writeln!(text, "fun f{}(x : 1) : 1 = x", 1_000 + k)?;
+    }
+    text.push_str("main(x : 1) : 1 = x")?;
+    Ok(text)
+}
+
+// Whether a thousand functions are accepted, and the name of one more is refused.
+fn a_thousand_functions_do(alloc: Global) -> Result<bool, Fail> {
+    let (most, many) = (functions(alloc, 1_000)?, functions(alloc, 1_001)?);
+    let note = b"delta: program refused: Many at 25004\n";
+    let fine = tells(alloc, "check program", most.as_bytes(), b"", b"")?;
+    Ok(fine && tells(alloc, "check program", many.as_bytes(), b"", note)?)
+}
+
 // Whether these long texts are refused for what is too much in them.
 fn limits_hold(alloc: Global) -> Result<bool, Fail> {
     let long = repeated(alloc, "", " ", 1_048_577, "")?;
@@ -158,6 +195,7 @@ fn limits_hold(alloc: Global) -> Result<bool, Fail> {
 #[test]
 fn limits_are_told(rt: HostRuntime) -> Result<(), Fail> {
     assert!(rt; limits_hold(rt.alloc())?);
+    assert!(rt; a_thousand_functions_do(rt.alloc())?);
     assert!(rt;
         tells(
             rt.alloc(),
