@@ -23,6 +23,19 @@ const GROWING: &str =
 main(z : 1 + 1, y : Int) : Int = g(z, y)
 ";
 
+const SUMS: &str = "fun sums{n : Int}(xs : Int*) : Int* =
+  case xs of { nil => nil | y :: ys => wait y in ({n + y} :: sums{n + y}(ys)) }
+main(xs : Int*) : Int* = sums{0}(xs)";
+
+const ALARM: &str = "fun watch(xs : Int*) : Int* || 1* =
+  case xs of {
+    nil => (nil, nil)
+  | y :: ys => wait y in
+      let (good, alarms) = watch(ys) in
+      ({y} :: good, if 100 < y then (() :: alarms) else alarms)
+  }
+main(xs : Int*) : Int* || 1* = watch(xs)";
+
 /// What the command is given, and what it must write and answer.
 #[derive(Clone, Copy)]
 struct Row {
@@ -78,6 +91,23 @@ const ROWS: &[Row] = &[
     Row {
         text: "main(x : Int, y : Int) : Int || Int = (y, x)",
         output: b"bound 0\n",
+        ..BOUNDED
+    },
+    Row {
+        text: "main(z : (Int || Int)) : Int || Int = let (a, b) = z in (b, a)",
+        output: b"bound 0\n",
+        ..BOUNDED
+    },
+    Row {
+        text: "main(z : 1 + 1, y : Int) : Int = case z of { inl a => y | inr b => {0} }",
+        ..BOUNDED
+    },
+    Row {
+        text: SUMS,
+        ..BOUNDED
+    },
+    Row {
+        text: ALARM,
         ..BOUNDED
     },
     Row {
@@ -196,7 +226,8 @@ fn failed_write_tells_nothing(rt: HostRuntime) -> Result<(), Fail> {
     let mut link = MemLink::new(alloc, Vec::new(alloc), Vec::new(alloc), failing, 4096);
     let mut notes = MemSink::new(alloc, Vec::new(alloc));
     let status = outcome(alloc, &given, &mut shelf, &mut link, &mut notes);
-    assert!(rt; status == 7 && notes.bytes() == b"delta: outside fault: output\n");
+    let note: &[u8] = b"delta: outside fault: output\n";
+    assert!(rt; status == 7 && notes.bytes() == note);
     assert!(rt; are_written(alloc, &link, b"")?);
     Ok(())
 }
