@@ -1,7 +1,8 @@
 //! Words of two tables mixed by schedules.
 
-ghost use Rattle.std.specs.Prelude.{◌≡◌};
+ghost use Rattle.std.specs.Prelude.{◌≡◌, IfOk};
 ghost use Rattle.stream_type.specs.StreamType.{type_of, int, star};
+ghost use Rattle.event_word.specs.Word.{IsWord};
 
 use event_text::write_line;
 use event_word::{Event, canon, prefix_of};
@@ -22,6 +23,7 @@ fn lines(alloc: Global, word: &[Event]) -> Result<String, Memory> {
 // The canonical word of a table of one column.
 fn word_of(alloc: Global, column: &Ty, bytes: &[u8]) -> Result<Vec<Event>, FeedFault>
     requires { type_of column.now ≡ star int }
+    ensures { IfOk result (λ w. IsWord (star int) w.items) }
 {
     let p = table(alloc, column, 0, bytes)?;
     Ok(canon(alloc, column, &p)?)

@@ -1,0 +1,13 @@
+-- So much of the word was taken, and what was said to it was put out.
+use Rattle.std.proofs.Common.{◌≡◌, take}
+use Rattle.core_term.specs.CoreTerm.{core_of}
+use Rattle.delta_session.specs.Standing.{Stands}
+use Rattle.delta_output.specs.Spoken.{spoken}
+use Rattle.delta_runner.specs.CoreOneShot.{one_shot}
+use Rattle.word_run.proofs.running.run_word.Given as goal
+
+abbrev pub invariant-loop-at : goal.invariant-loop-at
+invariant-loop-at g l = record {
+  stands : Stands g.M.Machine.seen g.M.Machine.stands l.session (core_of l.checked) l.budget (take l.at l.word);
+  said : l.out.items ≡ spoken (one_shot (core_of l.checked)) (take l.at l.word);
+}
