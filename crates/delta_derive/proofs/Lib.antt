@@ -1,0 +1,16 @@
+-- The laws of derivations that are written down, proved.
+pub mod Options
+pub mod ExactSteps
+pub mod Paths
+pub mod OneLeaf
+pub mod Calls
+pub mod Written
+pub mod Faultless
+pub mod Texts
+pub mod KnownNames
+pub mod Cutting
+pub mod Fronts
+pub mod LeafTypes
+pub mod Refusing
+pub mod Ending
+pub mod PastTests
