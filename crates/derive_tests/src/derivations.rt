@@ -131,3 +131,26 @@ fn each_form(rt: HostRuntime) -> Result<(), Fail> {
     }
     Ok(())
 }
+
+// The programs of `examples`, each with its derivation there.
+#[test]
+fn examples(rt: HostRuntime) -> Result<(), Fail> {
+    let rows: [(&[u8], &[u8]); 6] = [
+        // alarm
+        (b"fun watch(xs : Int*) : Int* || 1* =\n  case xs of {\n    nil => (nil, nil)\n  | y :: ys => wait y in\n      let (good, alarms) = watch(ys) in\n      ({y} :: good, if 100 < y then (() :: alarms) else alarms)\n  }\nmain(xs : Int*) : Int* || 1* = watch(xs)", b"rule\nrule\nrule\nrule\nrule\nrule .\nrule\nrule\nrule\nrule\nbefore .\nrule\nrule\nrule\nrule .\nrule\nrule\nbefore .\nrule\nrule\nrule\nrule\nrule\nrule\n"),
+        // double
+        (b"fun twice(xs : Int*) : Int* =\n  case xs of { nil => nil | y :: ys => wait y in ({y * 2} :: twice(ys)) }\nmain(xs : Int*) : Int* = twice(xs)", b"rule\nrule\nrule\ndrop l\nunit .\nrule\nrule\nrule\nrule\nrule\nrule\n"),
+        // sides
+        (b"main(z : (Int || Int)) : Int || Int = let (a, b) = z in (b, a)", b"rule\nrule\nrule\nrule\n"),
+        // sums
+        (b"fun sums{n : Int}(xs : Int*) : Int* =\n  case xs of { nil => nil | y :: ys => wait y in ({n + y} :: sums{n + y}(ys)) }\nmain(xs : Int*) : Int* = sums{0}(xs)", b"rule\nrule\nrule\ndrop l\nunit .\nrule\nrule\nrule\nrule\nrule\nrule\n"),
+        // swap
+        (b"main(x : Int, y : Int) : Int || Int = (y, x)", b"rule\nrule\nrule\n"),
+        // twice
+        (b"main(x : Int) : Int || Int = (x, x)", b"rule\nrule\nrule\n"),
+    ];
+    for (program, proof) in rows {
+        assert!(rt; said(rt.alloc(), program, proof)? == FINE);
+    }
+    Ok(())
+}
