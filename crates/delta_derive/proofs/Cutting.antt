@@ -24,13 +24,13 @@ place_found text n h = go (nat_lt (position_or_len feed text) (length text)) ref
     go true k q = let e = some_same q in (e, let lt = ltb-true (position_or_len feed text) (length text) k in omega (arith, lt, e))
     go false k q = none_some q
 
-pub lines_cut : (text : List ℕ) (n : ℕ) → position feed text ≡ Some n → lines_in text ≡ line_in (take n text) ∷ lines_in (drop (1 + n) text)
+pub lines_cut : (text : List ℕ) (n : ℕ) → position feed text ≡ Some n → lines_in text ≡ line_in (take n text) ∷ lines_in (drop (n + 1) text)
 lines_cut text n h =
     let at = place_found text n h in
     let less : position_or_len feed text < length text = omega (arith, at.0, at.1) in
     ap lines_among (slice_split_first feed text 0 less)
     ∙ one_more (before_first feed text) (slice_split feed (after_first feed text)) (omega (arith, length-slice_split feed (after_first feed text)))
-    ∙ ap (λ i. line_in (take i text) ∷ lines_in (drop (1 + i) text)) at.0
+    ∙ ap (λ i. line_in (take i text) ∷ lines_in (drop (i + 1) text)) at.0
 
 pub feed_within : (text : List ℕ) (n : ℕ) → position feed text ≡ Some n → n < length text
 feed_within text n h = (place_found text n h).1

@@ -14,3 +14,7 @@ pub mod LeafTypes
 pub mod Refusing
 pub mod Ending
 pub mod PastTests
+pub mod Sharing
+pub mod Passed
+pub mod Spaces
+mod Examples

@@ -1,6 +1,6 @@
 //! The check of a whole derivation.
 
-ghost use Rattle.std.specs.Prelude.{◌≡◌, ◌≤◌, length, IfOk, IfErr, None, ◌==◌, position};
+ghost use Rattle.std.specs.Prelude.{◌≡◌, ◌≤◌, suc, ◌∷◌, length, IfOk, IfErr, OnOk, None, ◌==◌, position};
 ghost use Rattle.stream_type.specs.StreamType.{type_of};
 ghost use Rattle.bunch.specs.BunchTree.{as_type};
 ghost use Rattle.core_term.specs.CoreTerm.{core_of};
@@ -8,9 +8,9 @@ ghost use Rattle.core_term.specs.FreeNames.{IsCore};
 ghost use Rattle.core_term.specs.Typing.{IsTypedCore};
 ghost use Rattle.core_term.specs.Inert.{is_inert_fun};
 ghost use Rattle.delta_check.specs.Counting.{counts_in};
-ghost use Rattle.delta_derive.specs.LineText.{lines_in};
+ghost use Rattle.delta_derive.specs.LineText.{line_in, lines_in};
 ghost use Rattle.delta_derive.specs.OpenTerms.{claims_in};
-ghost use Rattle.delta_derive.specs.FirstFault.{first_from, first_fault, IsValidText, TellsFirst, Denies};
+ghost use Rattle.delta_derive.specs.FirstFault.{TextLines, first_from, first_fault, IsValidText, TellsFirst, Denies};
 
 use crate::fault::DeriveFault;
 use crate::goals::{first_goals, take_line};
@@ -86,14 +86,30 @@ fn take_lines<'a>(
     let mut rest = text;
     let mut number = 0;
     'lines: while let Some(end) = first_feed(rest) {
-        match read_line(alloc, &rest[..end])? {
-            None => return Err(DeriveFault::BadLine(number)),
-            Some(line) => take_line(alloc, c, marks, &mut goals, &line, number)?,
-        }
+        take_piece(alloc, c, marks, &mut goals, &rest[..end], number)?;
         rest = &rest[end + 1..];
         number += 1;
     }
     finish(c, marks, &goals, rest, number)
+}
+
+// Takes the bytes of one line, which has this number: it goes on as `first_from` says.
+#[tactic(auto, using(crate::proofs::Spaces::pieces))]
+fn take_piece<'a>(
+    alloc: Global,
+    c: &'a Core,
+    marks: &[bool],
+    goals: &mut Vec<OpenTerm<'a>>,
+    bytes: &[u8],
+    number: u32,
+) -> Result<(), DeriveFault>
+    ensures on { OnOk result ((ls : TextLines) → first_from (core_of c.now).funs (counts_in (core_of c.now).funs marks.now) number (claims_in goals.old.items) (line_in bytes.now ∷ ls) ≡ first_from (core_of c.now).funs (counts_in (core_of c.now).funs marks.now) (suc number) (claims_in goals.new.items) ls) }
+    ensures first { IfErr result (λ f. (ls : TextLines) → TellsFirst f (first_from (core_of c.now).funs (counts_in (core_of c.now).funs marks.now) number (claims_in goals.old.items) (line_in bytes.now ∷ ls))) }
+{
+    match read_line(alloc, bytes)? {
+        None => Err(DeriveFault::BadLine(number)),
+        Some(line) => take_line(alloc, c, marks, goals, &line, number),
+    }
 }
 
 // The place of the first line feed.
