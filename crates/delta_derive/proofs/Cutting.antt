@@ -38,11 +38,11 @@ feed_within text n h = (place_found text n h).1
 -- a text without a line feed is one piece
 uncut : (text : List ℕ) → length text ≤ position_or_len feed text → slice_split feed text ≡ text ∷ []
 uncut [] h = refl
-uncut (b ∷ bs) h = go (b == 10) h
+uncut (b ∷ bs) h = go (λ k. uncut bs k) (b == 10) h
   where
-    go : (v : Bool) → suc (length bs) ≤ cond (not v) (1 + position_or_len feed bs) 0 → cond v ([] ∷ slice_split feed bs) (onto_first b (slice_split feed bs)) ≡ (b ∷ bs) ∷ []
-    go true k = absurd (omega arith)
-    go false k = ap (onto_first b) (uncut bs (omega arith))
+    go : (length bs ≤ position_or_len feed bs → slice_split feed bs ≡ bs ∷ []) → (v : Bool) → suc (length bs) ≤ cond (not v) (1 + position_or_len feed bs) 0 → cond v ([] ∷ slice_split feed bs) (onto_first b (slice_split feed bs)) ≡ (b ∷ bs) ∷ []
+    go more true k = absurd (omega arith)
+    go more false k = ap (onto_first b) (more (omega arith))
 
 none_found : (text : List ℕ) → position feed text ≡ None → length text ≤ position_or_len feed text
 none_found text h = go (nat_lt (position_or_len feed text) (length text)) refl h

@@ -1,8 +1,8 @@
 -- The claims of open terms, of which the last is next.
 use mathlib.Core.Path.{fun_ext}
-use Rattle.std.proofs.Common.{◌≡◌, ◌∙◌, ◌<◌, ◌+◌, ℕ, suc, List, [], ◌∷◌, ◌++◌, length, map, take, get_or, reverse, reverse-append, append_assoc, ap, ap₂, refl, sym, arith}
+use Rattle.std.proofs.Common.{◌≡◌, ◌∙◌, ◌<◌, ◌+◌, ℕ, suc, List, [], ◌∷◌, ◌++◌, length, map, take, get_or, reverse, append_assoc, ap, ap₂, refl, sym, arith}
 use Rattle.std.specs.Prelude.{Option, Some, None, ◌==◌, if◌then◌else◌}
-use Rattle.std.proofs.lemmas.List.{take_more, reverse-reverse}
+use Rattle.std.proofs.lemmas.List.{take_more, reverse-reverse, reverse-append}
 use Rattle.stream_type.specs.StreamType.{type_of}
 use Rattle.stream_type.specs.declared.ty.Ty.{Ty}
 use Rattle.bunch.specs.declared.name.Name.{Name}

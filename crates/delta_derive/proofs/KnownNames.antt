@@ -34,7 +34,7 @@ put_hidden : (x z : ℕ) (t : HistType) (known : Known) → (z == x) ≡ false �
 put_hidden x z t known h = fun_ext (λ y. go y (y == z) refl (y == x) refl)
   where
     go : (y : ℕ) (a : Bool) → (y == z) ≡ a → (b : Bool) → (y == x) ≡ b → (if y == z then Some t else (if y == x then None else known y)) ≡ (if y == x then None else (if y == z then Some t else known y))
-    go y true k true l = absurd (true≢false (sym (ap (λ u. u == x) (eqb-true y z k)) ∙ l))
+    go y true k true l = absurd (true≢false (sym l ∙ ap (λ u. u == x) (eqb-true y z k) ∙ h))
     go y true k false l = ap (λ c. if c then Some t else (if y == x then None else known y)) k ∙ sym (ap (λ c. if c then None else (if y == z then Some t else known y)) l ∙ ap (λ c. if c then Some t else known y) k)
     go y false k b l = ap (λ c. if c then Some t else (if y == x then None else known y)) k ∙ ap (λ c. if y == x then None else (if c then Some t else known y)) (sym k)
 
@@ -61,8 +61,12 @@ hidden-next x known kept i e lt at eq h = h ∙ hidden_again x e.0.0 (hist_type_
 pub hidden-none : (x : ℕ) → types_of [] ≡ hidden x (types_of [])
 hidden-none x = fun_ext (λ y. go (y == x))
   where
-    go : (b : Bool) → None ≡ (if b then None else None)
+    go : (b : Bool) → ◌≡◌ {A = Option HistType} None (if b then None else None)
     go true = refl
     go false = refl
 
-pub ruleset known_names = (types_of-more, copied-next, kept-next, hidden-next, hidden-none)
+-- one more name is known
+pub learned-more : (x : Name) (t : HTy) (s : StreamType) (known es : List (Name × HTy)) → typed_entries_of es ≡ typed_entries_of known → hist_type_of t ≡ past s → types_of (es ++ (x, t) ∷ []) ≡ learned x.0 s (types_of known)
+learned-more x t s known es h k = types_of-more es (x, t) ∙ ap₂ (λ o f. put x.0 (Some o) f) k (ap (entry_at None) h)
+
+pub ruleset known_names = (types_of-more, copied-next, kept-next, hidden-next, hidden-none, learned-more)

@@ -1,6 +1,7 @@
 -- The laws of derivations that are written down, proved.
 pub mod Options
 pub mod ExactSteps
+pub mod Adding
 pub mod Paths
 pub mod OneLeaf
 pub mod Calls

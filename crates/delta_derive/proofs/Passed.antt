@@ -1,10 +1,14 @@
 -- Whether a call keeps its rules, and what it then leaves to derive.
-use Rattle.std.proofs.Common.{◌≡◌, ◌∙◌, ℕ, Bool, true, false, ◌&&◌, List, if◌then◌else◌, ap, refl, sym}
-use Rattle.std.specs.Prelude.{Option, None}
-use Rattle.stream_type.specs.StreamType.{StreamType}
+use Rattle.std.proofs.Common.{◌≡◌, ◌∙◌, ℕ, Bool, true, false, ◌&&◌, List, length, map, if◌then◌else◌, ap, ap₂, refl, sym}
+use Rattle.std.specs.Prelude.{Option, None, ◌==◌}
+use Rattle.std.proofs.lemmas.List.{length-map}
+use Rattle.stream_type.specs.StreamType.{StreamType, type_of}
+use Rattle.stream_type.specs.declared.ty.Ty.{Ty}
+use Rattle.bunch.specs.declared.name.Name.{Name}
+use Rattle.hist_value.specs.declared.expr.Expr.{Expr}
 use Rattle.bunch.specs.BunchTree.{BunchTree}
-use Rattle.hist_value.specs.HistExpr.{HistExpr}
-use Rattle.core_term.specs.CoreTerm.{CoreTerms, CoreBody, fun_at, is_there}
+use Rattle.hist_value.specs.HistExpr.{HistExpr, expr_of}
+use Rattle.core_term.specs.CoreTerm.{CoreTerms, CoreBody, fun_at, is_there, typed_names_of}
 use Rattle.bunch_rules.specs.Derivation.{Known}
 use Rattle.delta_derive.specs.Claims.{Claim, is_called, passes, call_parts}
 
@@ -26,3 +30,9 @@ module _ (funs : List CoreBody) (counts : ℕ → Bool) (known : Known) (g : Bun
   -- and none is
   pub call_passed : (b : CoreBody) → is_there funs f ≡ true → b ≡ fun_at funs f → is_called funs counts known b ms es r ≡ true → call_parts funs counts known g f ms es r ≡ passes known b.params g es
   call_passed b i e q = both_tests b true i e q
+
+-- what stands for historical arguments and parameters is as many as they are
+pub same_number : (ms : List Expr) (ps : List (Name × Ty)) → (length (map expr_of ms) == length (typed_names_of ps)) ≡ (length ms == length ps)
+same_number ms ps = ap₂ (λ m n. m == n) (length-map ms expr_of) (length-map ps (λ p. (p.0.0, type_of p.1)))
+
+pub ruleset passed = (call_unknown, call_refused, call_passed, same_number)

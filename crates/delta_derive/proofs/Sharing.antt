@@ -1,13 +1,14 @@
 -- The claims of arguments, added one after another.
 use Rattle.std.proofs.Common.{◌≡◌, ◌∙◌, ◌<◌, Bool, true, false, List, [], ◌∷◌, ◌++◌, length, map, append_assoc, ap, refl, sym, arith}
-use Rattle.std.specs.Prelude.{Option, Some, None, option_map}
+use Rattle.std.specs.Prelude.{Option, Some, None, option_map, ◌==◌}
+use Rattle.std.proofs.lemmas.List.{append-nil}
 use Rattle.bunch.specs.BunchTree.{BunchTree, comma, semi}
 use Rattle.core_term.specs.declared.term.Node.{Node}
 use Rattle.core_term.specs.CoreTerm.{CoreTerms, term_of, terms_from}
 use Rattle.bunch_rules.specs.Derivation.{Known}
 use Rattle.delta_derive.specs.declared.open.OpenTerm.{OpenTerm}
 use Rattle.delta_derive.specs.Rearranged.{then_by}
-use Rattle.delta_derive.specs.Claims.{Claim, shares, joined, all_shared}
+use Rattle.delta_derive.specs.Claims.{Claim, shares, joined, where_none, all_shared}
 use Rattle.delta_derive.specs.OpenTerms.{claim_of, Shared, Adds}
 
 -- the claims of both sides
@@ -29,10 +30,13 @@ module _ (known : Known) (a b g h : BunchTree) (es : CoreTerms) where
       v.2 ∙ ap (λ l. l ++ v.0) u.2 ∙ append_assoc (map claim_of old) u.0 v.0)
 
 -- where no argument is left their claims were added, and else the call isn't valid
-pub all_added : (o : Option (List Claim × CoreTerms)) (old new : List OpenTerm) (rest : List Node) → length rest ≡ 0 → Shared o old new rest → Adds (all_shared o) old new true
-all_added o old new [] h s = ap Some s.2 ∙ sym (ap (λ p. option_map (λ gs. map claim_of old ++ gs) (all_shared p)) s.1)
-all_added o old new (n ∷ rest) h s = absurd (omega arith)
+pub left_added : (o : Option (List Claim × CoreTerms)) (old new : List OpenTerm) (rest : List Node) → Shared o old new rest → Adds (all_shared o) old new (length rest == 0)
+left_added o old new [] s = ap Some s.2 ∙ sym (ap (λ p. option_map (λ gs. map claim_of old ++ gs) (all_shared p)) s.1)
+left_added o old new (n ∷ rest) s = sym (ap (λ p. option_map (λ gs. map claim_of old ++ gs) (all_shared p)) s.1)
 
-pub some_left : (o : Option (List Claim × CoreTerms)) (old new : List OpenTerm) (rest : List Node) → 0 < length rest → Shared o old new rest → Adds (all_shared o) old new false
-some_left o old new [] h s = absurd (omega arith)
-some_left o old new (n ∷ rest) h s = sym (ap (λ p. option_map (λ gs. map claim_of old ++ gs) (all_shared p)) s.1)
+-- a body without parameters has no arguments
+pub none_passed : (old : List OpenTerm) (rest : List Node) → Adds (where_none [] (terms_from (map term_of rest))) old old (length rest == 0)
+none_passed old [] = ap Some (sym (append-nil (map claim_of old)))
+none_passed old (n ∷ rest) = refl
+
+pub ruleset sharing = (none_passed, left_added)

@@ -18,11 +18,11 @@ space byte = byte == 32
 -- an element passes exactly where the first that does is within the list
 any_within : (p : ℕ → Bool) (xs : List ℕ) → list_any p xs ≡ nat_lt (position_or_len p xs) (length xs)
 any_within p [] = refl
-any_within p (x ∷ xs) = go (p x)
+any_within p (x ∷ xs) = go (any_within p xs) (p x)
   where
-    go : (b : Bool) → (b || list_any p xs) ≡ nat_lt (cond (not b) (1 + position_or_len p xs) 0) (suc (length xs))
-    go true = refl
-    go false = any_within p xs
+    go : list_any p xs ≡ nat_lt (position_or_len p xs) (length xs) → (b : Bool) → (b || list_any p xs) ≡ nat_lt (cond (not b) (1 + position_or_len p xs) 0) (suc (length xs))
+    go more true = refl
+    go more false = more
 
 spaced_at : (bytes : List ℕ) (b : Bool) → nat_lt (position_or_len space bytes) (length bytes) ≡ b → line_in bytes ≡ (if b then line_with_path (before_first space bytes) (after_first space bytes) else bare_line bytes)
 spaced_at bytes b h = ap (λ c. if c then line_with_path (before_first space bytes) (after_first space bytes) else bare_line bytes) (any_within space bytes ∙ h)

@@ -1,26 +1,29 @@
 //! The rule of a call.
 
-ghost use Rattle.std.specs.Prelude.{◌≡◌, [], map, IfOk, MatchOption, None};
+ghost use Rattle.std.specs.Prelude.{◌≡◌, ◌==◌, ◌&&◌, [], length, map, IfOk, MatchOption, None};
 ghost use Rattle.stream_type.specs.StreamType.{type_of};
 ghost use Rattle.bunch.specs.BunchTree.{tree_of};
 ghost use Rattle.hist_value.specs.HistExpr.{expr_of};
 ghost use Rattle.hist_value.specs.Environment.{types_of};
 ghost use Rattle.core_term.specs.CoreTerm.{term_of, terms_from, core_of, core_body_of};
+ghost use Rattle.core_term.specs.Parts.{is_same_type};
 ghost use Rattle.delta_check.specs.Counting.{counts_in};
-ghost use Rattle.delta_derive.specs.Claims.{call_parts, is_called, passes, shares};
+ghost use Rattle.delta_derive.specs.Claims.{call_parts, is_called, passes, shares, all_shared};
 ghost use Rattle.delta_derive.specs.OpenTerms.{claim_of, Adds, Shared};
 
 use crate::jumpy::is_still;
 use crate::open::{OpenTerm, add_in};
 use crate::pasts::are_pasts;
+use crate::types::is_same;
 use bunch::{Bunch, Name};
 use core_term::{Body, Core, Node, body_of};
 use hist_value::{Expr, HTy};
 use std::alloc::Global;
-use stream_type::{Memory, same};
+use stream_type::{Memory, Ty};
 
 /// Adds the arguments of a call, and says whether its rule is valid: `call_parts` in `specs/Claims.antt`. Its only
 /// error is want of memory.
+#[tactic(auto, using(crate::proofs::Passed::passed))]
 pub fn call_parts<'a>(
     alloc: Global,
     c: &'a Core,
@@ -63,16 +66,26 @@ fn is_called(
 ) -> Result<bool, Memory>
     ensures { IfOk result (λ good. good ≡ is_called (core_of c.now).funs (counts_in (core_of c.now).funs marks.now) (types_of aim.now.known.items) (core_body_of b.now) (map expr_of past.now) (terms_from (map term_of arguments.now)) (type_of aim.now.result.now)) }
 {
-    if !same(&b.result, aim.result) || past.len() != b.past.len() {
+    if !fits(b, past, aim.result) {
         return Ok(false);
     }
     if !are_pasts(alloc, &aim.known, past, &b.past)? {
         return Ok(false);
     }
-    is_still(alloc, c, marks, b, arguments)
+    let still = is_still(alloc, c, marks, b, arguments)?;
+    Ok(still)
+}
+
+// Whether the result is of the wanted type and there are as many historical arguments as parameters.
+#[tactic(auto, using(crate::proofs::Passed::passed))]
+fn fits(b: &Body, past: &[Expr], r: &Ty) -> bool
+    ensures { result ≡ (is_same_type (core_body_of b.now).result (type_of r.now) && (length (map expr_of past.now) == length (core_body_of b.now).past)) }
+{
+    is_same(&b.result, r) && past.len() == b.past.len()
 }
 
 // Adds the arguments of parameters, where the bunch has their shape.
+#[tactic(auto, using(crate::proofs::Sharing::sharing))]
 fn pass<'a>(
     alloc: Global,
     known: &[(Name, HTy)],
@@ -85,10 +98,27 @@ fn pass<'a>(
 {
     match params {
         Bunch::Empty => Ok(arguments.is_empty()),
-        _ => match share(alloc, known, params, g, arguments, parts)? {
-            None => Ok(false),
-            Some(rest) => Ok(rest.is_empty()),
-        },
+        Bunch::Leaf(_, _) | Bunch::Comma(_, _) | Bunch::Semi(_, _) => {
+            share_all(alloc, known, params, g, arguments, parts)
+        }
+    }
+}
+
+// Adds the arguments of parameters, and says whether none is left over.
+#[tactic(auto, using(crate::proofs::Sharing::sharing))]
+fn share_all<'a>(
+    alloc: Global,
+    known: &[(Name, HTy)],
+    params: &'a Bunch,
+    g: &Bunch,
+    arguments: &'a [Node],
+    parts: &mut Vec<OpenTerm<'a>>,
+) -> Result<bool, Memory>
+    ensures { IfOk result (Adds (all_shared (shares (types_of known.now) (tree_of params.now) (tree_of g.now) (terms_from (map term_of arguments.now)))) parts.old.items parts.new.items) }
+{
+    match share(alloc, known, params, g, arguments, parts)? {
+        None => Ok(false),
+        Some(rest) => Ok(rest.is_empty()),
     }
 }
 

@@ -5,8 +5,9 @@ ghost use Rattle.stream_type.specs.StreamType.{type_of};
 ghost use Rattle.bunch.specs.BunchTree.{tree_of};
 ghost use Rattle.delta_derive.specs.Rearranged.{has_leaf, leaf_type, with_leaf};
 
+use crate::types::is_same;
 use bunch::{Bunch, Name};
-use stream_type::{Ty, same};
+use stream_type::Ty;
 
 /// Whether `x` stands in the bunch with the type `t`: `has_leaf` in `specs/Rearranged.antt`.
 pub fn has_leaf(b: &Bunch, x: Name, t: &Ty) -> bool
@@ -14,7 +15,7 @@ pub fn has_leaf(b: &Bunch, x: Name, t: &Ty) -> bool
 {
     match b {
         Bunch::Empty => false,
-        Bunch::Leaf(z, s) => z.0 == x.0 && same(s, t),
+        Bunch::Leaf(z, s) => z.0 == x.0 && is_same(s, t),
         Bunch::Comma(a, b) | Bunch::Semi(a, b) => has_leaf(a, x, t) || has_leaf(b, x, t),
     }
 }

@@ -16,6 +16,7 @@ mod reading;
 mod ruling;
 mod stepping;
 mod trees;
+mod types;
 
 pub use checking::derive;
 pub use fault::DeriveFault;

@@ -102,3 +102,38 @@ pub fn add_in<'a>(
     let known = copy_known(alloc, known)?;
     add(known, copy(alloc, bunch)?, node, ty, parts)
 }
+
+/// The same of two terms.
+pub fn add_two<'a>(
+    alloc: Global,
+    known: &[(Name, HTy)],
+    g: &Bunch,
+    a: &'a Node,
+    s: &'a Ty,
+    h: &Bunch,
+    b: &'a Node,
+    t: &'a Ty,
+    parts: &mut Vec<OpenTerm<'a>>,
+) -> Result<(), Memory>
+    ensures { OnOk result (map claim_of parts.new.items ≡ map claim_of parts.old.items ++ claim (types_of known.now) (tree_of g.now) (term_of a.now) (type_of s.now) ∷ claim (types_of known.now) (tree_of h.now) (term_of b.now) (type_of t.now) ∷ []) }
+{
+    add_in(alloc, known, g, a, s, parts)?;
+    add_in(alloc, known, h, b, t, parts)?;
+    Ok(())
+}
+
+/// Adds a term with historical names of which `x` is hidden. Its only error is want of memory.
+pub fn add_hidden<'a>(
+    alloc: Global,
+    known: &[(Name, HTy)],
+    x: Name,
+    bunch: Bunch,
+    node: &'a Node,
+    ty: &'a Ty,
+    parts: &mut Vec<OpenTerm<'a>>,
+) -> Result<(), Memory>
+    ensures { OnOk result (map claim_of parts.new.items ≡ map claim_of parts.old.items ++ claim (hidden x.0 (types_of known.now)) (tree_of bunch) (term_of node.now) (type_of ty.now) ∷ []) }
+{
+    add(hidden(alloc, x, known)?, bunch, node, ty, parts)?;
+    Ok(())
+}

@@ -9,6 +9,7 @@ use stream_type::Memory;
 
 /// The line that the bytes are, without a line feed, or None where they are none: `line_in` in
 /// `specs/LineText.antt`. Its only error is want of memory.
+#[tactic(auto, using(crate::proofs::Spaces::spaces))]
 pub fn read_line(alloc: Global, bytes: &[u8]) -> Result<Option<Line>, Memory>
     ensures { IfOk result (λ o. option_map line_of o ≡ line_in bytes.now) }
 {

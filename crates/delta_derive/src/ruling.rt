@@ -2,30 +2,30 @@
 
 ghost use Rattle.std.specs.Prelude.{◌≡◌, ◌∷◌, [], map, false, IfOk, OnOk, Some, ◌++◌};
 ghost use Rattle.stream_type.specs.StreamType.{type_of};
-ghost use Rattle.bunch.specs.BunchTree.{tree_of, comma, leaf};
+ghost use Rattle.bunch.specs.BunchTree.{tree_of, empty, comma, semi, leaf};
 ghost use Rattle.hist_value.specs.HistExpr.{expr_of};
 ghost use Rattle.hist_value.specs.Environment.{types_of};
 ghost use Rattle.core_term.specs.CoreTerm.{term_of, terms_from, core_of, par_term, cat_term, cons_term, inl_term, inr_term, let_term, let_par_term, let_cat_term, case_sum_term, case_star_term, wait_term, call_term, past_term};
-ghost use Rattle.core_term.specs.Parts.{is_star};
 ghost use Rattle.delta_check.specs.Counting.{counts_in};
-ghost use Rattle.bunch_rules.specs.Derivation.{hidden};
+ghost use Rattle.bunch_rules.specs.Derivation.{hidden, learned};
 ghost use Rattle.delta_derive.specs.LineText.{turn_of};
 ghost use Rattle.delta_derive.specs.Rearranged.{then_by, part_at, put_at, with_leaf};
-ghost use Rattle.delta_derive.specs.Claims.{rule_parts, rule_parts_by, claim, of_semi};
+ghost use Rattle.delta_derive.specs.Claims.{rule_parts, rule_parts_by, claim, of_semi, below_one, below_two};
 ghost use Rattle.delta_derive.specs.OpenTerms.{claim_of, Adds};
 
 use crate::calling::call_parts;
 use crate::leaves::{has_leaf, leaf_type, put_leaf};
 use crate::line::Turn;
-use crate::open::{OpenTerm, add, add_in, hidden, learned};
+use crate::open::{OpenTerm, add, add_hidden, add_in, add_two, hidden, learned};
 use crate::pasts::is_past;
 use crate::path::{part_at, put_at, stays_first};
 use crate::trees::{comma, leaf, pair, sequence, single};
+use crate::types::{is_same, is_star};
 use bunch::{Bunch, Name, copy};
 use core_term::{Core, Node, Term};
 use delta_check::inert;
 use std::alloc::Global;
-use stream_type::{Memory, Ty, null, same};
+use stream_type::{Memory, Ty, null};
 
 /// Adds what a rule without a path leaves to derive, and says whether it is valid: `rule_parts` in `specs/Claims.antt`.
 /// Its only error is want of memory.
@@ -41,8 +41,8 @@ pub fn add_parts<'a>(
     let node: &'a Node = aim.node;
     match &node.term {
         Term::Var(x) => Ok(has_leaf(&aim.bunch, *x, aim.result)),
-        Term::Eps => Ok(same(aim.result, &Ty::Eps)),
-        Term::Unit => Ok(same(aim.result, &Ty::One)),
+        Term::Eps => Ok(is_same(aim.result, &Ty::Eps)),
+        Term::Unit => Ok(is_same(aim.result, &Ty::One)),
         Term::Nil => Ok(is_star(aim.result)),
         Term::Past(m) => is_past(alloc, &aim.known, m, aim.result),
         Term::Par(a, b) => add_sides(alloc, aim, a, b, parts),
@@ -62,15 +62,6 @@ pub fn add_parts<'a>(
     }
 }
 
-fn is_star(t: &Ty) -> bool
-    ensures { result ≡ is_star (type_of t.now) }
-{
-    match t {
-        Ty::Star(_) => true,
-        _ => false,
-    }
-}
-
 // Both parts of a pair share the bunch.
 fn add_sides<'a>(
     alloc: Global,
@@ -83,8 +74,8 @@ fn add_sides<'a>(
 {
     match aim.result {
         Ty::Par(s, t) => {
-            add_in(alloc, &aim.known, &aim.bunch, a, s, parts)?;
-            add_in(alloc, &aim.known, &aim.bunch, b, t, parts)?;
+            let g = &aim.bunch;
+            add_two(alloc, &aim.known, g, a, s, g, b, t, parts)?;
             Ok(true)
         }
         _ => Ok(false),
@@ -137,8 +128,7 @@ fn add_semi<'a>(
 {
     match &aim.bunch {
         Bunch::Semi(g, h) => {
-            add_in(alloc, &aim.known, g, a, s, parts)?;
-            add_in(alloc, &aim.known, h, b, t, parts)?;
+            add_two(alloc, &aim.known, g, a, s, h, b, t, parts)?;
             Ok(true)
         }
         _ => Ok(false),
@@ -198,14 +188,57 @@ fn add_let<'a>(
     match part_at(&aim.bunch, path) {
         None => Ok(false),
         Some(d) => {
-            add_in(alloc, &aim.known, d, a, s, parts)?;
-            let part = comma(alloc, copy(alloc, d)?, leaf(alloc, x, s)?)?;
-            let mut bunch = copy(alloc, &aim.bunch)?;
-            put_at(&mut bunch, path, part);
-            add(hidden(alloc, x, &aim.known)?, bunch, b, aim.result, parts)?;
+            add_bound(alloc, aim, path, d, x, s, a, b, parts)?;
             Ok(true)
         }
     }
+}
+
+// Adds what a let binds and its body, where the part d stands at the end of the path.
+fn add_bound<'a>(
+    alloc: Global,
+    aim: &OpenTerm<'a>,
+    path: &[Turn],
+    d: &Bunch,
+    x: Name,
+    s: &'a Ty,
+    a: &'a Node,
+    b: &'a Node,
+    parts: &mut Vec<OpenTerm<'a>>,
+) -> Result<(), Memory>
+    ensures { OnOk result (map claim_of parts.new.items ≡ map claim_of parts.old.items ++ claim (types_of aim.now.known.items) (tree_of d.now) (term_of a.now) (type_of s.now)
+        ∷ claim (hidden x.0 (types_of aim.now.known.items)) (put_at (map turn_of path.now) (comma (tree_of d.now) (leaf x.0 (type_of s.now))) (tree_of aim.now.bunch)) (term_of b.now) (type_of aim.now.result.now) ∷ []) }
+{
+    add_in(alloc, &aim.known, d, a, s, parts)?;
+    let bunch = beside_part(alloc, &aim.bunch, path, d, x, s)?;
+    add_hidden(alloc, &aim.known, x, bunch, b, aim.result, parts)?;
+    Ok(())
+}
+
+// The bunch with x beside the part d at the end of the path.
+fn beside_part(
+    alloc: Global,
+    g: &Bunch,
+    path: &[Turn],
+    d: &Bunch,
+    x: Name,
+    s: &Ty,
+) -> Result<Bunch, Memory>
+    ensures { IfOk result (λ h. tree_of h ≡ put_at (map turn_of path.now) (comma (tree_of d.now) (leaf x.0 (type_of s.now))) (tree_of g.now)) }
+{
+    let part = comma(alloc, copy(alloc, d)?, leaf(alloc, x, s)?)?;
+    let mut bunch = copy(alloc, g)?;
+    put_at(&mut bunch, path, part);
+    Ok(bunch)
+}
+
+// The bunch with a part in the place of the leaf of z.
+fn with_leaf(alloc: Global, g: &Bunch, z: Name, part: Bunch) -> Result<Bunch, Memory>
+    ensures { IfOk result (λ h. tree_of h ≡ with_leaf z.0 (tree_of part) (tree_of g.now)) }
+{
+    let mut bunch = copy(alloc, g)?;
+    put_leaf(&mut bunch, z, part);
+    Ok(bunch)
 }
 
 /// The same of a rule with a path, which only a let has: `rule_parts_by` in `specs/Claims.antt`. Its only error is want
@@ -247,10 +280,10 @@ fn add_under_two<'a>(
     ensures { OnOk result (map claim_of parts.new.items ≡ map claim_of parts.old.items
         ++ claim (hidden y.0 (hidden x.0 (types_of aim.now.known.items))) (with_leaf z.0 (tree_of part) (tree_of aim.now.bunch)) (term_of a.now) (type_of aim.now.result.now) ∷ []) }
 {
-    let mut bunch = copy(alloc, &aim.bunch)?;
-    put_leaf(&mut bunch, z, part);
+    let bunch = with_leaf(alloc, &aim.bunch, z, part)?;
     let known = hidden(alloc, x, &aim.known)?;
-    add(hidden(alloc, y, &known)?, bunch, a, aim.result, parts)
+    add_hidden(alloc, &known, y, bunch, a, aim.result, parts)?;
+    Ok(())
 }
 
 // Adds a term under one new name.
@@ -266,9 +299,9 @@ fn add_under_one<'a>(
     ensures { OnOk result (map claim_of parts.new.items ≡ map claim_of parts.old.items
         ++ claim (hidden x.0 (types_of aim.now.known.items)) (with_leaf z.0 (tree_of part) (tree_of aim.now.bunch)) (term_of a.now) (type_of aim.now.result.now) ∷ []) }
 {
-    let mut bunch = copy(alloc, &aim.bunch)?;
-    put_leaf(&mut bunch, z, part);
-    add(hidden(alloc, x, &aim.known)?, bunch, a, aim.result, parts)
+    let bunch = with_leaf(alloc, &aim.bunch, z, part)?;
+    add_hidden(alloc, &aim.known, x, bunch, a, aim.result, parts)?;
+    Ok(())
 }
 
 // The names of both sides of a pair stand beside its name.
@@ -335,22 +368,44 @@ fn add_case_sum<'a>(
 ) -> Result<bool, Memory>
     ensures { IfOk result (Adds (rule_parts [] (λ _. false) (types_of aim.now.known.items) (tree_of aim.now.bunch) (case_sum_term z.0 (type_of r.now) x.0 (term_of a.now) y.0 (term_of b.now)) (type_of aim.now.result.now)) parts.old.items parts.new.items) }
 {
-    if !same(r, aim.result) {
-        return Ok(false);
-    }
     match leaf_type(&aim.bunch, z) {
         Some(whole) => match whole {
             Ty::Sum(s, t) => {
-                let part = single(alloc, z, whole, x, s)?;
-                add_under_one(alloc, aim, x, z, part, a, parts)?;
-                let part = single(alloc, z, whole, y, t)?;
-                add_under_one(alloc, aim, y, z, part, b, parts)?;
+                if !is_same(r, aim.result) {
+                    return Ok(false);
+                }
+                add_sum_branches(alloc, aim, z, whole, x, s, a, y, t, b, parts)?;
                 Ok(true)
             }
             _ => Ok(false),
         },
         None => Ok(false),
     }
+}
+
+// Adds both branches of a case on a sum.
+fn add_sum_branches<'a>(
+    alloc: Global,
+    aim: &OpenTerm<'a>,
+    z: Name,
+    whole: &Ty,
+    x: Name,
+    s: &Ty,
+    a: &'a Node,
+    y: Name,
+    t: &Ty,
+    b: &'a Node,
+    parts: &mut Vec<OpenTerm<'a>>,
+) -> Result<(), Memory>
+    ensures { OnOk result (map claim_of parts.new.items ≡ map claim_of parts.old.items
+        ++ below_one (types_of aim.now.known.items) x.0 z.0 (type_of whole.now) (leaf x.0 (type_of s.now)) (tree_of aim.now.bunch) (term_of a.now) (type_of aim.now.result.now)
+        ∷ below_one (types_of aim.now.known.items) y.0 z.0 (type_of whole.now) (leaf y.0 (type_of t.now)) (tree_of aim.now.bunch) (term_of b.now) (type_of aim.now.result.now) ∷ []) }
+{
+    let part = single(alloc, z, whole, x, s)?;
+    add_under_one(alloc, aim, x, z, part, a, parts)?;
+    let other = single(alloc, z, whole, y, t)?;
+    add_under_one(alloc, aim, y, z, other, b, parts)?;
+    Ok(())
 }
 
 // The branch of an item has the names of the item and of the rest in order beside the subject; the other one has
@@ -368,21 +423,42 @@ fn add_case_star<'a>(
 ) -> Result<bool, Memory>
     ensures { IfOk result (Adds (rule_parts [] (λ _. false) (types_of aim.now.known.items) (tree_of aim.now.bunch) (case_star_term z.0 (type_of r.now) (term_of a.now) y.0 ys.0 (term_of b.now)) (type_of aim.now.result.now)) parts.old.items parts.new.items) }
 {
-    if !same(r, aim.result) {
-        return Ok(false);
-    }
     match leaf_type(&aim.bunch, z) {
         Some(whole) => match whole {
             Ty::Star(s) => {
-                add_in(alloc, &aim.known, &aim.bunch, a, aim.result, parts)?;
-                let part = sequence(alloc, z, whole, y, s, ys, whole)?;
-                add_under_two(alloc, aim, y, ys, z, part, b, parts)?;
+                if !is_same(r, aim.result) {
+                    return Ok(false);
+                }
+                add_star_branches(alloc, aim, z, whole, a, y, s, ys, b, parts)?;
                 Ok(true)
             }
             _ => Ok(false),
         },
         None => Ok(false),
     }
+}
+
+// Adds both branches of a case on a star.
+fn add_star_branches<'a>(
+    alloc: Global,
+    aim: &OpenTerm<'a>,
+    z: Name,
+    whole: &Ty,
+    a: &'a Node,
+    y: Name,
+    s: &Ty,
+    ys: Name,
+    b: &'a Node,
+    parts: &mut Vec<OpenTerm<'a>>,
+) -> Result<(), Memory>
+    ensures { OnOk result (map claim_of parts.new.items ≡ map claim_of parts.old.items
+        ++ claim (types_of aim.now.known.items) (tree_of aim.now.bunch) (term_of a.now) (type_of aim.now.result.now)
+        ∷ below_two (types_of aim.now.known.items) y.0 ys.0 z.0 (type_of whole.now) (semi (leaf y.0 (type_of s.now)) (leaf ys.0 (type_of whole.now))) (tree_of aim.now.bunch) (term_of b.now) (type_of aim.now.result.now) ∷ []) }
+{
+    add_in(alloc, &aim.known, &aim.bunch, a, aim.result, parts)?;
+    let part = sequence(alloc, z, whole, y, s, ys, whole)?;
+    add_under_two(alloc, aim, y, ys, z, part, b, parts)?;
+    Ok(())
 }
 
 // A name that is waited for leaves the bunch and is known.
@@ -396,20 +472,32 @@ fn add_wait<'a>(
 ) -> Result<bool, Memory>
     ensures { IfOk result (Adds (rule_parts [] (λ _. false) (types_of aim.now.known.items) (tree_of aim.now.bunch) (wait_term x.0 (type_of r.now) (term_of a.now)) (type_of aim.now.result.now)) parts.old.items parts.new.items) }
 {
-    if !same(r, aim.result) {
-        return Ok(false);
-    }
     match leaf_type(&aim.bunch, x) {
         Some(t) => {
-            if null(t) {
+            if null(t) || !is_same(r, aim.result) {
                 return Ok(false);
             }
-            let known = learned(alloc, x, t, &aim.known)?;
-            let mut bunch = copy(alloc, &aim.bunch)?;
-            put_leaf(&mut bunch, x, Bunch::Empty);
-            add(known, bunch, a, aim.result, parts)?;
+            add_known(alloc, aim, x, t, a, parts)?;
             Ok(true)
         }
         None => Ok(false),
     }
+}
+
+// Adds a term where x is known and has left the bunch.
+fn add_known<'a>(
+    alloc: Global,
+    aim: &OpenTerm<'a>,
+    x: Name,
+    t: &Ty,
+    a: &'a Node,
+    parts: &mut Vec<OpenTerm<'a>>,
+) -> Result<(), Memory>
+    ensures { OnOk result (map claim_of parts.new.items ≡ map claim_of parts.old.items
+        ++ claim (learned x.0 (type_of t.now) (types_of aim.now.known.items)) (with_leaf x.0 empty (tree_of aim.now.bunch)) (term_of a.now) (type_of aim.now.result.now) ∷ []) }
+{
+    let bunch = with_leaf(alloc, &aim.bunch, x, Bunch::Empty)?;
+    let known = learned(alloc, x, t, &aim.known)?;
+    add(known, bunch, a, aim.result, parts)?;
+    Ok(())
 }
