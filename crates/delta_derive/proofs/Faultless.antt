@@ -78,9 +78,10 @@ module _ (funs : List CoreBody) (counts : ℕ → Bool) where
 
   two_shared : (known : Known) (a b g h : BunchTree) (es fs gs : CoreTerms) (ls ms ns : List Line) (u : SharesWell known a g es fs ls ms) (v : SharesWell known b h fs gs ms ns)
       → (then_by (shares known a g es) (λ r. joined r.0 (shares known b h r.1)) ≡ Some (u.0 ++ v.0, gs)) × ((is : List Claim) → Passes is ns → Passes ((u.0 ++ v.0) ++ is) ls)
-  two_shared known a b g h es fs gs ls ms ns u v =
-      (ap (λ o. then_by o (λ r. joined r.0 (shares known b h r.1))) u.1 ∙ ap (λ o. joined u.0 o) v.1,
-      λ is w. subst (λ l. Passes l ls) (sym (append_assoc u.0 v.0 is)) (u.2 (v.0 ++ is) (v.2 is w)))
+  two_shared known a b g h es fs gs ls ms ns u v = (
+    ap (λ o. then_by o (λ r. joined r.0 (shares known b h r.1))) u.1 ∙ ap (λ o. joined u.0 o) v.1,
+    λ is w. subst (λ l. Passes l ls) (sym (append_assoc u.0 v.0 is)) (u.2 (v.0 ++ is) (v.2 is w)),
+  )
 
   all_left : (known : Known) (params g : BunchTree) (es : CoreTerms) (hs : List Claim) → shares known params g es ≡ Some (hs, no_terms) → passes known params g es ≡ Some hs
   all_left known empty empty es hs e = ap all_shared e

@@ -2,7 +2,7 @@
 use Rattle.std.proofs.Common.{◌≡◌, ◌∙◌, ◌+◌, ◌<◌, ◌≤◌, ℕ, suc, Bool, true, false, true≢false, ◌||◌, not, cond, List, [], ◌∷◌, length, take, drop, Some, None, if◌then◌else◌, ap, refl, sym, arith}
 use Rattle.std.specs.Prelude.{◌==◌, nat_lt, position, Option, option_map}
 use Rattle.std.specs.List.{list_any, position_or_len, before_first, after_first}
-use Rattle.std.proofs.lemmas.Bool.{ltb-true, lt-ltb}
+use Rattle.std.proofs.lemmas.Bool.{ltb-true, ltb-false, lt-ltb, le-ltb}
 use Rattle.core_term.specs.CoreTerm.{CoreBody}
 use Rattle.bunch_rules.specs.Written.{Line}
 use Rattle.delta_derive.specs.declared.fault.DeriveFault.TheVariants.{BadLine}
@@ -15,6 +15,13 @@ use Rattle.delta_derive.proofs.Cutting.{lines_cut, feed_within}
 abbrev space : ℕ → Bool
 space byte = byte == 32
 
+shifted : (m n : ℕ) → nat_lt (1 + m) (suc n) ≡ nat_lt m n
+shifted m n = go (nat_lt m n) refl
+  where
+    go : (b : Bool) → nat_lt m n ≡ b → nat_lt (1 + m) (suc n) ≡ b
+    go true k = let lt = ltb-true m n k in lt-ltb (1 + m) (suc n) (omega (arith, lt))
+    go false k = let le = ltb-false m n k in le-ltb (1 + m) (suc n) (omega (arith, le))
+
 -- an element passes exactly where the first that does is within the list
 any_within : (p : ℕ → Bool) (xs : List ℕ) → list_any p xs ≡ nat_lt (position_or_len p xs) (length xs)
 any_within p [] = refl
@@ -22,7 +29,7 @@ any_within p (x ∷ xs) = go (any_within p xs) (p x)
   where
     go : list_any p xs ≡ nat_lt (position_or_len p xs) (length xs) → (b : Bool) → (b || list_any p xs) ≡ nat_lt (cond (not b) (1 + position_or_len p xs) 0) (suc (length xs))
     go more true = refl
-    go more false = more
+    go more false = more ∙ sym (shifted (position_or_len p xs) (length xs))
 
 spaced_at : (bytes : List ℕ) (b : Bool) → nat_lt (position_or_len space bytes) (length bytes) ≡ b → line_in bytes ≡ (if b then line_with_path (before_first space bytes) (after_first space bytes) else bare_line bytes)
 spaced_at bytes b h = ap (λ c. if c then line_with_path (before_first space bytes) (after_first space bytes) else bare_line bytes) (any_within space bytes ∙ h)

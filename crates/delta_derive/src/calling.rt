@@ -42,14 +42,7 @@ pub fn call_parts<'a>(
             if !is_called(alloc, c, marks, aim, b, past, arguments)? {
                 return Ok(false);
             }
-            pass(
-                alloc,
-                &aim.known,
-                &b.params,
-                &aim.bunch,
-                arguments,
-                parts,
-            )
+            pass(alloc, &aim.known, &b.params, &aim.bunch, arguments, parts)
         }
     }
 }

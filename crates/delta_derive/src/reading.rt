@@ -63,17 +63,26 @@ fn line_of_word(word: &[u8], path: Vec<Turn>) -> Option<Line>
 fn step_in(word: &[u8]) -> Option<Step>
     ensures { option_map step_of result ≡ step_in word.now }
 {
-    match word {
-        b"drop" => Some(Step::Drop),
-        b"swap" => Some(Step::Swap),
-        b"left" => Some(Step::Left),
-        b"right" => Some(Step::Right),
-        b"loosen" => Some(Step::Loosen),
-        b"unit" => Some(Step::Unit),
-        b"before" => Some(Step::Before),
-        b"after" => Some(Step::After),
-        b"beside" => Some(Step::Beside),
-        _ => None,
+    if word == b"drop".as_slice() {
+        Some(Step::Drop)
+    } else if word == b"swap".as_slice() {
+        Some(Step::Swap)
+    } else if word == b"left".as_slice() {
+        Some(Step::Left)
+    } else if word == b"right".as_slice() {
+        Some(Step::Right)
+    } else if word == b"loosen".as_slice() {
+        Some(Step::Loosen)
+    } else if word == b"unit".as_slice() {
+        Some(Step::Unit)
+    } else if word == b"before".as_slice() {
+        Some(Step::Before)
+    } else if word == b"after".as_slice() {
+        Some(Step::After)
+    } else if word == b"beside".as_slice() {
+        Some(Step::Beside)
+    } else {
+        None
     }
 }
 

@@ -101,10 +101,7 @@ fn commas_left(alloc: Global, b: Box<Bunch>, c: Bunch) -> Result<Option<Bunch>, 
     ensures { IfOk result (λ o. option_map tree_of o ≡ commas_left (tree_of b.value) (tree_of c)) }
 {
     match c {
-        Bunch::Comma(c, d) => Ok(Some(Bunch::Comma(
-            Box::new(alloc, Bunch::Comma(b, c))?,
-            d,
-        ))),
+        Bunch::Comma(c, d) => Ok(Some(Bunch::Comma(Box::new(alloc, Bunch::Comma(b, c))?, d))),
         _ => Ok(None),
     }
 }
@@ -113,10 +110,7 @@ fn semis_left(alloc: Global, b: Box<Bunch>, c: Bunch) -> Result<Option<Bunch>, M
     ensures { IfOk result (λ o. option_map tree_of o ≡ semis_left (tree_of b.value) (tree_of c)) }
 {
     match c {
-        Bunch::Semi(c, d) => Ok(Some(Bunch::Semi(
-            Box::new(alloc, Bunch::Semi(b, c))?,
-            d,
-        ))),
+        Bunch::Semi(c, d) => Ok(Some(Bunch::Semi(Box::new(alloc, Bunch::Semi(b, c))?, d))),
         _ => Ok(None),
     }
 }
@@ -136,10 +130,7 @@ fn commas_right(alloc: Global, b: Bunch, d: Box<Bunch>) -> Result<Option<Bunch>,
     ensures { IfOk result (λ o. option_map tree_of o ≡ commas_right (tree_of b) (tree_of d.value)) }
 {
     match b {
-        Bunch::Comma(b, c) => Ok(Some(Bunch::Comma(
-            b,
-            Box::new(alloc, Bunch::Comma(c, d))?,
-        ))),
+        Bunch::Comma(b, c) => Ok(Some(Bunch::Comma(b, Box::new(alloc, Bunch::Comma(c, d))?))),
         _ => Ok(None),
     }
 }
@@ -148,10 +139,7 @@ fn semis_right(alloc: Global, b: Bunch, d: Box<Bunch>) -> Result<Option<Bunch>, 
     ensures { IfOk result (λ o. option_map tree_of o ≡ semis_right (tree_of b) (tree_of d.value)) }
 {
     match b {
-        Bunch::Semi(b, c) => Ok(Some(Bunch::Semi(
-            b,
-            Box::new(alloc, Bunch::Semi(c, d))?,
-        ))),
+        Bunch::Semi(b, c) => Ok(Some(Bunch::Semi(b, Box::new(alloc, Bunch::Semi(c, d))?))),
         _ => Ok(None),
     }
 }

@@ -7,7 +7,6 @@ ghost use Rattle.core_term.specs.Parts.{is_same_type, is_star};
 use stream_type::{Ty, same};
 
 /// Whether two types are equal: `is_same_type` in the specs of core_term.
-#[tactic(auto, using(crate::proofs::Adding::tests))]
 pub fn is_same(a: &Ty, b: &Ty) -> bool
     ensures { result ≡ is_same_type (type_of a.now) (type_of b.now) }
 {
