@@ -11,6 +11,7 @@ pub mod Texts
 pub mod KnownNames
 pub mod Cutting
 pub mod Fronts
+pub mod InFront
 pub mod LeafTypes
 pub mod Refusing
 pub mod Ending
@@ -18,4 +19,5 @@ pub mod PastTests
 pub mod Sharing
 pub mod Passed
 pub mod Spaces
+pub mod Going
 mod Examples

@@ -28,7 +28,7 @@ any_within p [] = refl
 any_within p (x ∷ xs) = go (any_within p xs) (p x)
   where
     go : list_any p xs ≡ nat_lt (position_or_len p xs) (length xs) → (b : Bool) → (b || list_any p xs) ≡ nat_lt (cond (not b) (1 + position_or_len p xs) 0) (suc (length xs))
-    go more true = refl
+    go more true = sym (lt-ltb 0 (suc (length xs)) (omega arith))
     go more false = more ∙ sym (shifted (position_or_len p xs) (length xs))
 
 spaced_at : (bytes : List ℕ) (b : Bool) → nat_lt (position_or_len space bytes) (length bytes) ≡ b → line_in bytes ≡ (if b then line_with_path (before_first space bytes) (after_first space bytes) else bare_line bytes)

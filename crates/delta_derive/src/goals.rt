@@ -64,7 +64,7 @@ fn known_params(alloc: Global, params: &[(Name, Ty)]) -> Result<Vec<(Name, HTy)>
 
 /// Takes the line with this number: it goes on as `first_from` of `specs/FirstFault.antt` says. Its error other than
 /// want of memory is the fault of the line.
-#[tactic(auto, using(crate::proofs::Fronts::fronts))]
+#[tactic(auto, using(crate::proofs::InFront::in_front))]
 pub fn take_line<'a>(
     alloc: Global,
     c: &'a Core,
