@@ -1,11 +1,11 @@
 -- The rules of a call on its historical arguments and on the arguments behind others, as relations and as functions.
 use Rattle.std.proofs.Common.{◌≡◌, ◌∙◌, ℕ, suc, Bool, true, false, ◌&&◌, List, [], ◌∷◌, length, ap, refl, sym, arith}
-use Rattle.std.specs.Prelude.{Option, Some, None, option_map, not}
+use Rattle.std.specs.Prelude.{None, option_map, not}
 use Rattle.std.specs.List.{list_any}
 use Rattle.stream_type.specs.StreamType.{StreamType}
 use Rattle.bunch.specs.BunchTree.{stands_before, leaf_names}
 use Rattle.bunch.proofs.Bunches.{first_is_there, second_is_there}
-use Rattle.hist_value.specs.HistType.{HistType, past}
+use Rattle.hist_value.specs.HistType.{past}
 use Rattle.hist_value.specs.HistExpr.{HistExpr}
 use Rattle.core_term.specs.CoreTerm.{CoreTerms, CoreBody, fun_at}
 use Rattle.core_term.specs.Agreement.{types_in}

@@ -1,10 +1,9 @@
 -- A text is cut at its first line feed, or is no ended line.
 use Rattle.std.proofs.Common.{◌≡◌, ◌∙◌, ℕ, suc, ◌+◌, ◌<◌, ◌≤◌, List, [], ◌∷◌, Bool, true, false, not, cond, length, take, drop, Some, None, refl, ap, sym, arith}
-use Rattle.std.specs.Prelude.{◌==◌, position, nat_lt, Option}
+use Rattle.std.specs.Prelude.{◌==◌, position, nat_lt}
 use Rattle.std.specs.List.{slice_split, position_or_len, onto_first, before_first, after_first}
 use Rattle.std.proofs.lemmas.Bool.{ltb-true, lt-ltb}
 use Rattle.std.proofs.lemmas.List.Splits.{slice_split_first, length-slice_split}
-use Rattle.bunch_rules.specs.Written.{Line}
 use Rattle.delta_derive.specs.LineText.{line_in, lines_among, lines_in}
 use Rattle.delta_derive.proofs.Options.{some_same, none_some}
 

@@ -1,5 +1,5 @@
 -- What is at fault where no line is left.
-use Rattle.std.proofs.Common.{◌≡◌, ◌∙◌, ◌<◌, ℕ, Bool, false, List, [], ◌∷◌, length, map, reverse, ap, refl, sym, arith}
+use Rattle.std.proofs.Common.{◌≡◌, ◌∙◌, ◌<◌, ℕ, Bool, List, [], ◌∷◌, length, map, reverse, ap, refl, arith}
 use Rattle.std.specs.Prelude.{Some, None, position, ◌==◌}
 use Rattle.std.proofs.lemmas.List.{length-reverse}
 use Rattle.core_term.specs.CoreTerm.{CoreBody}

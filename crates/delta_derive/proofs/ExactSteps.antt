@@ -1,6 +1,6 @@
 -- The function of steps is exact for the relation.
 use Rattle.std.proofs.Common.{◌≡◌, List, [], ◌∷◌, ap, refl, subst}
-use Rattle.std.specs.Prelude.{Option, Some, None, option_map}
+use Rattle.std.specs.Prelude.{Some, option_map}
 use Rattle.bunch.specs.BunchTree.{BunchTree, empty, leaf, comma, semi}
 use Rattle.bunch_rules.specs.Rearranging.{Turn, to_left, to_right, Replaces, right_here, left_of_comma, right_of_comma, left_of_semi, right_of_semi, StepName, drop_step, swap_step, left_step, right_step, loosen_step, unit_step, before_step, after_step, beside_step, Becomes, dropped, swapped, commas_to_left, semis_to_left, commas_to_right, semis_to_right, loosened, left_unit_of_comma, right_unit_of_comma, left_unit_of_semi, right_unit_of_semi, empty_before, empty_after, empty_beside}
 use Rattle.delta_derive.specs.Rearranged.{stepped, rearranged, commas_left, semis_left, commas_right, semis_right, only_first, only_side}

@@ -1,10 +1,10 @@
 -- Worked examples: lines, steps, and the first fault of some derivations of `(x; y)` and of a let.
-use Rattle.std.proofs.Common.{◌≡◌, ℕ, Bool, false, List, [], ◌∷◌, ◌++◌, Some, None, refl}
+use Rattle.std.proofs.Common.{◌≡◌, false, [], ◌∷◌, ◌++◌, Some, None, refl}
 use Rattle.std.specs.Prelude.{codes, Option}
 use Rattle.stream_type.specs.StreamType.{StreamType, int, one, cat}
 use Rattle.bunch.specs.BunchTree.{BunchTree, empty, leaf, comma, semi}
 use Rattle.core_term.specs.CoreTerm.{CoreTerm, var_term, unit_term, cat_term, let_term}
-use Rattle.bunch_rules.specs.Rearranging.{to_left, to_right, drop_step, swap_step, left_step, loosen_step, unit_step, before_step}
+use Rattle.bunch_rules.specs.Rearranging.{to_left, to_right, drop_step, swap_step, loosen_step, unit_step}
 use Rattle.bunch_rules.specs.Written.{plain_rule, rule_at, step_at}
 use Rattle.delta_derive.specs.declared.fault.DeriveFault.{DeriveFault}
 use Rattle.delta_derive.specs.declared.fault.DeriveFault.TheVariants.{BadLine, BadStep, BadRule, Short, Long}

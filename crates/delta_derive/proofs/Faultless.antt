@@ -1,18 +1,18 @@
 -- Lines that write a derivation have no fault: each claim has one leaf for a name, so the leaf that a rule is about is
 -- the one that is found.
-use Rattle.std.proofs.Common.{◌≡◌, ◌≢◌, ◌∙◌, ℕ, suc, Bool, true, false, ◌&&◌, ◌||◌, ◌⊎◌, inl, inr, List, [], ◌∷◌, ◌++◌, length, map, if◌then◌else◌, ap, ap₂, refl, sym, subst, append_assoc}
+use Rattle.std.proofs.Common.{◌≡◌, ◌∙◌, ℕ, suc, Bool, true, false, ◌&&◌, ◌||◌, inl, inr, List, [], ◌∷◌, ◌++◌, length, map, if◌then◌else◌, ap, refl, sym, subst, append_assoc}
 use Rattle.std.proofs.lemmas.Bool.{eq-eqb}
 use Rattle.std.specs.Prelude.{Option, Some, None, option_map, is_some, not, ◌==◌}
 use Rattle.std.proofs.lemmas.List.{length-map}
-use Rattle.stream_type.specs.StreamType.{StreamType, eps, one, par, cat, sum, star, null_of}
+use Rattle.stream_type.specs.StreamType.{StreamType, par, cat, sum, star, null_of}
 use Rattle.bunch.specs.Names.{holds}
 use Rattle.bunch.specs.BunchTree.{BunchTree, empty, leaf, comma, semi, leaf_names, IsDistinct}
-use Rattle.hist_value.specs.HistType.{HistType, past}
+use Rattle.hist_value.specs.HistType.{past}
 use Rattle.hist_value.specs.HistExpr.{HistExpr}
-use Rattle.core_term.specs.CoreTerm.{CoreTerm, CoreTerms, CoreBody, var_term, past_term, par_term, cat_term, cons_term, inl_term, inr_term, let_term, let_par_term, let_cat_term, case_sum_term, case_star_term, wait_term, call_term, no_terms, term_before, past_types, fun_at, is_there}
+use Rattle.core_term.specs.CoreTerm.{CoreTerm, CoreTerms, CoreBody, var_term, past_term, let_term, let_par_term, let_cat_term, case_sum_term, case_star_term, wait_term, call_term, no_terms, past_types, fun_at, is_there}
 use Rattle.core_term.specs.FreeNames.{bound_names, bound_in_terms, bound_in_exprs, is_distinct}
 use Rattle.core_term.specs.Inert.{is_inert}
-use Rattle.core_term.specs.Parts.{par_left, par_right, cat_first, cat_second, sum_left, sum_right, star_item, star_items, is_same_type}
+use Rattle.core_term.specs.Parts.{is_same_type}
 use Rattle.core_term.specs.Typing.{Context}
 use Rattle.core_term.specs.TypeFaults.{found_where, expr_refusal, of_pasts, first_jumpy}
 use Rattle.core_term.proofs.Causes.{is_same_type-same}
@@ -21,18 +21,17 @@ use Rattle.core_term.proofs.Without.{holds-tail}
 use Rattle.core_term.proofs.BoundOnce.{not_again, distinct_right}
 use Rattle.core_term.proofs.Unbroken.{expr_refusal_is_exact}
 use Rattle.bunch_rules.specs.Rearranging.{Turn, Replaces, stays_first}
-use Rattle.bunch_rules.specs.Derivation.{Known, hidden, learned, WaitTheirTurn}
+use Rattle.bunch_rules.specs.Derivation.{Known, hidden, learned}
 use Rattle.bunch_rules.specs.Laws.{BindsNew}
-use Rattle.bunch_rules.specs.Written.{Line, plain_rule, rule_at, step_at, Writes, WritesPassed, WritesShared, nothing_written, shared_lines, empty_lines, leaf_lines, comma_lines, semi_lines, line_of_step, var_line, eps_line, unit_line, nil_line, past_line, par_line, inl_line, inr_line, cat_line, cons_line, let_line, let_par_line, let_cat_line, case_sum_line, case_star_line, wait_line, call_line}
+use Rattle.bunch_rules.specs.Written.{Line, plain_rule, rule_at, Writes, WritesPassed, WritesShared, nothing_written, shared_lines, empty_lines, leaf_lines, comma_lines, semi_lines, line_of_step, var_line, eps_line, unit_line, nil_line, past_line, par_line, inl_line, inr_line, cat_line, cons_line, let_line, let_par_line, let_cat_line, case_sum_line, case_star_line, wait_line, call_line}
 use Rattle.bunch_rules.proofs.Replacing.{part_names, part_distinct, new_names, still_distinct}
 use Rattle.bunch_rules.proofs.Steps.{names_kept, distinct_kept}
 use Rattle.bunch_rules.proofs.Serving.{step_names}
 use Rattle.bunch_rules.proofs.Parts.{beside_distinct, pair_distinct, single_apart, waited_distinct}
 use Rattle.bunch_rules.proofs.Derivations.{either, none_in, let_names, beside_names, pair_names, binds_fewer, binds_first, binds_second, binds_tail, binds_below, binds_below_two, let_distinct, different}
-use Rattle.delta_derive.specs.declared.fault.DeriveFault.{DeriveFault}
 use Rattle.delta_derive.specs.declared.fault.DeriveFault.TheVariants.{BadStep, BadRule}
-use Rattle.delta_derive.specs.Rearranged.{then_by, rearranged, part_at, put_at, has_leaf, leaf_type, with_leaf}
-use Rattle.delta_derive.specs.Claims.{Claim, claim, two, beside, below_one, below_two, let_claims, joined, shares, all_shared, passes, is_called, call_parts, rule_parts, rule_parts_by}
+use Rattle.delta_derive.specs.Rearranged.{then_by, put_at, leaf_type, with_leaf}
+use Rattle.delta_derive.specs.Claims.{Claim, claim, below_one, below_two, let_claims, joined, shares, all_shared, passes, is_called, call_parts, rule_parts, rule_parts_by}
 use Rattle.delta_derive.specs.FirstFault.{judged, first_from}
 use Rattle.delta_derive.proofs.Options.{none_some, both_true}
 use Rattle.delta_derive.proofs.ExactSteps.{rearranged_of}

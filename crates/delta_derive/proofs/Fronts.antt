@@ -1,6 +1,6 @@
 -- The claims of open terms, of which the last is next.
 use mathlib.Core.Path.{fun_ext}
-use Rattle.std.proofs.Common.{◌≡◌, ◌∙◌, ◌<◌, ◌+◌, ℕ, suc, List, [], ◌∷◌, ◌++◌, length, map, take, get_or, reverse, append_assoc, ap, ap₂, refl, sym, arith}
+use Rattle.std.proofs.Common.{◌≡◌, ◌∙◌, ◌<◌, ◌+◌, ℕ, List, [], ◌∷◌, ◌++◌, length, map, take, get_or, reverse, append_assoc, ap, ap₂, refl, sym}
 use Rattle.std.specs.Prelude.{Option, Some, None, ◌==◌, if◌then◌else◌}
 use Rattle.std.proofs.lemmas.List.{take_more, reverse-reverse, reverse-append}
 use Rattle.stream_type.specs.StreamType.{type_of}
@@ -14,7 +14,7 @@ use Rattle.core_term.specs.CoreTerm.{typed_names_of, core_body_of}
 use Rattle.core_term.specs.Typing.{past_params}
 use Rattle.delta_check.proofs.Entries.{types_of-push}
 use Rattle.delta_derive.specs.declared.open.OpenTerm.{OpenTerm}
-use Rattle.delta_derive.specs.Claims.{Claim, body_claim, body_claims}
+use Rattle.delta_derive.specs.Claims.{body_claim, body_claims}
 use Rattle.delta_derive.specs.OpenTerms.{claim_of, claims_in}
 
 pub claims_joined : (os ps : List OpenTerm) → map claim_of (os ++ ps) ≡ map claim_of os ++ map claim_of ps

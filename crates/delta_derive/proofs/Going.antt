@@ -1,6 +1,6 @@
 -- A text is gone through line by line.
-use Rattle.std.proofs.Common.{◌≡◌, ◌∙◌, ◌+◌, ◌-◌, ◌<◌, ◌≤◌, ℕ, suc, Bool, List, ◌∷◌, length, take, drop, add-one, length-drop, ap, subst, sym, arith}
-use Rattle.std.specs.Prelude.{◌==◌, Some, position, Option}
+use Rattle.std.proofs.Common.{◌≡◌, ◌∙◌, ◌+◌, ◌-◌, ◌≤◌, ℕ, suc, Bool, List, ◌∷◌, length, take, drop, add-one, length-drop, ap, subst, sym, arith}
+use Rattle.std.specs.Prelude.{◌==◌, Some, position}
 use Rattle.std.proofs.lemmas.List.{take_all}
 use Rattle.core_term.specs.CoreTerm.{CoreBody}
 use Rattle.delta_derive.specs.declared.fault.DeriveFault.{DeriveFault}

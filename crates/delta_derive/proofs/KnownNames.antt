@@ -1,11 +1,10 @@
 -- The historical names with one more, with one hidden, and as parameters give them.
 use mathlib.Core.Path.{fun_ext}
-use Rattle.std.proofs.Common.{◌≡◌, ◌∙◌, ◌<◌, ◌+◌, ℕ, Bool, true, false, true≢false, List, [], ◌∷◌, ◌++◌, length, map, take, get_or, reverse, if◌then◌else◌, refl, ap, ap₂, sym}
+use Rattle.std.proofs.Common.{◌≡◌, ◌∙◌, ◌<◌, ◌+◌, ℕ, Bool, true, false, true≢false, List, [], ◌∷◌, ◌++◌, length, take, get_or, if◌then◌else◌, refl, ap, ap₂, sym}
 use Rattle.std.specs.Prelude.{Option, Some, None, ◌==◌}
 use Rattle.std.proofs.lemmas.List.{take_more}
 use Rattle.std.proofs.lemmas.Bool.{eqb-true}
-use Rattle.stream_type.specs.StreamType.{StreamType, type_of}
-use Rattle.stream_type.specs.declared.ty.Ty.{Ty}
+use Rattle.stream_type.specs.StreamType.{StreamType}
 use Rattle.bunch.specs.declared.name.Name.{Name}
 use Rattle.bunch.specs.Names.{put}
 use Rattle.hist_value.specs.declared.hist_type.HTy.{HTy}

@@ -1,6 +1,6 @@
 -- The type of a leaf is the type of its name.
 use Rattle.std.proofs.Common.{◌≡◌, ◌∙◌, ℕ, Bool, true, false, ◌||◌, ap, ap₂, refl, sym}
-use Rattle.std.specs.Prelude.{Option, Some, None, if◌then◌else◌, ◌==◌}
+use Rattle.std.specs.Prelude.{Some, None, if◌then◌else◌, ◌==◌}
 use Rattle.stream_type.specs.StreamType.{StreamType, eps}
 use Rattle.bunch.specs.Names.{holds}
 use Rattle.bunch.specs.BunchTree.{BunchTree, empty, leaf, comma, semi, leaf_names}

@@ -8,7 +8,7 @@ use Rattle.bunch.specs.BunchTree.{BunchTree, empty, leaf, comma, semi, leaf_name
 use Rattle.core_term.specs.Parts.{is_same_type}
 use Rattle.core_term.specs.TypeFaults.{first_some}
 use Rattle.core_term.proofs.Causes.{is_same_type-true, is_same_type-same}
-use Rattle.core_term.proofs.Sides.{or_split, or_first, or_second, holds-head}
+use Rattle.core_term.proofs.Sides.{or_first, or_second, holds-head}
 use Rattle.bunch_rules.specs.Rearranging.{Turn, to_left, to_right, Replaces, right_here, left_of_comma, right_of_comma, left_of_semi, right_of_semi}
 use Rattle.bunch_rules.specs.Derivation.{HasLeaf}
 use Rattle.bunch_rules.proofs.Replacing.{part_names, not_left, not_right}

@@ -1,6 +1,6 @@
 -- Whether a call keeps its rules, and what it then leaves to derive.
-use Rattle.std.proofs.Common.{◌≡◌, ◌∙◌, ℕ, Bool, true, false, ◌&&◌, List, length, map, if◌then◌else◌, ap, ap₂, refl, sym}
-use Rattle.std.specs.Prelude.{Option, None, ◌==◌}
+use Rattle.std.proofs.Common.{◌≡◌, ◌∙◌, ℕ, Bool, true, false, ◌&&◌, List, length, map, if◌then◌else◌, ap, ap₂, sym}
+use Rattle.std.specs.Prelude.{None, ◌==◌}
 use Rattle.std.proofs.lemmas.List.{length-map}
 use Rattle.stream_type.specs.StreamType.{StreamType, type_of}
 use Rattle.stream_type.specs.declared.ty.Ty.{Ty}
@@ -10,7 +10,7 @@ use Rattle.bunch.specs.BunchTree.{BunchTree}
 use Rattle.hist_value.specs.HistExpr.{HistExpr, expr_of}
 use Rattle.core_term.specs.CoreTerm.{CoreTerms, CoreBody, fun_at, is_there, typed_names_of}
 use Rattle.bunch_rules.specs.Derivation.{Known}
-use Rattle.delta_derive.specs.Claims.{Claim, is_called, passes, call_parts}
+use Rattle.delta_derive.specs.Claims.{is_called, passes, call_parts}
 
 module _ (funs : List CoreBody) (counts : ℕ → Bool) (known : Known) (g : BunchTree) (f : ℕ) (ms : List HistExpr) (es : CoreTerms) (r : StreamType) where
   -- no function has the number

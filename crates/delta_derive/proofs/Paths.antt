@@ -1,6 +1,6 @@
 -- The part at the end of a path is what stands there.
 use Rattle.std.proofs.Common.{◌≡◌, List, [], ◌∷◌, ap, refl, subst}
-use Rattle.std.specs.Prelude.{Some, None}
+use Rattle.std.specs.Prelude.{Some}
 use Rattle.bunch.specs.BunchTree.{BunchTree, empty, leaf, comma, semi}
 use Rattle.bunch_rules.specs.Rearranging.{Turn, to_left, to_right, Replaces, right_here, left_of_comma, right_of_comma, left_of_semi, right_of_semi}
 use Rattle.delta_derive.specs.Rearranged.{part_at, put_at}

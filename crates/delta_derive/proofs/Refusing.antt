@@ -1,6 +1,6 @@
 -- What a text without a fault, and one with a fault, says of a program.
 use Rattle.std.proofs.Common.{◌≡◌, ◌∙◌, ℕ, List, sym}
-use Rattle.std.specs.Prelude.{Some, None}
+use Rattle.std.specs.Prelude.{None}
 use Rattle.core_term.specs.CoreTerm.{CoreProgram}
 use Rattle.core_term.specs.FreeNames.{IsCore}
 use Rattle.core_term.specs.Typing.{IsTypedCore}

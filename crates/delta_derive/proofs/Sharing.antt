@@ -1,9 +1,9 @@
 -- The claims of arguments, added one after another.
-use Rattle.std.proofs.Common.{◌≡◌, ◌∙◌, suc, Bool, true, false, List, [], ◌∷◌, ◌++◌, length, map, append_assoc, ap, refl, sym, arith}
+use Rattle.std.proofs.Common.{◌≡◌, ◌∙◌, suc, false, List, [], ◌∷◌, ◌++◌, length, map, append_assoc, ap, sym, arith}
 use Rattle.std.specs.Prelude.{Option, Some, None, option_map, ◌==◌}
 use Rattle.std.proofs.lemmas.Bool.{ne_eqb}
 use Rattle.std.proofs.lemmas.List.{append-nil}
-use Rattle.bunch.specs.BunchTree.{BunchTree, comma, semi}
+use Rattle.bunch.specs.BunchTree.{BunchTree}
 use Rattle.core_term.specs.declared.term.Node.{Node}
 use Rattle.core_term.specs.CoreTerm.{CoreTerms, term_of, terms_from}
 use Rattle.core_term.specs.TypeFaults.{found_where}

@@ -1,6 +1,6 @@
 -- A line is cut at its first space, or is one word; and what one line of a text does.
-use Rattle.std.proofs.Common.{◌≡◌, ◌∙◌, ◌+◌, ◌<◌, ◌≤◌, ℕ, suc, Bool, true, false, true≢false, ◌||◌, not, cond, List, [], ◌∷◌, length, take, drop, Some, None, if◌then◌else◌, ap, refl, sym, arith}
-use Rattle.std.specs.Prelude.{◌==◌, nat_lt, position, Option, option_map}
+use Rattle.std.proofs.Common.{◌≡◌, ◌∙◌, ◌+◌, ◌<◌, ℕ, suc, Bool, true, false, ◌||◌, not, cond, List, [], ◌∷◌, length, take, drop, Some, None, if◌then◌else◌, ap, refl, sym, arith}
+use Rattle.std.specs.Prelude.{◌==◌, nat_lt, position, Option}
 use Rattle.std.specs.List.{list_any, position_or_len, before_first, after_first}
 use Rattle.std.proofs.lemmas.Bool.{ltb-true, ltb-false, lt-ltb, le-ltb}
 use Rattle.core_term.specs.CoreTerm.{CoreBody}
@@ -10,7 +10,7 @@ use Rattle.delta_derive.specs.LineText.{bare_line, line_with_path, line_in, line
 use Rattle.delta_derive.specs.Claims.{Claim}
 use Rattle.delta_derive.specs.FirstFault.{TextLines, first_from}
 use Rattle.delta_derive.proofs.Options.{some_same, none_some}
-use Rattle.delta_derive.proofs.Cutting.{lines_cut, feed_within}
+use Rattle.delta_derive.proofs.Cutting.{lines_cut}
 
 abbrev space : ℕ → Bool
 space byte = byte == 32

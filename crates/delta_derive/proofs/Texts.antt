@@ -1,23 +1,23 @@
 -- A text has no fault exactly where its lines write a derivation.
-use Rattle.std.proofs.Common.{◌≡◌, ◌∙◌, ℕ, suc, zero, Bool, true, List, [], ◌∷◌, ◌++◌, length, map, ap, refl, sym, subst}
+use Rattle.std.proofs.Common.{◌≡◌, ◌∙◌, ℕ, suc, Bool, List, [], ◌∷◌, ◌++◌, length, map, ap, refl, sym, subst}
 use Rattle.std.specs.Prelude.{Option, Some, None}
 use Rattle.std.specs.List.{All}
 use Rattle.std.proofs.lemmas.List.Elements.{All-head, All-tail}
 use Rattle.bunch.specs.BunchTree.{leaf_names}
-use Rattle.core_term.specs.CoreTerm.{CoreBody, CoreProgram, past_names}
-use Rattle.core_term.specs.FreeNames.{bound_names, IsBoundOnce, IsCore}
+use Rattle.core_term.specs.CoreTerm.{CoreBody, past_names}
+use Rattle.core_term.specs.FreeNames.{bound_names, IsBoundOnce}
 use Rattle.core_term.specs.Inert.{is_inert_fun}
 use Rattle.core_term.proofs.BoundOnce.{distinct_right}
 use Rattle.bunch_rules.specs.Laws.{BindsNew}
-use Rattle.bunch_rules.specs.Written.{Line, WritesBody, WritesBodies, no_bodies, body_first, IsWritten}
+use Rattle.bunch_rules.specs.Written.{Line, WritesBody, WritesBodies, no_bodies, body_first}
 use Rattle.bunch_rules.proofs.Programs.{parts_apart, distinct_params}
 use Rattle.delta_derive.specs.declared.fault.DeriveFault.{DeriveFault}
 use Rattle.delta_derive.specs.LineText.{lines_in}
 use Rattle.delta_derive.specs.Claims.{Claim, body_claim, body_claims, program_claims}
-use Rattle.delta_derive.specs.FirstFault.{TextLines, after, fault_at, judged, first_from, first_fault, IsValidText}
+use Rattle.delta_derive.specs.FirstFault.{TextLines, after, fault_at, judged, first_from}
 use Rattle.delta_derive.specs.Laws.{FaultlessIsValid, ValidIsFaultless}
 use Rattle.delta_derive.proofs.Options.{none_some}
-use Rattle.delta_derive.proofs.Written.{WritesClaim, WritesAll, all_of_both, writes_after}
+use Rattle.delta_derive.proofs.Written.{WritesAll, all_of_both, writes_after}
 use Rattle.delta_derive.proofs.Faultless.{Passes, goes}
 
 not_some : {A B : Type 0} {a : A} → Some a ≡ None → B

@@ -1,27 +1,24 @@
 -- Lines that write the terms of claims, in turn; and a line that leaves claims of one, with the lines that write them,
 -- writes that one.
-use Rattle.std.proofs.Common.{◌≡◌, ◌∙◌, ℕ, Bool, true, false, ◌&&◌, ◌||◌, if◌then◌else◌, ◌⊎◌, inl, inr, List, [], ◌∷◌, ◌++◌, length, map, ap, refl, sym, subst, eqb, arith}
+use Rattle.std.proofs.Common.{◌≡◌, ◌∙◌, ℕ, Bool, true, false, ◌&&◌, ◌||◌, if◌then◌else◌, List, [], ◌∷◌, ◌++◌, length, ap, refl, sym, subst}
 use Rattle.std.proofs.lemmas.Bool.{eqb-true}
-use Rattle.std.specs.Prelude.{Option, Some, None, option_map, is_some, not, ◌==◌}
+use Rattle.std.specs.Prelude.{Option, Some, None, is_some, not, ◌==◌}
 use Rattle.std.proofs.lemmas.List.{length-map}
-use Rattle.stream_type.specs.StreamType.{StreamType, eps, one, par, cat, sum, star, null_of}
-use Rattle.bunch.specs.BunchTree.{BunchTree, empty, leaf, comma, semi, stands_before, leaf_names}
-use Rattle.hist_value.specs.HistType.{HistType, past}
+use Rattle.stream_type.specs.StreamType.{StreamType, eps, one, null_of}
+use Rattle.bunch.specs.BunchTree.{BunchTree, empty, leaf, comma, semi}
+use Rattle.hist_value.specs.HistType.{past}
 use Rattle.hist_value.specs.HistExpr.{HistExpr}
-use Rattle.hist_value.specs.Typing.{Gives}
 use Rattle.core_term.specs.CoreTerm.{CoreTerm, CoreTerms, CoreBody, var_term, eps_term, unit_term, nil_term, past_term, par_term, cat_term, cons_term, inl_term, inr_term, let_term, let_par_term, let_cat_term, case_sum_term, case_star_term, wait_term, call_term, no_terms, term_before, past_types, fun_at, is_there}
 use Rattle.core_term.specs.Inert.{is_inert}
-use Rattle.core_term.specs.Agreement.{types_in}
 use Rattle.core_term.specs.Parts.{par_left, par_right, cat_first, cat_second, sum_left, sum_right, star_item, star_items, is_par, is_cat, is_sum, is_star, is_same_type}
-use Rattle.core_term.specs.Typing.{HavePasts, passed}
 use Rattle.core_term.specs.TypeFaults.{found_where, expr_refusal, of_pasts, first_jumpy}
 use Rattle.core_term.proofs.Causes.{is_same_type-true, is_par-form, is_cat-form, is_sum-form, is_star-form}
 use Rattle.core_term.proofs.Sides.{or_split}
 use Rattle.core_term.proofs.Unbroken.{expr_refusal_is_exact}
 use Rattle.bunch_rules.specs.Rearranging.{Turn, Replaces, stays_first}
-use Rattle.bunch_rules.specs.Derivation.{Known, hidden, learned, WaitTheirTurn}
+use Rattle.bunch_rules.specs.Derivation.{Known, hidden, learned}
 use Rattle.bunch_rules.specs.Written.{Line, plain_rule, rule_at, step_at, Writes, WritesPassed, WritesShared, nothing_written, shared_lines, empty_lines, leaf_lines, comma_lines, semi_lines, line_of_step, var_line, eps_line, unit_line, nil_line, past_line, par_line, inl_line, inr_line, cat_line, cons_line, let_line, let_par_line, let_cat_line, case_sum_line, case_star_line, wait_line, call_line}
-use Rattle.delta_derive.specs.Rearranged.{then_by, rearranged, part_at, put_at, has_leaf, leaf_type, with_leaf}
+use Rattle.delta_derive.specs.Rearranged.{rearranged, part_at, put_at, has_leaf, leaf_type, with_leaf}
 use Rattle.delta_derive.specs.Claims.{Claim, claim, two, beside, below_one, below_two, let_claims, of_semi, joined, shares, where_none, all_shared, passes, is_called, call_parts, rule_parts, rule_parts_by}
 use Rattle.delta_derive.specs.FirstFault.{after}
 use Rattle.delta_derive.proofs.Options.{some_same, none_some, mapped, bound, found, and_both, not_true, not_some}

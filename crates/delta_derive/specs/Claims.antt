@@ -8,14 +8,13 @@ use Rattle.bunch.specs.BunchTree.{BunchTree, empty, leaf, comma, semi}
 use Rattle.hist_value.specs.HistType.{past}
 use Rattle.hist_value.specs.HistExpr.{HistExpr}
 use Rattle.core_term.specs.CoreTerm.{CoreTerm, CoreTerms, CoreBody, CoreProgram, var_term, eps_term, unit_term, nil_term, past_term, par_term, cat_term, cons_term, inl_term, inr_term, let_term, let_par_term, let_cat_term, case_sum_term, case_star_term, wait_term, call_term, no_terms, term_before, past_types, fun_at, is_there}
-use Rattle.core_term.specs.Inert.{is_inert, is_inert_fun}
+use Rattle.core_term.specs.Inert.{is_inert}
 use Rattle.core_term.specs.Parts.{par_left, par_right, cat_first, cat_second, sum_left, sum_right, star_item, star_items, is_par, is_cat, is_sum, is_star, is_same_type}
 use Rattle.core_term.specs.Typing.{past_params}
 use Rattle.core_term.specs.TypeFaults.{found_where, expr_refusal, of_pasts, first_jumpy}
 use Rattle.bunch_rules.specs.Rearranging.{Turn, stays_first}
 use Rattle.bunch_rules.specs.Derivation.{Known, hidden, learned}
-use Rattle.bunch_rules.specs.Written.{Line, plain_rule, rule_at, step_at}
-use Rattle.delta_derive.specs.Rearranged.{then_by, part_at, put_at, rearranged, has_leaf, leaf_type, with_leaf}
+use Rattle.delta_derive.specs.Rearranged.{then_by, part_at, put_at, has_leaf, leaf_type, with_leaf}
 
 -- a bunch is to derive a term at a type, where the types of the historical names are known
 pub record Claim : Type 0 where

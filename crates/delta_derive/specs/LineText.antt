@@ -1,5 +1,5 @@
 -- The lines of a text, and which of them are lines of a derivation.
-use Rattle.std.specs.Prelude.{ℕ, Bool, List, [], ◌∷◌, map, codes, Option, Some, None, option_map, ◌==◌, if◌then◌else◌}
+use Rattle.std.specs.Prelude.{ℕ, List, [], ◌∷◌, map, codes, Option, Some, None, option_map, ◌==◌, if◌then◌else◌}
 use Rattle.std.specs.List.{slice_split, list_any, before_first, after_first}
 use Rattle.std.specs.Str.{bytes_eq}
 use Rattle.bunch_rules.specs.Rearranging.{Turn, to_left, to_right, StepName, drop_step, swap_step, left_step, right_step, loosen_step, unit_step, before_step, after_step, beside_step}

@@ -1,5 +1,5 @@
 -- What open terms stand for: claims.
-use Rattle.std.specs.Prelude.{◌≡◌, Bool, Some, None, List, ◌++◌, Option, option_map, map, reverse}
+use Rattle.std.specs.Prelude.{◌≡◌, Bool, Some, List, ◌++◌, Option, option_map, map, reverse}
 use Rattle.stream_type.specs.StreamType.{type_of}
 use Rattle.bunch.specs.BunchTree.{tree_of}
 use Rattle.hist_value.specs.Environment.{types_of}

@@ -112,19 +112,67 @@ fn steps(rt: HostRuntime) -> Result<(), Fail> {
 #[test]
 fn each_form(rt: HostRuntime) -> Result<(), Fail> {
     let rows: [(&[u8], &[u8], Said); 13] = [
-        (b"main(z : Int . Int) : Int . Int = let (u; v) = z in (u; v)", b"rule\ndrop l\nunit .\nrule\nrule\nrule\n", FINE),
-        (b"main(z : Int . Int) : Int . Int = let (u; v) = z in (u; v)", b"rule\nrule\n", ("BadRule", 1)),
-        (b"main(z : Int || Int) : Int || Int = let (u, v) = z in (v, u)", THREE, ("Short", 3)),
-        (b"main(z : Int || Int) : Int || Int = let (u, v) = z in (v, u)", b"rule\nrule\nrule\nrule\n", FINE),
-        (b"main(x : Int) : Int = wait x in {x}", b"rule\nrule\n", FINE),
-        (b"main(x : 1 + Int) : Int = case x of { inl u => {0} | inr v => v }", b"rule\nrule\nrule\n", FINE),
-        (b"main(x : Int*) : Int* = case x of { nil => nil | y :: ys => (y :: ys) }", b"rule\nrule\nrule\n", ("BadRule", 2)),
-        (b"main(x : Int*) : Int* = case x of { nil => nil | y :: ys => (y :: ys) }", b"rule\nrule\ndrop l\nunit .\nrule\nrule\nrule\n", FINE),
+        (
+            b"main(z : Int . Int) : Int . Int = let (u; v) = z in (u; v)",
+            b"rule\ndrop l\nunit .\nrule\nrule\nrule\n",
+            FINE,
+        ),
+        (
+            b"main(z : Int . Int) : Int . Int = let (u; v) = z in (u; v)",
+            b"rule\nrule\n",
+            ("BadRule", 1),
+        ),
+        (
+            b"main(z : Int || Int) : Int || Int = let (u, v) = z in (v, u)",
+            THREE,
+            ("Short", 3),
+        ),
+        (
+            b"main(z : Int || Int) : Int || Int = let (u, v) = z in (v, u)",
+            b"rule\nrule\nrule\nrule\n",
+            FINE,
+        ),
+        (
+            b"main(x : Int) : Int = wait x in {x}",
+            b"rule\nrule\n",
+            FINE,
+        ),
+        (
+            b"main(x : 1 + Int) : Int = case x of { inl u => {0} | inr v => v }",
+            b"rule\nrule\nrule\n",
+            FINE,
+        ),
+        (
+            b"main(x : Int*) : Int* = case x of { nil => nil | y :: ys => (y :: ys) }",
+            b"rule\nrule\nrule\n",
+            ("BadRule", 2),
+        ),
+        (
+            b"main(x : Int*) : Int* = case x of { nil => nil | y :: ys => (y :: ys) }",
+            b"rule\nrule\ndrop l\nunit .\nrule\nrule\nrule\n",
+            FINE,
+        ),
         (b"main(x : Int) : 1 + Int = inr x", b"rule\nrule\n", FINE),
-        (b"fun f(u : Int; v : Int) : Int = v\nmain(x : Int; y : Int) : Int = f(x, y)", b"rule\nrule\nrule\nrule\n", FINE),
-        (b"fun f(u : Int; v : Int) : Int = v\nmain(x : Int, y : Int) : Int = f(x, y)", b"rule\nrule\nrule\nrule\n", ("BadRule", 1)),
-        (b"fun f(u : 1; v : 1) : 1 = v\nmain(x : 1; y : 1) : 1 = f(x, ())", b"rule\nrule\nrule\nrule\n", ("BadRule", 1)),
-        (b"fun f() : 1 = ()\nmain(x : 1; y : 1) : 1 = f()", b"rule\nrule\n", FINE),
+        (
+            b"fun f(u : Int; v : Int) : Int = v\nmain(x : Int; y : Int) : Int = f(x, y)",
+            b"rule\nrule\nrule\nrule\n",
+            FINE,
+        ),
+        (
+            b"fun f(u : Int; v : Int) : Int = v\nmain(x : Int, y : Int) : Int = f(x, y)",
+            b"rule\nrule\nrule\nrule\n",
+            ("BadRule", 1),
+        ),
+        (
+            b"fun f(u : 1; v : 1) : 1 = v\nmain(x : 1; y : 1) : 1 = f(x, ())",
+            b"rule\nrule\nrule\nrule\n",
+            ("BadRule", 1),
+        ),
+        (
+            b"fun f() : 1 = ()\nmain(x : 1; y : 1) : 1 = f()",
+            b"rule\nrule\n",
+            FINE,
+        ),
     ];
     for (program, proof, row) in rows {
         assert!(rt; said(rt.alloc(), program, proof)? == row);
@@ -137,17 +185,35 @@ fn each_form(rt: HostRuntime) -> Result<(), Fail> {
 fn examples(rt: HostRuntime) -> Result<(), Fail> {
     let rows: [(&[u8], &[u8]); 6] = [
         // alarm
-        (b"fun watch(xs : Int*) : Int* || 1* =\n  case xs of {\n    nil => (nil, nil)\n  | y :: ys => wait y in\n      let (good, alarms) = watch(ys) in\n      ({y} :: good, if 100 < y then (() :: alarms) else alarms)\n  }\nmain(xs : Int*) : Int* || 1* = watch(xs)", b"rule\nrule\nrule\nrule\nrule\nrule .\nrule\nrule\nrule\nrule\nbefore .\nrule\nrule\nrule\nrule .\nrule\nrule\nbefore .\nrule\nrule\nrule\nrule\nrule\nrule\n"),
+        (
+            b"fun watch(xs : Int*) : Int* || 1* =\n  case xs of {\n    nil => (nil, nil)\n  | y :: ys => wait y in\n      let (good, alarms) = watch(ys) in\n      ({y} :: good, if 100 < y then (() :: alarms) else alarms)\n  }\nmain(xs : Int*) : Int* || 1* = watch(xs)",
+            b"rule\nrule\nrule\nrule\nrule\nrule .\nrule\nrule\nrule\nrule\nbefore .\nrule\nrule\nrule\nrule .\nrule\nrule\nbefore .\nrule\nrule\nrule\nrule\nrule\nrule\n",
+        ),
         // double
-        (b"fun twice(xs : Int*) : Int* =\n  case xs of { nil => nil | y :: ys => wait y in ({y * 2} :: twice(ys)) }\nmain(xs : Int*) : Int* = twice(xs)", b"rule\nrule\nrule\ndrop l\nunit .\nrule\nrule\nrule\nrule\nrule\nrule\n"),
+        (
+            b"fun twice(xs : Int*) : Int* =\n  case xs of { nil => nil | y :: ys => wait y in ({y * 2} :: twice(ys)) }\nmain(xs : Int*) : Int* = twice(xs)",
+            b"rule\nrule\nrule\ndrop l\nunit .\nrule\nrule\nrule\nrule\nrule\nrule\n",
+        ),
         // sides
-        (b"main(z : (Int || Int)) : Int || Int = let (a, b) = z in (b, a)", b"rule\nrule\nrule\nrule\n"),
+        (
+            b"main(z : (Int || Int)) : Int || Int = let (a, b) = z in (b, a)",
+            b"rule\nrule\nrule\nrule\n",
+        ),
         // sums
-        (b"fun sums{n : Int}(xs : Int*) : Int* =\n  case xs of { nil => nil | y :: ys => wait y in ({n + y} :: sums{n + y}(ys)) }\nmain(xs : Int*) : Int* = sums{0}(xs)", b"rule\nrule\nrule\ndrop l\nunit .\nrule\nrule\nrule\nrule\nrule\nrule\n"),
+        (
+            b"fun sums{n : Int}(xs : Int*) : Int* =\n  case xs of { nil => nil | y :: ys => wait y in ({n + y} :: sums{n + y}(ys)) }\nmain(xs : Int*) : Int* = sums{0}(xs)",
+            b"rule\nrule\nrule\ndrop l\nunit .\nrule\nrule\nrule\nrule\nrule\nrule\n",
+        ),
         // swap
-        (b"main(x : Int, y : Int) : Int || Int = (y, x)", b"rule\nrule\nrule\n"),
+        (
+            b"main(x : Int, y : Int) : Int || Int = (y, x)",
+            b"rule\nrule\nrule\n",
+        ),
         // twice
-        (b"main(x : Int) : Int || Int = (x, x)", b"rule\nrule\nrule\n"),
+        (
+            b"main(x : Int) : Int || Int = (x, x)",
+            b"rule\nrule\nrule\n",
+        ),
     ];
     for (program, proof) in rows {
         assert!(rt; said(rt.alloc(), program, proof)? == FINE);

@@ -1,5 +1,5 @@
 -- The claims of the functions' bodies and of main's.
-use Rattle.std.proofs.Common.{◌∙◌, ◌∷◌, [], ◌++◌, ap, ap₂, map, reverse}
+use Rattle.std.proofs.Common.{◌∙◌, ◌∷◌, [], ◌++◌, ap, ap₂, map}
 use Rattle.std.proofs.lemmas.List.{take_all}
 use Rattle.core_term.specs.CoreTerm.{core_body_of}
 use Rattle.delta_derive.specs.Claims.{body_claims}
