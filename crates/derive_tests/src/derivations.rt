@@ -183,36 +183,56 @@ fn each_form(rt: HostRuntime) -> Result<(), Fail> {
 // The programs of `examples`, each with its derivation there.
 #[test]
 fn examples(rt: HostRuntime) -> Result<(), Fail> {
-    let rows: [(&[u8], &[u8]); 6] = [
-        // alarm
-        (
-            b"fun watch(xs : Int*) : Int* || 1* =\n  case xs of {\n    nil => (nil, nil)\n  | y :: ys => wait y in\n      let (good, alarms) = watch(ys) in\n      ({y} :: good, if 100 < y then (() :: alarms) else alarms)\n  }\nmain(xs : Int*) : Int* || 1* = watch(xs)",
-            b"rule\nrule\nrule\nrule\nrule\nrule .\nrule\nrule\nrule\nrule\nbefore .\nrule\nrule\nrule\nrule .\nrule\nrule\nbefore .\nrule\nrule\nrule\nrule\nrule\nrule\n",
-        ),
+    let rows: [(&[u8], &[u8]); 10] = [
         // double
         (
-            b"fun twice(xs : Int*) : Int* =\n  case xs of { nil => nil | y :: ys => wait y in ({y * 2} :: twice(ys)) }\nmain(xs : Int*) : Int* = twice(xs)",
+            b"// Each number of a feed, doubled.\nfun twice(xs : Int*) : Int* =\n  case xs of { nil => nil | y :: ys => wait y in ({y * 2} :: twice(ys)) }\nmain(xs : Int*) : Int* = twice(xs)\n",
             b"rule\nrule\nrule\ndrop l\nunit .\nrule\nrule\nrule\nrule\nrule\nrule\n",
         ),
-        // sides
+        // join
         (
-            b"main(z : (Int || Int)) : Int || Int = let (a, b) = z in (b, a)",
-            b"rule\nrule\nrule\nrule\n",
+            b"// Two feeds of keys with values, whose keys rise, joined where the keys are equal.\ntype Row = Int . Int\nfun join(xs : Row*, ys : Row*) : (Int . Int . Int)* =\n  case xs of {\n    nil => nil\n  | x :: xt => wait x in\n      case ys of {\n        nil => nil\n      | y :: yt => wait y in\n          if fst x = fst y then {(fst x, (snd x, snd y))} :: join(xt, yt)\n          else if fst x < fst y then join(xt, {y} :: yt)\n          else join({x} :: xt, yt)\n      }\n  }\nmain(xs : Row*, ys : Row*) : (Int . Int . Int)* = join(xs, ys)\n",
+            b"rule\nrule\nrule\nrule\nrule\nrule\nrule .\nrule\nrule\nbefore .\nrule\nrule\nright .\nrule\nrule\nrule\nrule .\nrule\nrule\nright .\nright .\nrule\nrule\nbefore .\nrule\nrule\nrule\nright .\nright .\nrule\nbefore .\nrule\nrule\nrule\nrule\nrule\nrule\nrule\n",
+        ),
+        // merge
+        (
+            b"// Two feeds that rise, merged into one that rises.\nfun merge(xs : Int*, ys : Int*) : Int* =\n  case xs of {\n    nil => ys\n  | x :: xt => wait x in\n      case ys of {\n        nil => {x} :: xt\n      | y :: yt => wait y in\n          if x < y then {x} :: merge(xt, {y} :: yt) else {y} :: merge({x} :: xt, yt)\n      }\n  }\nmain(xs : Int*, ys : Int*) : Int* = merge(xs, ys)\n",
+            b"rule\nrule\nrule\nrule\nbefore .\nrule\nrule\nrule\nrule\nrule .\nrule\nrule\nbefore .\nrule\nrule\nright .\nrule\nrule\nbefore .\nrule\nrule\nrule\nbefore .\nrule\nrule\nright .\nrule\nbefore .\nrule\nrule\nrule\nrule\nrule\nrule\nrule\n",
+        ),
+        // pair
+        (
+            b"// One number after another.\nmain(x : Int; y : Int) : Int . Int = (x; y)\n",
+            b"rule\nrule\nrule\n",
+        ),
+        // sessions
+        (
+            b"// A feed of numbers and marks, cut into a feed of sessions at each mark.\nfun session(xs : (Int + 1)*) : Int* . (Int + 1)* =\n  case xs of {\n    nil => (nil; nil)\n  | x :: xt => case x of {\n      inl n => let (ns; rest) = session(xt) in (n :: ns; rest)\n    | inr mark => (nil; xt)\n    }\n  }\nfun sessions(xs : (Int + 1)*) : Int** =\n  case xs of {\n    nil => nil\n  | x :: xt => let (ns; rest) = session(x :: xt) in ns :: sessions(rest)\n  }\nmain(xs : (Int + 1)*) : Int** = sessions(xs)\n",
+            b"rule\nbefore .\nrule\nrule\nrule\nrule\nrule rr\nrule\nrule\nrule\ndrop l\nunit .\ndrop rl\nunit r\ndrop rl\nunit r\nleft .\nrule\nrule\nrule\nrule\nrule\nbefore .\nrule\nrule\nrule\nrule\nrule\nrule r\nrule\nrule\nrule\nrule\nrule\ndrop l\nunit .\ndrop l\nunit .\ndrop l\nunit .\nrule\nrule\nrule\nrule\nrule\nrule\n",
         ),
         // sums
         (
-            b"fun sums{n : Int}(xs : Int*) : Int* =\n  case xs of { nil => nil | y :: ys => wait y in ({n + y} :: sums{n + y}(ys)) }\nmain(xs : Int*) : Int* = sums{0}(xs)",
+            b"// The sum of the numbers so far, at each number.\nfun sums{n : Int}(xs : Int*) : Int* =\n  case xs of { nil => nil | y :: ys => wait y in ({n + y} :: sums{n + y}(ys)) }\nmain(xs : Int*) : Int* = sums{0}(xs)\n",
             b"rule\nrule\nrule\ndrop l\nunit .\nrule\nrule\nrule\nrule\nrule\nrule\n",
         ),
         // swap
         (
-            b"main(x : Int, y : Int) : Int || Int = (y, x)",
+            b"// Two numbers side by side, each put out on the other side.\nmain(x : Int, y : Int) : Int || Int = (y, x)\n",
             b"rule\nrule\nrule\n",
+        ),
+        // total
+        (
+            b"// The sum of a whole feed, once it has ended.\nmain(xs : Int*) : Int = wait xs in {fold xs from 0 with a, y . a + y}\n",
+            b"rule\nrule\n",
         ),
         // twice
         (
-            b"main(x : Int) : Int || Int = (x, x)",
+            b"// A number, put out on both sides.\nmain(x : Int) : Int || Int = (x, x)\n",
             b"rule\nrule\nrule\n",
+        ),
+        // watch
+        (
+            b"// Passes each reading on, and beside it an alarm for each that is above 100.\nfun watch(xs : Int*) : Int* || 1* =\n  case xs of {\n    nil => (nil, nil)\n  | y :: ys => wait y in\n      let (good, alarms) = watch(ys) in\n      ({y} :: good, if 100 < y then (() :: alarms) else alarms)\n  }\nmain(xs : Int*) : Int* || 1* = watch(xs)\n",
+            b"rule\nrule\nrule\nrule\nrule\nrule .\nrule\nrule\nrule\nrule\nbefore .\nrule\nrule\nrule\nrule .\nrule\nrule\nbefore .\nrule\nrule\nrule\nrule\nrule\nrule\n",
         ),
     ];
     for (program, proof) in rows {
