@@ -11,7 +11,13 @@ type Said = (&'static str, u32);
 
 const FINE: Said = ("", 0);
 
+// The most bytes of a text.
+const MOST: usize = 1_048_576;
+
 fn said(alloc: Global, program: &[u8], text: &[u8]) -> Result<Said, Fail> {
+    if text.len() > MOST {
+        return Ok(("LongText", 0));
+    }
     let program = program_of(alloc, program)?;
     let core = elaborate(alloc, &program)?;
     match derive(alloc, core, text) {
