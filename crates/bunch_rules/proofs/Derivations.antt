@@ -25,11 +25,11 @@ use Rattle.bunch_rules.proofs.Steps.{names_kept, distinct_kept}
 use Rattle.bunch_rules.proofs.Serving.{served_before, serves_part, serves_comma_first, serves_comma_second, serves_loosened, serves_step, step_names, one_name, serves_let}
 use Rattle.bunch_rules.proofs.Parts.{two_names, three_names, serves_beside, beside_distinct, serves_pair, pair_distinct, single_apart, serves_waited, waited_distinct}
 
-either : {A B C : Type 0} → (A → C) → (B → C) → A ⊎ B → C
+pub either : {A B C : Type 0} → (A → C) → (B → C) → A ⊎ B → C
 either f g (inl a) = f a
 either f g (inr b) = g b
 
-none_in : {A : Type 0} (x : ℕ) → holds x [] ≡ true → A
+pub none_in : {A : Type 0} (x : ℕ) → holds x [] ≡ true → A
 none_in x m = absurd (true≢false (sym m))
 
 in_front : (u z : ℕ) (xs : List ℕ) → holds u (z ∷ xs) ≡ true → (u ≡ z) ⊎ (holds u xs ≡ true)
@@ -59,15 +59,15 @@ is_there' : (u z : ℕ) (g : BunchTree) → holds z (leaf_names g) ≡ true → 
 is_there' u z g m e = subst (λ w. holds w (leaf_names g) ≡ true) (sym e) m
 
 -- the names of a bunch with a let's name,
-let_names : {d g h : BunchTree} {p : List Turn} {x : ℕ} {s : StreamType} → Replaces d (comma d (leaf x s)) p g h → (u : ℕ) → holds u (leaf_names h) ≡ true → (holds u (leaf_names g) ≡ true) ⊎ (u ≡ x)
+pub let_names : {d g h : BunchTree} {p : List Turn} {x : ℕ} {s : StreamType} → Replaces d (comma d (leaf x s)) p g h → (u : ℕ) → holds u (leaf_names h) ≡ true → (holds u (leaf_names g) ≡ true) ⊎ (u ≡ x)
 let_names {d = d} {x = x} k u m = either (λ n. inl n) (λ n. either (λ l. inl (part_names k u l)) (λ l. inr (one_name u x l)) (holds-split u (leaf_names d) (x ∷ []) n)) (new_names k u m)
 
 -- with one name beside another
-beside_names : {g h : BunchTree} {p : List Turn} {x z : ℕ} {s t : StreamType} → Replaces (leaf z t) (comma (leaf z t) (leaf x s)) p g h → (u : ℕ) → holds u (leaf_names h) ≡ true → (holds u (leaf_names g) ≡ true) ⊎ (u ≡ x)
+pub beside_names : {g h : BunchTree} {p : List Turn} {x z : ℕ} {s t : StreamType} → Replaces (leaf z t) (comma (leaf z t) (leaf x s)) p g h → (u : ℕ) → holds u (leaf_names h) ≡ true → (holds u (leaf_names g) ≡ true) ⊎ (u ≡ x)
 beside_names {g = g} {x = x} {z = z} k u m = either (λ n. inl n) (λ n. either (λ e. inl (is_there' u z g (part_names k z (holds-head z [])) e)) (λ e. inr e) (two_names u z x n)) (new_names k u m)
 
 -- and with two
-pair_names : {g h w : BunchTree} {p : List Turn} {z : ℕ} {t : StreamType} (x y : ℕ) → leaf_names w ≡ x ∷ (y ∷ []) → Replaces (leaf z t) (comma (leaf z t) w) p g h
+pub pair_names : {g h w : BunchTree} {p : List Turn} {z : ℕ} {t : StreamType} (x y : ℕ) → leaf_names w ≡ x ∷ (y ∷ []) → Replaces (leaf z t) (comma (leaf z t) w) p g h
     → (u : ℕ) → holds u (leaf_names h) ≡ true → (holds u (leaf_names g) ≡ true) ⊎ ((u ≡ x) ⊎ (u ≡ y))
 pair_names {g = g} {z = z} x y e k u m =
     either (λ n. inl n) (λ n. either (λ i. inl (is_there' u z g (part_names k z (holds-head z [])) i)) (λ i. inr i) (three_names u z x y (subst (λ l. holds u (z ∷ l) ≡ true) e n))) (new_names k u m)
@@ -87,30 +87,30 @@ below_two g h x y free names f u m =
     either (λ i. i) (λ e. either (λ i. absurd (not_kept u x (without y free) m i)) (λ i. absurd (not_kept u y free n i)) e) (names u (f u (holds-kept u y free n)))
 
 -- new names stay new
-binds_fewer : (bs cs : List ℕ) (g h : BunchTree) → BindsNew bs g → is_distinct cs ≡ true → ((u : ℕ) → holds u cs ≡ true → holds u bs ≡ true) → ((u : ℕ) → holds u cs ≡ true → holds u (leaf_names h) ≡ true → (holds u (leaf_names g) ≡ true) ⊎ ⊥) → BindsNew cs h
+pub binds_fewer : (bs cs : List ℕ) (g h : BunchTree) → BindsNew bs g → is_distinct cs ≡ true → ((u : ℕ) → holds u cs ≡ true → holds u bs ≡ true) → ((u : ℕ) → holds u cs ≡ true → holds u (leaf_names h) ≡ true → (holds u (leaf_names g) ≡ true) ⊎ ⊥) → BindsNew cs h
 binds_fewer bs cs g h n d f k =
     record { once = d; new = λ u m. unless_true (holds u (leaf_names h)) (λ i. either (λ j. true_not_false (holds u (leaf_names g)) j (n.new u (f u m))) (λ j. j) (k u m i)) }
 
-binds_first : (bs cs : List ℕ) (g h : BunchTree) → BindsNew (bs ++ cs) g → ((u : ℕ) → holds u (leaf_names h) ≡ true → holds u (leaf_names g) ≡ true) → BindsNew bs h
+pub binds_first : (bs cs : List ℕ) (g h : BunchTree) → BindsNew (bs ++ cs) g → ((u : ℕ) → holds u (leaf_names h) ≡ true → holds u (leaf_names g) ≡ true) → BindsNew bs h
 binds_first bs cs g h n f = binds_fewer (bs ++ cs) bs g h n (distinct_left bs cs n.once) (λ u m. holds-left u bs cs m) (λ u m i. inl (f u i))
 
-binds_second : (bs cs : List ℕ) (g h : BunchTree) → BindsNew (bs ++ cs) g → ((u : ℕ) → holds u (leaf_names h) ≡ true → holds u (leaf_names g) ≡ true) → BindsNew cs h
+pub binds_second : (bs cs : List ℕ) (g h : BunchTree) → BindsNew (bs ++ cs) g → ((u : ℕ) → holds u (leaf_names h) ≡ true → holds u (leaf_names g) ≡ true) → BindsNew cs h
 binds_second bs cs g h n f = binds_fewer (bs ++ cs) cs g h n (distinct_right bs cs n.once) (λ u m. holds-right u bs cs m) (λ u m i. inl (f u i))
 
-binds_tail : (x : ℕ) (bs : List ℕ) (g h : BunchTree) → BindsNew (x ∷ bs) g → ((u : ℕ) → holds u (leaf_names h) ≡ true → holds u (leaf_names g) ≡ true) → BindsNew bs h
+pub binds_tail : (x : ℕ) (bs : List ℕ) (g h : BunchTree) → BindsNew (x ∷ bs) g → ((u : ℕ) → holds u (leaf_names h) ≡ true → holds u (leaf_names g) ≡ true) → BindsNew bs h
 binds_tail x bs g h n f = binds_fewer (x ∷ bs) bs g h n (distinct_tail x bs n.once) (λ u m. holds-tail u x bs m) (λ u m i. inl (f u i))
 
-binds_below : (x : ℕ) (bs : List ℕ) (g h : BunchTree) → BindsNew (x ∷ bs) g → ((u : ℕ) → holds u (leaf_names h) ≡ true → (holds u (leaf_names g) ≡ true) ⊎ (u ≡ x)) → BindsNew bs h
+pub binds_below : (x : ℕ) (bs : List ℕ) (g h : BunchTree) → BindsNew (x ∷ bs) g → ((u : ℕ) → holds u (leaf_names h) ≡ true → (holds u (leaf_names g) ≡ true) ⊎ (u ≡ x)) → BindsNew bs h
 binds_below x bs g h n f =
     binds_fewer (x ∷ bs) bs g h n (distinct_tail x bs n.once) (λ u m. holds-tail u x bs m) (λ u m i. either (λ j. inl j) (λ e. inr (not_again x bs n.once (subst (λ w. holds w bs ≡ true) e m))) (f u i))
 
-binds_below_two : (x y : ℕ) (bs : List ℕ) (g h : BunchTree) → BindsNew (x ∷ (y ∷ bs)) g → ((u : ℕ) → holds u (leaf_names h) ≡ true → (holds u (leaf_names g) ≡ true) ⊎ ((u ≡ x) ⊎ (u ≡ y))) → BindsNew bs h
+pub binds_below_two : (x y : ℕ) (bs : List ℕ) (g h : BunchTree) → BindsNew (x ∷ (y ∷ bs)) g → ((u : ℕ) → holds u (leaf_names h) ≡ true → (holds u (leaf_names g) ≡ true) ⊎ ((u ≡ x) ⊎ (u ≡ y))) → BindsNew bs h
 binds_below_two x y bs g h n f =
     binds_fewer (x ∷ (y ∷ bs)) bs g h n (distinct_tail y bs (distinct_tail x (y ∷ bs) n.once)) (λ u m. holds-tail u x (y ∷ bs) (holds-tail u y bs m))
     (λ u m i. either (λ j. inl j)
     (λ e. inr (either (λ j. not_again x (y ∷ bs) n.once (holds-tail x y bs (subst (λ w. holds w bs ≡ true) j m))) (λ j. not_again y bs (distinct_tail x (y ∷ bs) n.once) (subst (λ w. holds w bs ≡ true) j m)) e)) (f u i))
 
-let_distinct : {d g h : BunchTree} {p : List Turn} {x : ℕ} {s : StreamType} → Replaces d (comma d (leaf x s)) p g h → IsDistinct g → holds x (leaf_names g) ≡ false → IsDistinct h
+pub let_distinct : {d g h : BunchTree} {p : List Turn} {x : ℕ} {s : StreamType} → Replaces d (comma d (leaf x s)) p g h → IsDistinct g → holds x (leaf_names g) ≡ false → IsDistinct h
 let_distinct {d = d} {g = g} {x = x} k o nx = still_distinct k o (part_distinct k o, tt, apart) new
   where
     apart : (u : ℕ) → holds u (x ∷ []) ≡ true → holds u (leaf_names d) ≡ false
@@ -166,7 +166,7 @@ module _ (funs : List CoreBody) (counts : ℕ → Bool) where
     shared_within (semi_shared {g = g} {h = h} i j) u m =
         either (λ n. inl (holds-left u (leaf_names g) (leaf_names h) n)) (λ n. either (λ l. inl (holds-right u (leaf_names g) (leaf_names h) l)) (λ l. inr l) (shared_within j u n)) (shared_within i u m)
 
-different : (x y : ℕ) (bs : List ℕ) → is_distinct (x ∷ (y ∷ bs)) ≡ true → x ≢ y
+pub different : (x y : ℕ) (bs : List ℕ) → is_distinct (x ∷ (y ∷ bs)) ≡ true → x ≢ y
 different x y bs d e = not_again x (y ∷ bs) d (subst (λ w. holds w (y ∷ bs) ≡ true) (sym e) (holds-head y bs))
 
 decide : {P : Type 0} (b : Bool) → (b ≡ true → P) → (b ≡ false → P) → P

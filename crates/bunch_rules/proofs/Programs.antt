@@ -23,7 +23,7 @@ use Rattle.bunch_rules.proofs.Derivations.{typed}
 pub derived_is_typed : DerivedIsTyped
 derived_is_typed funs counts known g e r c distinct i v d n = typed funs counts distinct i c v d n
 
-parts_apart : (xs ys : List ℕ) → is_distinct (xs ++ ys) ≡ true → (x : ℕ) → holds x ys ≡ true → holds x xs ≡ false
+pub parts_apart : (xs ys : List ℕ) → is_distinct (xs ++ ys) ≡ true → (x : ℕ) → holds x ys ≡ true → holds x xs ≡ false
 parts_apart xs ys h x m = unless_true (holds x xs) (λ e. distinct_apart xs ys h x e m)
 
 -- a bunch without a name twice is distinct
@@ -50,7 +50,7 @@ serves_params b d = record {
   has_fact = λ x y m. m;
 }
 
-distinct_params : (texts : ℕ) (b : CoreBody) → IsBoundOnce texts b → IsDistinct b.params
+pub distinct_params : (texts : ℕ) (b : CoreBody) → IsBoundOnce texts b → IsDistinct b.params
 distinct_params texts b o = distinct_bunch b.params (distinct_left (leaf_names b.params) (bound_names b.body) (distinct_right (past_names b) (leaf_names b.params ++ bound_names b.body) o.is_once))
 
 pub derived_body_is_typed : DerivedBodyIsTyped
@@ -68,7 +68,7 @@ all_at P d (x ∷ xs) f = All-cons P x xs (f zero) (all_at P d xs (λ i. f (suc 
 all_of_both : {A : Type 0} (P Q R : A → Type 0) (d : A) (xs : List A) → ((a : A) → P a → Q a → R a) → P d → Q d → All P xs → All Q xs → All R xs
 all_of_both P Q R d xs f p q h k = all_at R d xs (λ i. f (slice_index_or xs i d) (at_index P d xs h p i) (at_index Q d xs k q i))
 
-nothing_bound : (texts : ℕ) → IsBoundOnce texts no_body
+pub nothing_bound : (texts : ℕ) → IsBoundOnce texts no_body
 nothing_bound texts = record { is_once = refl; has_text = λ x m. absurd (true≢false (sym m)) }
 
 pub derived_program_is_typed : DerivedProgramIsTyped

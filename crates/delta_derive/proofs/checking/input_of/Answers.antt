@@ -1,0 +1,7 @@
+-- A text without a fault writes a derivation of the program, and so it is typed.
+use Rattle.core_term.specs.CoreTerm.{core_of}
+use Rattle.delta_derive.proofs.Refusing.{typed_text}
+use Rattle.delta_derive.proofs.checking.input_of.Goals as goal
+
+pub returns-clause-typed : goal.returns-clause-typed
+returns-clause-typed c = typed_text (core_of c.args.c.now) c.args.text.now c.requires.core c.in_ok-judge.ensures.none

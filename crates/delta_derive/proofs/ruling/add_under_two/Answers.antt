@@ -1,0 +1,15 @@
+-- Both names are hidden.
+use Rattle.std.proofs.Common.{◌∙◌, ◌∷◌, [], ◌++◌, ap, ap₂, map}
+use Rattle.stream_type.specs.StreamType.{type_of}
+use Rattle.hist_value.specs.Environment.{types_of}
+use Rattle.core_term.specs.CoreTerm.{term_of}
+use Rattle.bunch_rules.specs.Derivation.{hidden}
+use Rattle.delta_derive.specs.Claims.{claim}
+use Rattle.delta_derive.specs.OpenTerms.{claim_of}
+use Rattle.delta_derive.proofs.ruling.add_under_two.Goals as goal
+
+pub returns : goal.returns
+returns c =
+    c.in_ok-add_hidden.ensures
+    ∙ ap₂ (λ known g. map claim_of c.args.parts.now.items ++ claim (hidden c.args.y.0 known) g (term_of c.args.a.now) (type_of c.args.aim.now.result.now) ∷ [])
+    (ap types_of c.deref-2.ensures.value ∙ (rw c.deref.ensures.value at c.in_ok-known.ensures)) c.in_ok-bunch.ensures

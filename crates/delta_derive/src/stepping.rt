@@ -1,0 +1,201 @@
+//! Steps that rearrange a bunch in its place.
+
+ghost use Rattle.std.specs.Prelude.{◌≡◌, map, option_map, IfOk};
+ghost use Rattle.bunch.specs.BunchTree.{tree_of};
+ghost use Rattle.core_term.specs.TypeFaults.{found_where};
+ghost use Rattle.bunch_rules.specs.Rearranging.{left_step, right_step, loosen_step, unit_step, swap_step, before_step, after_step, beside_step};
+ghost use Rattle.delta_derive.specs.LineText.{turn_of, step_of};
+ghost use Rattle.delta_derive.specs.Rearranged.{stepped, rearranged, commas_left, semis_left, commas_right, semis_right, is_empty, only_side};
+
+use crate::line::{Step, Turn};
+use bunch::Bunch;
+use std::alloc::Global;
+use std::mem;
+use stream_type::Memory;
+
+/// Takes a step at the end of a path, and says whether the path leads to a part that has the form of the step:
+/// `rearranged` in `specs/Rearranged.antt`. Where it doesn't, nothing is said of the bunch. Its only error is want
+/// of memory.
+pub fn rearrange(alloc: Global, b: &mut Bunch, path: &[Turn], step: Step) -> Result<bool, Memory>
+    ensures { IfOk result (λ done. found_where done (tree_of b.new) ≡ rearranged (step_of step) (map turn_of path.now) (tree_of b.old)) }
+{
+    match path.split_first() {
+        None => take_step(alloc, b, step),
+        Some((turn, rest)) => match b {
+            Bunch::Empty | Bunch::Leaf(_, _) => Ok(false),
+            Bunch::Comma(left, right) => match turn {
+                Turn::Left => rearrange(alloc, left, rest, step),
+                Turn::Right => rearrange(alloc, right, rest, step),
+            },
+            Bunch::Semi(left, right) => match turn {
+                Turn::Left => rearrange(alloc, left, rest, step),
+                Turn::Right => rearrange(alloc, right, rest, step),
+            },
+        },
+    }
+}
+
+// Takes a step here.
+fn take_step(alloc: Global, b: &mut Bunch, step: Step) -> Result<bool, Memory>
+    ensures { IfOk result (λ done. found_where done (tree_of b.new) ≡ stepped (step_of step) (tree_of b.old)) }
+{
+    let part = mem::replace(b, Bunch::Empty);
+    match stepped(alloc, part, step)? {
+        None => Ok(false),
+        Some(changed) => {
+            *b = changed;
+            Ok(true)
+        }
+    }
+}
+
+// What a step makes of a part.
+fn stepped(alloc: Global, b: Bunch, step: Step) -> Result<Option<Bunch>, Memory>
+    ensures { IfOk result (λ o. option_map tree_of o ≡ stepped (step_of step) (tree_of b)) }
+{
+    match step {
+        Step::Drop => Ok(Some(Bunch::Empty)),
+        Step::Swap => Ok(swapped(b)),
+        Step::Left => grouped_left(alloc, b),
+        Step::Right => grouped_right(alloc, b),
+        Step::Loosen => Ok(loosened(b)),
+        Step::Unit => Ok(without_unit(b)),
+        Step::Before => after_empty(alloc, b),
+        Step::After => before_empty(alloc, b),
+        Step::Beside => beside_empty(alloc, b),
+    }
+}
+
+// The sides of a comma change places.
+fn swapped(b: Bunch) -> Option<Bunch>
+    ensures { option_map tree_of result ≡ stepped swap_step (tree_of b) }
+{
+    match b {
+        Bunch::Comma(b, c) => Some(Bunch::Comma(c, b)),
+        _ => None,
+    }
+}
+
+// A semicolon becomes a comma.
+fn loosened(b: Bunch) -> Option<Bunch>
+    ensures { option_map tree_of result ≡ stepped loosen_step (tree_of b) }
+{
+    match b {
+        Bunch::Semi(b, c) => Some(Bunch::Comma(b, c)),
+        _ => None,
+    }
+}
+
+// Three parts grouped to the left.
+fn grouped_left(alloc: Global, b: Bunch) -> Result<Option<Bunch>, Memory>
+    ensures { IfOk result (λ o. option_map tree_of o ≡ stepped left_step (tree_of b)) }
+{
+    match b {
+        Bunch::Comma(b, c) => commas_left(alloc, b, Box::into_inner(c)),
+        Bunch::Semi(b, c) => semis_left(alloc, b, Box::into_inner(c)),
+        _ => Ok(None),
+    }
+}
+
+fn commas_left(alloc: Global, b: Box<Bunch>, c: Bunch) -> Result<Option<Bunch>, Memory>
+    ensures { IfOk result (λ o. option_map tree_of o ≡ commas_left (tree_of b.value) (tree_of c)) }
+{
+    match c {
+        Bunch::Comma(c, d) => Ok(Some(Bunch::Comma(Box::new(alloc, Bunch::Comma(b, c))?, d))),
+        _ => Ok(None),
+    }
+}
+
+fn semis_left(alloc: Global, b: Box<Bunch>, c: Bunch) -> Result<Option<Bunch>, Memory>
+    ensures { IfOk result (λ o. option_map tree_of o ≡ semis_left (tree_of b.value) (tree_of c)) }
+{
+    match c {
+        Bunch::Semi(c, d) => Ok(Some(Bunch::Semi(Box::new(alloc, Bunch::Semi(b, c))?, d))),
+        _ => Ok(None),
+    }
+}
+
+// Three parts grouped to the right.
+fn grouped_right(alloc: Global, b: Bunch) -> Result<Option<Bunch>, Memory>
+    ensures { IfOk result (λ o. option_map tree_of o ≡ stepped right_step (tree_of b)) }
+{
+    match b {
+        Bunch::Comma(b, c) => commas_right(alloc, Box::into_inner(b), c),
+        Bunch::Semi(b, c) => semis_right(alloc, Box::into_inner(b), c),
+        _ => Ok(None),
+    }
+}
+
+fn commas_right(alloc: Global, b: Bunch, d: Box<Bunch>) -> Result<Option<Bunch>, Memory>
+    ensures { IfOk result (λ o. option_map tree_of o ≡ commas_right (tree_of b) (tree_of d.value)) }
+{
+    match b {
+        Bunch::Comma(b, c) => Ok(Some(Bunch::Comma(b, Box::new(alloc, Bunch::Comma(c, d))?))),
+        _ => Ok(None),
+    }
+}
+
+fn semis_right(alloc: Global, b: Bunch, d: Box<Bunch>) -> Result<Option<Bunch>, Memory>
+    ensures { IfOk result (λ o. option_map tree_of o ≡ semis_right (tree_of b) (tree_of d.value)) }
+{
+    match b {
+        Bunch::Semi(b, c) => Ok(Some(Bunch::Semi(b, Box::new(alloc, Bunch::Semi(c, d))?))),
+        _ => Ok(None),
+    }
+}
+
+// An empty side goes away.
+fn without_unit(b: Bunch) -> Option<Bunch>
+    ensures { option_map tree_of result ≡ stepped unit_step (tree_of b) }
+{
+    match b {
+        Bunch::Comma(b, c) | Bunch::Semi(b, c) => only_side(Box::into_inner(b), Box::into_inner(c)),
+        _ => None,
+    }
+}
+
+// The side beside an empty one; the right one where both are empty.
+fn only_side(b: Bunch, c: Bunch) -> Option<Bunch>
+    ensures { option_map tree_of result ≡ only_side (tree_of b) (tree_of c) }
+{
+    if is_empty(&b) {
+        Some(c)
+    } else if is_empty(&c) {
+        Some(b)
+    } else {
+        None
+    }
+}
+
+fn is_empty(b: &Bunch) -> bool
+    ensures { result ≡ is_empty (tree_of b.now) }
+{
+    match b {
+        Bunch::Empty => true,
+        _ => false,
+    }
+}
+
+// An empty part comes before it,
+fn after_empty(alloc: Global, b: Bunch) -> Result<Option<Bunch>, Memory>
+    ensures { IfOk result (λ o. option_map tree_of o ≡ stepped before_step (tree_of b)) }
+{
+    let b = Box::new(alloc, b)?;
+    Ok(Some(Bunch::Semi(Box::new(alloc, Bunch::Empty)?, b)))
+}
+
+// after it,
+fn before_empty(alloc: Global, b: Bunch) -> Result<Option<Bunch>, Memory>
+    ensures { IfOk result (λ o. option_map tree_of o ≡ stepped after_step (tree_of b)) }
+{
+    let b = Box::new(alloc, b)?;
+    Ok(Some(Bunch::Semi(b, Box::new(alloc, Bunch::Empty)?)))
+}
+
+// or beside it.
+fn beside_empty(alloc: Global, b: Bunch) -> Result<Option<Bunch>, Memory>
+    ensures { IfOk result (λ o. option_map tree_of o ≡ stepped beside_step (tree_of b)) }
+{
+    let b = Box::new(alloc, b)?;
+    Ok(Some(Bunch::Comma(b, Box::new(alloc, Bunch::Empty)?)))
+}
