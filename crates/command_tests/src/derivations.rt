@@ -96,6 +96,16 @@ const ROWS: &[Row] = &[
         ..UNDERIVED
     },
     Row {
+        proof: "loosen l\n",
+        note: b"delta: derivation refused: BadStep at 0\n",
+        ..UNDERIVED
+    },
+    Row {
+        proof: LOOSENED,
+        note: b"delta: derivation refused: BadRule at 1\n",
+        ..UNDERIVED
+    },
+    Row {
         proof: "rules\n",
         note: b"delta: derivation refused: BadLine at 0\n",
         ..UNDERIVED
