@@ -6,6 +6,8 @@ mod bounds;
 #[cfg(test)]
 mod commands;
 #[cfg(test)]
+mod derivations;
+#[cfg(test)]
 mod evaluations;
 #[cfg(test)]
 mod examples;

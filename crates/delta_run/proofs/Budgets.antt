@@ -5,11 +5,11 @@ use Rattle.std.specs.Str.Parse.{digits_value}
 use Rattle.std.proofs.lemmas.Bool.{leb-true}
 use Rattle.delta_words.specs.declared.task.Version.{Version}
 use Rattle.delta_words.specs.declared.command.Command.{Command}
-use Rattle.delta_words.specs.declared.command.Command.TheVariants.{Run, Eval, Check, Print, Text, Gen, Bound}
+use Rattle.delta_words.specs.declared.command.Command.TheVariants.{Run, Eval, Check, Print, Text, Gen, Bound, Derive}
 use Rattle.delta_words.specs.Numbers.{has_digits, number_within}
 use Rattle.delta_words.specs.Commands.{command_of, takes_of}
 use Rattle.delta_words.specs.CommandLine.{WrittenLine, line_of}
-use Rattle.delta_words.specs.CommandTask.{CommandTask, run, eval, check, print, text, frames, gen, bound, budget_of, file_of, version_of, file_and_budget, start_and_items, task_of_line, task_of_command, task_of}
+use Rattle.delta_words.specs.CommandTask.{CommandTask, run, eval, check, print, text, frames, gen, bound, derive, budget_of, file_of, version_of, file_and_budget, start_and_items, two_files, task_of_line, task_of_command, task_of}
 
 -- a run has a budget of at most 1,000,000, an evaluation one of at most 10,000; a load begins at 999,999 at most, and has at most
 -- 10,000,000 items
@@ -59,6 +59,12 @@ bounds : (o : Option (List ℕ)) → IsSmall (option_map bound o)
 bounds None = tt
 bounds (Some file) = tt
 
+derivations : (words : List (List ℕ)) → IsSmall (two_files words)
+derivations [] = tt
+derivations (a ∷ []) = tt
+derivations (a ∷ b ∷ []) = tt
+derivations (a ∷ b ∷ c ∷ words) = tt
+
 texts : (v : Version) (a b : Bool) → IsSmall (if a then Some (frames v) else (if b then None else Some text))
 texts v true b = tt
 texts v false true = tt
@@ -89,6 +95,7 @@ of_line Print line = prints (file_of line.operands)
 of_line Text line = texts (version_of line.v2) line.frames line.v2
 of_line Gen line = gens line.operands
 of_line Bound line = bounds (file_of line.operands)
+of_line Derive line = derivations line.operands
 
 of_command : (words : List (List ℕ)) (c : Command) → IsSmall (task_of_command words c)
 of_command words c = go (line_of (takes_of c) words)

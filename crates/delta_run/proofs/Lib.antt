@@ -11,5 +11,6 @@ pub mod Generated
 pub mod Budgets
 pub mod Checked
 pub mod Bounded
+pub mod Derived
 pub mod Evaluated
 pub mod Owing

@@ -9,6 +9,7 @@ pub mod Printed
 pub mod Generated
 pub mod Checked
 pub mod Bounded
+pub mod Derived
 pub mod Evaluated
 pub mod Outside
 pub mod Ends
@@ -18,5 +19,6 @@ pub mod Checks
 pub mod Prints
 pub mod Gens
 pub mod Bounds
+pub mod Derivations
 pub mod Lines
 pub mod Owes

@@ -3,7 +3,7 @@
 ghost use Rattle.std.specs.Prelude.{◌≡◌, ◌≢◌, ◌⊎◌, ◌<◌, ◌≤◌, ◌^◌, [], List, ℕ, Some, None, true, length};
 ghost use Rattle.delta_end.specs.declared.end.End.{End};
 ghost use Rattle.delta_words.specs.declared.task.Version.{Version as WrittenVersion};
-ghost use Rattle.delta_words.specs.CommandTask.{run, eval, check, print, text, frames, gen, bound};
+ghost use Rattle.delta_words.specs.CommandTask.{run, eval, check, print, text, frames, gen, bound, derive};
 ghost use Rattle.delta_text.specs.Conversion.{frames_of_lines, Ran as Converted};
 ghost use Rattle.delta_text.specs.Lines.{lines_of_frames};
 ghost use Rattle.delta_loop.specs.Loop.{Ran as Lined};
@@ -11,6 +11,7 @@ ghost use Rattle.delta_run.specs.Printed.{PrintedText};
 ghost use Rattle.delta_run.specs.Generated.{GeneratedLine};
 ghost use Rattle.delta_run.specs.Checked.{ChecksText};
 ghost use Rattle.delta_run.specs.Bounded.{BoundedText};
+ghost use Rattle.delta_run.specs.Derived.{DerivesText};
 ghost use Rattle.delta_run.specs.Evaluated.{EvaluatedText};
 ghost use Rattle.delta_run.specs.CommandLine.{Asks, AskNothing, frames_of};
 ghost use Rattle.delta_end.specs.End.{FileCause, ReadCause, WriteCause};
@@ -19,6 +20,7 @@ ghost use Rattle.delta_loop.specs.History.{IsUntouched};
 ghost use Rattle.delta_run.specs.Text.{OfFile, RanText};
 
 use command_bound::bound_source;
+use command_derive::{core_of_text, derive_core};
 use command_gen::gen_load;
 use delta_end::End;
 use delta_eval::eval_source;
@@ -108,6 +110,31 @@ fn bound_file<S: Shelf, L: Link>(alloc: Global, file: &str, shelf: &mut S, link:
     }
 }
 
+// Checks the derivation of a file's program that another file is.
+fn derive_file<S: Shelf>(alloc: Global, file: &str, proof: &str, shelf: &mut S) -> End
+    ensures derived { OfFile (S.holds shelf.old) file.now (λ text. OfFile (S.holds shelf.old) proof.now (λ steps. DerivesText text steps result)) }
+    ensures derives { result ≢ End.Usage }
+    ensures held { S.holds shelf.new ≡ S.holds shelf.old }
+    ensures file { FileCause result (S.faults shelf.old) (S.faults shelf.new) }
+    ensures read { (count : ℕ) → ReadCause result count count }
+    ensures write { (count : ℕ) → WriteCause result count count }
+{
+    let text = match shelf.read(file) {
+        Ok(text) => text,
+        Err(IoFault::Memory) => return End::Memory,
+        Err(IoFault::Failed) => return End::FileFailed,
+    };
+    let core = match core_of_text(alloc, &text) {
+        Ok(core) => core,
+        Err(end) => return end,
+    };
+    match shelf.read(proof) {
+        Ok(steps) => derive_core(alloc, core, &steps),
+        Err(IoFault::Memory) => End::Memory,
+        Err(IoFault::Failed) => End::FileFailed,
+    }
+}
+
 // Evaluates the program of a file over a link.
 fn eval_file<S: Shelf, L: Link>(
     alloc: Global,
@@ -169,6 +196,9 @@ pub fn run_command<M: Machine, S: Shelf, L: Link>(
     ensures generated { (start items : ℕ) → Asks words.now (gen start items) → GeneratedLine start items (L.log link.old) (L.log link.new) result }
     ensures bounded { (file : List ℕ) → Asks words.now (bound file) → OfFile (S.holds shelf.old) file (λ text. BoundedText text (L.log link.old) (L.log link.new) result) }
     ensures bounding { (file : List ℕ) → Asks words.now (bound file) → L.left link.new ≡ L.left link.old }
+    ensures derived { (file proof : List ℕ) → Asks words.now (derive file proof)
+        → OfFile (S.holds shelf.old) file (λ text. OfFile (S.holds shelf.old) proof (λ steps. DerivesText text steps result)) }
+    ensures derivation { (file proof : List ℕ) → Asks words.now (derive file proof) → IsUntouched (L.log link.old) (L.log link.new) (L.left link.old) (L.left link.new) }
     ensures generating { (start items : ℕ) → Asks words.now (gen start items) → L.left link.new ≡ L.left link.old }
     ensures held { S.holds shelf.new ≡ S.holds shelf.old }
     ensures file { FileCause result (S.faults shelf.old) (S.faults shelf.new) }
@@ -187,6 +217,7 @@ pub fn run_command<M: Machine, S: Shelf, L: Link>(
             eval_file(alloc, &file, budget, frame_version(version), shelf, link)
         }
         Ok(Task::Bound(file)) => bound_file(alloc, &file, shelf, link),
+        Ok(Task::Derive(file, proof)) => derive_file(alloc, &file, &proof, shelf),
         Ok(Task::Gen(start, items)) => gen_load::<M, L>(alloc, start, items, link),
         Err(WordsFault::Usage) => End::Usage,
         Err(WordsFault::Memory) => End::Memory,

@@ -7,7 +7,7 @@ use Rattle.clap.specs.Simple.{filled, with_index, built_leaf, inherited}
 use Rattle.clap.specs.Walk.{Row, Rule, Text, arg_by_id, arg_by_index, arg_by_long, has_row, with_default}
 use Rattle.clap.specs.Words.{Shape}
 use Rattle.delta_words.specs.declared.command.Command.{Command}
-use Rattle.delta_words.specs.declared.command.Command.TheVariants.{Run, Eval, Check, Print, Text as TextCommand, Gen, Bound}
+use Rattle.delta_words.specs.declared.command.Command.TheVariants.{Run, Eval, Check, Print, Text as TextCommand, Gen, Bound, Derive}
 use Rattle.delta_words.specs.declared.command.Takes.{Takes}
 use Rattle.delta_words.specs.Commands.{takes_of}
 use Rattle.delta_words.specs.ClapCommand.{operand_rule, budget_rule, flag_rule, leaf_app, delta_top}
@@ -37,6 +37,7 @@ name_of Print = codes "print"
 name_of TextCommand = codes "text"
 name_of Gen = codes "gen"
 name_of Bound = codes "bound"
+name_of Derive = codes "derive"
 
 -- a subcommand once it is built
 unfoldable pub leaf_of : Command → Shape
@@ -218,4 +219,18 @@ knows Bound = record {
   long_frames = λ h. cc;
   defaults = check_defaults;
   asks = λ rows first second. (let f = first (omega arith) in simp f);
+}
+knows Derive = record {
+  again = refl;
+  few = omega arith;
+  index_first = λ _. refl;
+  index_second = λ _. refl;
+  id_first = λ _. refl;
+  id_second = λ _. refl;
+  id_budget = λ h. cc;
+  long_budget = λ h. cc;
+  long_v2 = λ h. cc;
+  long_frames = λ h. cc;
+  defaults = gen_defaults;
+  asks = λ rows first second. (let f = first (omega arith) in let g = second (omega arith) in simp (f, g));
 }

@@ -13,7 +13,7 @@ use Rattle.clap.specs.Words.{Shape}
 use Rattle.clap.specs.declared.builder.value_parser.ValueParser.TheVariants as vp
 use Rattle.clap.proofs.FaultLemmas.{stopped_fault}
 use Rattle.delta_words.specs.declared.command.Command.{Command}
-use Rattle.delta_words.specs.declared.command.Command.TheVariants.{Run, Eval, Check, Print, Text as TextCommand, Gen, Bound}
+use Rattle.delta_words.specs.declared.command.Command.TheVariants.{Run, Eval, Check, Print, Text as TextCommand, Gen, Bound, Derive}
 use Rattle.delta_words.specs.declared.command.Takes.{Takes}
 use Rattle.delta_words.specs.Commands.{command_of, takes_of}
 use Rattle.delta_words.specs.CommandLine.{WrittenLine, no_words, read_rest, whole_line, line_of}
@@ -104,6 +104,7 @@ enters Print rest = record { walks_on = refl; turn = refl; ends = refl }
 enters TextCommand rest = record { walks_on = refl; turn = refl; ends = refl }
 enters Gen rest = record { walks_on = refl; turn = refl; ends = refl }
 enters Bound rest = record { walks_on = refl; turn = refl; ends = refl }
+enters Derive rest = record { walks_on = refl; turn = refl; ends = refl }
 
 -- a command's name and a line that its subcommand takes
 top_takes : (c : Command) (rest : List Text) → level_fault (leaf_of c) [] nothing_held rest false [] ≡ [] → fault_of delta_app (name_of c ∷ rest) ≡ []
@@ -122,24 +123,26 @@ top_takes c rest h =
 named : (word : Text) (c : Command) → command_of word ≡ Some c → word ≡ name_of c
 named word c h =
     go (bytes_eq word (codes "run")) refl (bytes_eq word (codes "eval")) refl (bytes_eq word (codes "check")) refl
-    (bytes_eq word (codes "print")) refl (bytes_eq word (codes "text")) refl (bytes_eq word (codes "gen")) refl (bytes_eq word (codes "bound")) refl h
+    (bytes_eq word (codes "print")) refl (bytes_eq word (codes "text")) refl (bytes_eq word (codes "gen")) refl (bytes_eq word (codes "bound")) refl
+    (bytes_eq word (codes "derive")) refl h
   where
     when : (x : Command) (name : Text) → bytes_eq word name ≡ true → name ≡ name_of x → Some x ≡ Some c → word ≡ name_of c
     when x name same is j = let i : x ≡ c = cc in same_bytes word name same ∙ (is ∙ ap name_of i)
 
     go : (b1 : Bool) → bytes_eq word (codes "run") ≡ b1 → (b2 : Bool) → bytes_eq word (codes "eval") ≡ b2 → (b3 : Bool) → bytes_eq word (codes "check") ≡ b3
         → (b4 : Bool) → bytes_eq word (codes "print") ≡ b4 → (b5 : Bool) → bytes_eq word (codes "text") ≡ b5 → (b6 : Bool) → bytes_eq word (codes "gen") ≡ b6
-        → (b7 : Bool) → bytes_eq word (codes "bound") ≡ b7
-        → cond b1 (Some Run) (cond b2 (Some Eval) (cond b3 (Some Check) (cond b4 (Some Print) (cond b5 (Some TextCommand) (cond b6 (Some Gen) (cond b7 (Some Bound) None)))))) ≡ Some c
+        → (b7 : Bool) → bytes_eq word (codes "bound") ≡ b7 → (b8 : Bool) → bytes_eq word (codes "derive") ≡ b8
+        → cond b1 (Some Run) (cond b2 (Some Eval) (cond b3 (Some Check) (cond b4 (Some Print) (cond b5 (Some TextCommand) (cond b6 (Some Gen) (cond b7 (Some Bound) (cond b8 (Some Derive) None))))))) ≡ Some c
         → word ≡ name_of c
-    go true e1 b2 e2 b3 e3 b4 e4 b5 e5 b6 e6 b7 e7 j = when Run (codes "run") e1 refl j
-    go false e1 true e2 b3 e3 b4 e4 b5 e5 b6 e6 b7 e7 j = when Eval (codes "eval") e2 refl j
-    go false e1 false e2 true e3 b4 e4 b5 e5 b6 e6 b7 e7 j = when Check (codes "check") e3 refl j
-    go false e1 false e2 false e3 true e4 b5 e5 b6 e6 b7 e7 j = when Print (codes "print") e4 refl j
-    go false e1 false e2 false e3 false e4 true e5 b6 e6 b7 e7 j = when TextCommand (codes "text") e5 refl j
-    go false e1 false e2 false e3 false e4 false e5 true e6 b7 e7 j = when Gen (codes "gen") e6 refl j
-    go false e1 false e2 false e3 false e4 false e5 false e6 true e7 j = when Bound (codes "bound") e7 refl j
-    go false e1 false e2 false e3 false e4 false e5 false e6 false e7 j = cc
+    go true e1 b2 e2 b3 e3 b4 e4 b5 e5 b6 e6 b7 e7 b8 e8 j = when Run (codes "run") e1 refl j
+    go false e1 true e2 b3 e3 b4 e4 b5 e5 b6 e6 b7 e7 b8 e8 j = when Eval (codes "eval") e2 refl j
+    go false e1 false e2 true e3 b4 e4 b5 e5 b6 e6 b7 e7 b8 e8 j = when Check (codes "check") e3 refl j
+    go false e1 false e2 false e3 true e4 b5 e5 b6 e6 b7 e7 b8 e8 j = when Print (codes "print") e4 refl j
+    go false e1 false e2 false e3 false e4 true e5 b6 e6 b7 e7 b8 e8 j = when TextCommand (codes "text") e5 refl j
+    go false e1 false e2 false e3 false e4 false e5 true e6 b7 e7 b8 e8 j = when Gen (codes "gen") e6 refl j
+    go false e1 false e2 false e3 false e4 false e5 false e6 true e7 b8 e8 j = when Bound (codes "bound") e7 refl j
+    go false e1 false e2 false e3 false e4 false e5 false e6 false e7 true e8 j = when Derive (codes "derive") e8 refl j
+    go false e1 false e2 false e3 false e4 false e5 false e6 false e7 false e8 j = cc
 
 -- a subcommand takes the words that make a line
 line_takes : (c : Command) (rest : List Text) (line : WrittenLine) → line_of (takes_of c) rest ≡ Some line → level_fault (leaf_of c) [] nothing_held rest false [] ≡ []

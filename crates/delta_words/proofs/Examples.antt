@@ -1,6 +1,6 @@
 -- Worked command lines.
 use Rattle.std.proofs.Common.{◌≡◌, [], ◌∷◌, refl, codes, Some, None}
-use Rattle.delta_words.specs.CommandTask.{run, eval, frames, gen, bound, task_of}
+use Rattle.delta_words.specs.CommandTask.{run, eval, frames, gen, bound, derive, task_of}
 use Rattle.delta_words.specs.declared.task.Version.TheVariants.{V1, V2}
 
 -- `--` ends the options
@@ -56,6 +56,13 @@ bound_of_file = refl
 
 bound_with_budget : task_of (codes "bound" ∷ codes "a" ∷ codes "--budget" ∷ codes "5" ∷ []) ≡ None
 bound_with_budget = refl
+
+-- a derivation is asked for by two files, the second of which may stand behind `--`
+derivation : task_of (codes "derive" ∷ codes "a" ∷ codes "--" ∷ codes "-b" ∷ []) ≡ Some (derive (codes "a") (codes "-b"))
+derivation = refl
+
+no_proof : task_of (codes "derive" ∷ codes "a" ∷ []) ≡ None
+no_proof = refl
 
 -- no abbreviation
 abbreviated : task_of (codes "text" ∷ codes "--fra" ∷ []) ≡ None

@@ -6,3 +6,4 @@ pub mod ClapHolds
 pub mod ClapLines
 pub mod ClapTakes
 pub mod Examples
+pub mod ClapSimple

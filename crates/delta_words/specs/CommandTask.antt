@@ -10,7 +10,8 @@ use Rattle.delta_words.specs.Numbers.{number_within}
 use Rattle.delta_words.specs.Commands.{command_of, takes_of}
 use Rattle.delta_words.specs.CommandLine.{WrittenLine, line_of}
 
--- a file's name, a budget and the version of what is written; a file's name; the version; the first item and how many; a file's name
+-- a file's name, a budget and the version of what is written; a file's name; the version; the first item and how many; a file's name; two
+-- files' names
 pub data CommandTask : Type 0 where
   run : List ℕ → ℕ → Version → CommandTask
   eval : List ℕ → ℕ → Version → CommandTask
@@ -20,6 +21,7 @@ pub data CommandTask : Type 0 where
   frames : Version → CommandTask
   gen : ℕ → ℕ → CommandTask
   bound : List ℕ → CommandTask
+  derive : List ℕ → List ℕ → CommandTask
 
 -- what a task of the code stands for
 abbrev pub asked : Task → CommandTask
@@ -31,6 +33,7 @@ asked rust.Text = text
 asked (rust.Frames version) = frames version
 asked (rust.Gen start items) = gen start items
 asked (rust.Bound file) = bound (string_bytes file)
+asked (rust.Derive file proof) = derive (string_bytes file) (string_bytes proof)
 
 -- version 2 where `--v2` stands
 abbrev pub version_of : Bool → Version
@@ -62,6 +65,11 @@ start_and_items (first ∷ items ∷ []) =
     option_and_then (λ a. option_map (λ b. gen a b) (number_within 8 10000000 items)) (number_within 8 999999 first)
 start_and_items _ = None
 
+-- FILE and PROOF
+abbrev pub two_files : List (List ℕ) → Option CommandTask
+two_files (file ∷ proof ∷ []) = Some (derive file proof)
+two_files _ = None
+
 -- what a command's line asks for
 abbrev pub task_of_line : Command → WrittenLine → Option CommandTask
 task_of_line command.Run line = file_and_budget run 1000000 1000000 line
@@ -71,6 +79,7 @@ task_of_line command.Print line = option_map print (file_of line.operands)
 task_of_line command.Text line = text_or_frames line
 task_of_line command.Gen line = start_and_items line.operands
 task_of_line command.Bound line = option_map bound (file_of line.operands)
+task_of_line command.Derive line = two_files line.operands
 
 -- what a command and the words behind it ask for
 abbrev pub task_of_command : List (List ℕ) → Command → Option CommandTask

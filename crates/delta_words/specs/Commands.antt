@@ -2,7 +2,7 @@
 use Rattle.std.specs.Prelude.{ℕ, List, true, false, codes, Option, Some, None, if◌then◌else◌}
 use Rattle.std.specs.Str.{bytes_eq}
 use Rattle.delta_words.specs.declared.command.Command.{Command}
-use Rattle.delta_words.specs.declared.command.Command.TheVariants.{Run, Eval, Check, Print, Text, Gen, Bound}
+use Rattle.delta_words.specs.declared.command.Command.TheVariants.{Run, Eval, Check, Print, Text, Gen, Bound, Derive}
 use Rattle.delta_words.specs.declared.command.Takes.{Takes}
 
 -- the command of a name, written whole
@@ -15,7 +15,8 @@ command_of word =
     else (if bytes_eq word (codes "text") then Some Text
     else (if bytes_eq word (codes "gen") then Some Gen
     else (if bytes_eq word (codes "bound") then Some Bound
-    else None))))))
+    else (if bytes_eq word (codes "derive") then Some Derive
+    else None)))))))
 
 -- how many operands a command takes, and which options
 abbrev pub takes_of : Command → Takes
@@ -26,3 +27,4 @@ takes_of Print = record { operands = 1; budget = false; v2 = false; frames = fal
 takes_of Text = record { operands = 0; budget = false; v2 = true; frames = true }
 takes_of Gen = record { operands = 2; budget = false; v2 = false; frames = false }
 takes_of Bound = record { operands = 1; budget = false; v2 = false; frames = false }
+takes_of Derive = record { operands = 2; budget = false; v2 = false; frames = false }

@@ -10,6 +10,7 @@ pub enum Command {
     Text,
     Gen,
     Bound,
+    Derive,
 }
 
 /// What a command takes: so many operands, and which options, each at most once.
@@ -37,6 +38,7 @@ impl Command {
             "text" => Some(Command::Text),
             "gen" => Some(Command::Gen),
             "bound" => Some(Command::Bound),
+            "derive" => Some(Command::Derive),
             _ => None,
         }
     }
@@ -64,7 +66,7 @@ impl Command {
                 v2: true,
                 frames: true,
             },
-            Command::Gen => Takes {
+            Command::Gen | Command::Derive => Takes {
                 operands: 2,
                 budget: false,
                 v2: false,

@@ -100,7 +100,8 @@ fn delta_command<'a>(alloc: Global) -> Result<Parser<'a>, AllocError>
     let print = with_command(alloc, check, "print", Command::Print)?;
     let text = with_command(alloc, print, "text", Command::Text)?;
     let load = with_command(alloc, text, "gen", Command::Gen)?;
-    with_command(alloc, load, "bound", Command::Bound)
+    let bound = with_command(alloc, load, "bound", Command::Bound)?;
+    with_command(alloc, bound, "derive", Command::Derive)
 }
 
 /// What clap finds in the words.

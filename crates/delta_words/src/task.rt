@@ -2,7 +2,7 @@
 
 ghost use Rattle.std.specs.Prelude.{◌≡◌, ◌<◌, ◌^◌, map, option_map, string_bytes};
 ghost use Rattle.delta_words.specs.Gives.{Gives};
-ghost use Rattle.delta_words.specs.CommandTask.{asked, run, eval, version_of, budget_of, file_of, file_and_budget, text_or_frames, start_and_items, task_of_line, task_of};
+ghost use Rattle.delta_words.specs.CommandTask.{asked, run, eval, version_of, budget_of, file_of, file_and_budget, text_or_frames, start_and_items, two_files, task_of_line, task_of};
 ghost use Rattle.delta_words.specs.Line.{written};
 
 use crate::command::Command;
@@ -39,6 +39,8 @@ pub enum Task {
     Gen(u64, u64),
     /// Tell how many events a file's program can ever hold back.
     Bound(String),
+    /// Check the derivation of a file's program that another file is.
+    Derive(String, String),
 }
 
 // The version that is written where `--v2` stands, and where it doesn't.
@@ -98,6 +100,18 @@ fn gen_task(line: &Line<'_>) -> Result<Task, WordsFault>
     Ok(Task::Gen(start, items))
 }
 
+// FILE and PROOF.
+fn derive_task(alloc: Global, line: &Line<'_>) -> Result<Task, WordsFault>
+    ensures { Gives asked result (two_files (written line.now).operands) }
+{
+    let [file, proof] = line.operands.as_slice() else {
+        return Err(WordsFault::Usage);
+    };
+    let file = String::from_str(alloc, file)?;
+    let proof = String::from_str(alloc, proof)?;
+    Ok(Task::Derive(file, proof))
+}
+
 // A file and a budget.
 fn run_task(alloc: Global, line: &Line<'_>) -> Result<Task, WordsFault>
     ensures { Gives asked result (file_and_budget run 1000000 1000000 (written line.now)) }
@@ -132,6 +146,7 @@ fn line_task(alloc: Global, command: Command, line: &Line<'_>) -> Result<Task, W
         Command::Text => text_task(line),
         Command::Gen => gen_task(line),
         Command::Bound => Ok(Task::Bound(file(alloc, line)?)),
+        Command::Derive => derive_task(alloc, line),
     }
 }
 

@@ -7,6 +7,7 @@ use Rattle.delta_run.specs.Printed.{PrintedText}
 use Rattle.delta_run.specs.Generated.{GeneratedLine}
 use Rattle.delta_run.specs.Checked.{ChecksText}
 use Rattle.delta_run.specs.Bounded.{BoundedText}
+use Rattle.delta_run.specs.Derived.{DerivesText}
 use Rattle.delta_run.specs.Evaluated.{EvaluatedText}
 use Rattle.delta_end.specs.declared.end.End.TheVariants.{Usage, Memory}
 use Rattle.delta_loop.specs.Answer.{ReadsWell}
@@ -15,7 +16,7 @@ use Rattle.delta_text.specs.Lines.{lines_of_frames}
 use Rattle.delta_run.proofs.Budgets.{run_is_small, eval_is_small, load_is_small}
 use Rattle.delta_run.proofs.Conversions.{converted_reads}
 use Rattle.delta_run.proofs.Printed.{written_reads}
-use Rattle.delta_run.proofs.CommandLines.{same_run, same_check, same_eval, same_print, same_gen, same_bound, asks_something}
+use Rattle.delta_run.proofs.CommandLines.{same_run, same_check, same_eval, same_print, same_gen, same_bound, same_derive, asks_something}
 use Rattle.delta_run.proofs.command.run_command.Goals as goal
 
 pub returns-in-Ok-Run-clause-command : goal.returns-in-Ok-Run-clause-command
@@ -132,3 +133,17 @@ returns-in-Ok-Bound-clause-bounded g c file is =
     let same = same_bound _ _ (sym (c.in-Ok-Bound.ensures.ok ∙ ap (λ t. Some (asked t)) c.in-Ok-Bound.field-0-is) ∙ is) in
     subst (λ (name : List ℕ). OfFile (g.S.Shelf.holds c.args.shelf.now) name (λ text. BoundedText text (g.L.Link.log c.args.link.now) (g.L.Link.log c.bound_file.new.link) c.bound_file.result))
     (c.deref-in-Ok-Bound.ensures ∙ same) c.bound_file.ensures.bounded
+
+pub returns-in-Ok-Derive-clause-command : goal.returns-in-Ok-Derive-clause-command
+returns-in-Ok-Derive-clause-command g c nothing = absurd (asks_something nothing (c.in-Ok-Derive.ensures.ok ∙ ap (λ t. Some (asked t)) c.in-Ok-Derive.field-0-is))
+
+pub returns-in-Ok-Derive-clause-reads : goal.returns-in-Ok-Derive-clause-reads
+returns-in-Ok-Derive-clause-reads g c = adds_none _ _ (ReadsWell c.derive_file.result) refl (unread c.derive_file.result)
+
+pub returns-in-Ok-Derive-clause-derived : goal.returns-in-Ok-Derive-clause-derived
+returns-in-Ok-Derive-clause-derived g c file proof is =
+    let same = same_derive _ _ _ _ (sym (c.in-Ok-Derive.ensures.ok ∙ ap (λ t. Some (asked t)) c.in-Ok-Derive.field-0-is) ∙ is) in
+    subst (λ (name : List ℕ). OfFile (g.S.Shelf.holds c.args.shelf.now) name (λ text. OfFile (g.S.Shelf.holds c.args.shelf.now) proof (λ steps. DerivesText text steps c.derive_file.result)))
+    (c.deref-in-Ok-Derive.ensures ∙ same.0)
+    (subst (λ (other : List ℕ). OfFile (g.S.Shelf.holds c.args.shelf.now) c.deref-in-Ok-Derive.result.now (λ text. OfFile (g.S.Shelf.holds c.args.shelf.now) other (λ steps. DerivesText text steps c.derive_file.result)))
+    (c.deref-in-Ok-Derive-2.ensures ∙ same.1) c.derive_file.ensures.derived)

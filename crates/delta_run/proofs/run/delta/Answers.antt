@@ -8,6 +8,7 @@ use Rattle.delta_run.proofs.Lined.{lined, lines_well}
 use Rattle.delta_run.proofs.Printed.{prints_text, printed_well, refused_well}
 use Rattle.delta_run.proofs.Generated.{generates, generates_well}
 use Rattle.delta_run.proofs.Bounded.{tells_bound, bounded_well, unbounded_well, judged_well, refused_text}
+use Rattle.delta_run.proofs.Derived.{passes_derived, refuses_underived, refuses_unelaborated}
 use Rattle.delta_run.proofs.Checked.{passes_accepted, refuses_unaccepted}
 use Rattle.delta_run.proofs.Evaluated.{evals_text, evals_well, stops_well, refuses_unwritable}
 use Rattle.delta_run.proofs.Owing.{owes_by}
@@ -100,6 +101,19 @@ returns-clause-owed g c = (
         refused = λ files tells file_still write note.
             refused_text _ _ _ _ _ _ _ _ _ file_still write note _ _ c.note-said.ensures.cause c.run_command-end.result (c.run_command-end.ensures.bounded file is files tells)
             c.run_command-end.ensures.file c.run_command-end.ensures.write c.answer.ensures;
+      })
+      (λ file proof is. record {
+        untouched = c.run_command-end.ensures.derivation file proof is;
+        ends = λ files tells more again. c.run_command-end.ensures.derived file proof is files tells more again;
+        complete = λ files tells more again file_still note.
+            passes_derived _ _ _ _ _ _ file_still note _ _ c.note-said.ensures.cause c.run_command-end.result (c.run_command-end.ensures.derived file proof is files tells more again)
+            c.run_command-end.ensures.file c.answer.ensures;
+        underived = λ files tells more again file_still note.
+            refuses_underived _ _ _ _ _ _ file_still note _ _ c.note-said.ensures.cause c.run_command-end.result (c.run_command-end.ensures.derived file proof is files tells more again)
+            c.run_command-end.ensures.file c.answer.ensures;
+        refused = λ files tells more again file_still note.
+            refuses_unelaborated _ _ _ _ _ _ file_still note _ _ c.note-said.ensures.cause c.run_command-end.result (c.run_command-end.ensures.derived file proof is files tells more again)
+            c.run_command-end.ensures.file c.answer.ensures;
       })
       (λ is. record {
         ends = lined _ _ _ _ c.run_command-end.result (c.run_command-end.ensures.lined is);

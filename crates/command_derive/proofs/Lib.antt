@@ -1,0 +1,2 @@
+-- Lemmas, each file named for what it is about.
+pub mod Faults

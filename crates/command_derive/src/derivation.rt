@@ -1,0 +1,78 @@
+//! Checks a derivation of a text's program.
+
+ghost use Rattle.std.specs.Prelude.{◌≡◌, ◌≤◌, List, ℕ, length, IfOk, IfErr};
+ghost use Rattle.core_term.specs.CoreTerm.{CoreProgram, core_of};
+ghost use Rattle.core_term.specs.FreeNames.{IsCore};
+ghost use Rattle.delta_accept.specs.Acceptance.{IsElaboratedAs};
+ghost use Rattle.delta_derive.specs.FirstFault.{first_fault, IsValidText, TellsFirst, Denies};
+ghost use Rattle.command_derive.specs.Deriving.{longest, Derives, Refutes};
+
+use core_term::Core;
+use delta_accept::elaborate_text;
+use delta_derive::{DeriveFault, derive};
+use delta_end::{DerivationName, End, Objection};
+use delta_front::TextFault;
+use std::alloc::Global;
+
+/// The core of the program that a text is, of which a derivation is to be checked; it isn't asked whether it is
+/// typed. Or how the command ends, whatever the derivation is. `IsElaboratedAs` of delta_accept says which text
+/// has which core.
+pub fn core_of_text(alloc: Global, text: &[u8]) -> Result<Core, End>
+    ensures elaborated { IfOk result (λ c. IsElaboratedAs text.now (core_of c)) }
+    ensures core { IfOk result (λ c. IsCore (core_of c)) }
+    ensures ended { IfErr result (λ end. (proof : List ℕ) → Derives text.now proof end) }
+{
+    match elaborate_text(alloc, text) {
+        Ok(core) => Ok(core),
+        Err(TextFault::Memory) => Err(End::Memory),
+        Err(TextFault::Refused(why)) => Err(End::Refused(Some(why))),
+    }
+}
+
+// The end for a derivation that is refused for this, at this place.
+fn refused(name: DerivationName, at: u32) -> End
+    ensures { (c : CoreProgram) (proof : List ℕ) → Refutes c proof name at → (text : List ℕ) → IsElaboratedAs text c → Derives text proof result }
+{
+    End::Objected(Objection::Derivation(name, at))
+}
+
+// The end for a derivation with this fault.
+fn end_of(fault: &DeriveFault) -> End
+    ensures { (c : CoreProgram) (proof : List ℕ) → length proof ≤ longest → Denies fault.now (IsValidText c proof) → TellsFirst fault.now (first_fault c proof)
+        → (text : List ℕ) → IsElaboratedAs text c → Derives text proof result }
+{
+    match fault {
+        DeriveFault::Memory => End::Memory,
+        DeriveFault::BadLine(line) => refused(DerivationName::BadLine, *line),
+        DeriveFault::BadStep(line) => refused(DerivationName::BadStep, *line),
+        DeriveFault::BadRule(line) => refused(DerivationName::BadRule, *line),
+        DeriveFault::Short(lines) => refused(DerivationName::Short, *lines),
+        DeriveFault::Long(line) => refused(DerivationName::Long, *line),
+    }
+}
+
+// The same for one that is too long.
+fn too_long() -> End
+    ensures { (c : CoreProgram) (proof : List ℕ) → Refutes c proof DerivationName.LongText longest → (text : List ℕ) → IsElaboratedAs text c → Derives text proof result }
+{
+    refused(DerivationName::LongText, 1_048_576)
+}
+
+/// Checks the text of a derivation against a core: done exactly where it is a derivation of that, so that the
+/// core is typed, and else the derivation is refused for its first fault. `Derives` of `specs/Deriving.antt`
+/// says so, for each text that has this core.
+pub fn derive_core(alloc: Global, core: Core, proof: &[u8]) -> End
+    requires { IsCore (core_of core) }
+    ensures { (text : List ℕ) → IsElaboratedAs text (core_of core) → Derives text proof.now result }
+{
+    if proof.len() > 1_048_576 {
+        return too_long();
+    }
+    match derive(alloc, core, proof) {
+        Ok(checked) => {
+            drop(checked);
+            End::Done
+        }
+        Err(fault) => end_of(&fault),
+    }
+}

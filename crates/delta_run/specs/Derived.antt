@@ -1,0 +1,25 @@
+-- What the check of a derivation did, by how it ended.
+use Rattle.std.specs.Prelude.{◌≡◌, ◌⊎◌, ℕ, List}
+use Rattle.delta_end.specs.declared.end.End.{End}
+use Rattle.delta_end.specs.declared.end.End.TheVariants.{FileFailed}
+use Rattle.delta_end.specs.declared.objection.DerivationName.{DerivationName}
+use Rattle.delta_end.specs.declared.refusal.Refusal.{Refusal}
+use Rattle.delta_accept.specs.Acceptance.{IsUnelaborated}
+use Rattle.command_derive.specs.Deriving.{IsDerived, IsUnderived, Derives}
+
+-- where the files have these texts; nothing is said where one of them failed
+abbrev pub DerivesText : List ℕ → List ℕ → End → Type 0
+DerivesText text proof FileFailed = Unit {0}
+DerivesText text proof end = Derives text proof end
+
+-- a derivation of the text's program gives status 0, or 8
+abbrev pub PassesDerived : List ℕ → List ℕ → ℕ → Type 0
+PassesDerived text proof status = IsDerived text proof → (status ≡ 8) ⊎ (status ≡ 0)
+
+-- what is none gives status 11, or 8
+abbrev pub RefusesUnderived : List ℕ → List ℕ → ℕ → Type 0
+RefusesUnderived text proof status = (why : DerivationName) (at : ℕ) → IsUnderived text proof why at → (status ≡ 8) ⊎ (status ≡ 11)
+
+-- a text without a core gives status 3, or 8
+abbrev pub RefusesUnelaborated : List ℕ → ℕ → Type 0
+RefusesUnelaborated text status = (why : Refusal) → IsUnelaborated text why → (status ≡ 8) ⊎ (status ≡ 3)
