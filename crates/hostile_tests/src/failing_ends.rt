@@ -334,15 +334,15 @@ const PIECES: u64 = 4;
 
 // Whether a row's command writes and answers what it must where the sink fails at a piece of the note, for each of the
 // first of them: a part of the note is told, and more of it at each later piece.
-fn breaks_off_in_turn(alloc: Global, (given, answer): &Row) -> Result<bool, Fail> {
+fn breaks_off_in_turn(alloc: Global, row: &Row) -> Result<bool, Fail> {
     let mut all = true;
     let mut least = 0;
     for piece in 0..PIECES {
         let given = Given {
             fail_notes: &[piece],
-            ..*given
+            ..row.0
         };
-        match breaks_off(alloc, &given, *answer)? {
+        match breaks_off(alloc, &given, row.1)? {
             Some(said) => {
                 all = all && said >= least;
                 least = said.saturating_add(1);

@@ -5,8 +5,8 @@ use load_program::generate;
 use std::alloc::Global;
 use std::test::Fail;
 
-// Whether this is the line of a start and of so many items.
-fn is_line(alloc: Global, start: u64, items: u64, line: &str) -> Result<bool, Fail> {
+/// Whether this is the line of a start and of so many items.
+pub fn is_line(alloc: Global, start: u64, items: u64, line: &str) -> Result<bool, Fail> {
     if start > 999_999 || items > 10_000_000 {
         return Ok(false);
     }

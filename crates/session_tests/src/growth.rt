@@ -4,7 +4,7 @@ ghost use Rattle.std.specs.Prelude.{IsTrue, ◌≤◌};
 ghost use Rattle.core_term.specs.CoreTerm.{core_of, fits_of};
 ghost use Rattle.delta_session.specs.Standing.{IsKept};
 
-use crate::talking::ROOM;
+use crate::talking::{ROOM, open};
 use core_term::{Checked, fits};
 use delta_accept::accept;
 use delta_code::Coded;
@@ -55,7 +55,7 @@ fn greatest<M: Machine>(
 fn most<M: Machine>(alloc: Global, checked: &Checked) -> Result<(u64, u64), Fail>
     requires { IsTrue (fits_of (core_of checked.now)) }
 {
-    let (session, _first) = Session::<M>::open(alloc, checked, 1_000_000)?;
+    let (session, _first) = open::<M>(alloc, checked, 1_000_000)?;
     let mut session = session;
     greatest(alloc, &mut session, 0, 5_000)?;
     let second = greatest(alloc, &mut session, 5_000, 10_000)?;

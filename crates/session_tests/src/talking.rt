@@ -1,6 +1,6 @@
 //! A session that is opened and fed lines, and what it must answer.
 
-ghost use Rattle.std.specs.Prelude.{IsTrue};
+ghost use Rattle.std.specs.Prelude.{IsTrue, IfOk};
 ghost use Rattle.core_term.specs.CoreTerm.{core_of, fits_of};
 ghost use Rattle.delta_session.specs.Standing.{IsKept};
 
@@ -93,11 +93,23 @@ fn goes_on<M: Machine>(
     Ok(begins && answers && counted && is_whole == talk.is_whole)
 }
 
+/// A session of the program that may make so many calls, of a million at most, and what it says first.
+pub fn open<M: Machine>(
+    alloc: Global,
+    checked: &Checked,
+    budget: u64,
+) -> Result<(Session<M>, Vec<Event>), OpenRefusal>
+    requires { IsTrue (fits_of (core_of checked.now)) }
+    ensures { IfOk result (λ r. IsKept M.seen M.stands r.0) }
+{
+    Session::<M>::open(alloc, checked, budget.min(1_000_000))
+}
+
 /// Whether a session of the program goes as the talk does.
 pub fn goes<M: Machine>(alloc: Global, checked: &Checked, talk: &Talk) -> Result<bool, Fail>
     requires { IsTrue (fits_of (core_of checked.now)) }
 {
-    match Session::<M>::open(alloc, checked, talk.budget.min(1_000_000)) {
+    match open::<M>(alloc, checked, talk.budget) {
         Ok((session, first)) => {
             let mut session = session;
             goes_on(alloc, &mut session, &first, talk)
