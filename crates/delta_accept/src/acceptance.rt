@@ -57,10 +57,9 @@ fn refusal_for(fault: &ProgramFault) -> TextFault
     }
 }
 
-/// The program of a text that is accepted, with its checked core, whose nodes have the places of what they
-/// stand for. `IsAcceptedAs` of
-/// `specs/Acceptance.antt` says which texts are accepted, and `IsRefusedAs` for what each other text is
-/// refused. The laws say that but for want of memory each text has one answer.
+/// The program of a text that is accepted, with its checked core, each node of which has the place of what it
+/// stands for. `IsAcceptedAs` of `specs/Acceptance.antt` says which texts are accepted, and `IsRefusedAs` for
+/// what each other text is refused. The laws say that but for want of memory each text has one answer.
 pub fn accept(alloc: Global, text: &[u8]) -> Result<Accepted, TextFault>
     ensures accepted { IfOk result (λ a. IsAcceptedAs text.now (tree_of a.program) (core_of a.checked)) }
     ensures places { IfOk result (λ a. core_places a.checked ≡ program_places (tree_of a.program)) }
