@@ -1,8 +1,8 @@
 -- The canonical words of prefixes side by side.
-use Rattle.std.proofs.Common.{◌≡◌, ℕ, List, [], ◌∷◌, map, refl, ap₂, ◌∙◌}
+use Rattle.std.proofs.Common.{◌≡◌, ℕ, List, [], ◌∷◌, map, ap₂, ◌∙◌}
 use Rattle.stream_type.specs.StreamType.{StreamType, par}
 use Rattle.stream_prefix.specs.StreamPrefix.{StreamPrefix, par_both}
-use Rattle.event_word.specs.Word.{IsWord, pre}
+use Rattle.event_word.specs.Word.{pre}
 use Rattle.event_word.specs.Canon.{canon}
 use Rattle.event_word.proofs.Spelling.{canon_is_word, pre-canon}
 use Rattle.table_feed.specs.Mixing.{AreWords, ArePrefixes, pre_beside, beside, mixed_word}

@@ -1,5 +1,5 @@
 -- The records of a text, as a reader comes to them one after another.
-use Rattle.std.proofs.Common.{◌≡◌, ℕ, zero, suc, ◌+◌, ◌-◌, ◌<◌, ◌≤◌, Bool, true, false, List, [], ◌∷◌, ◌++◌, length, Option, Some, None, refl, sym, ap, ◌∙◌, inl, inr, subst, length-append, arith}
+use Rattle.std.proofs.Common.{◌≡◌, ℕ, suc, ◌+◌, ◌-◌, ◌<◌, ◌≤◌, Bool, true, false, List, [], ◌∷◌, ◌++◌, length, Option, Some, None, refl, sym, ap, ◌∙◌, inl, inr, subst, length-append, arith}
 use Rattle.std.proofs.lemmas.List.{append-nil}
 use Rattle.std.specs.Prelude.{IfSome, ◌==◌, if◌then◌else◌}
 use Rattle.std.proofs.lemmas.Bool.{cases_Bool}

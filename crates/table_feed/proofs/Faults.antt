@@ -1,10 +1,10 @@
 -- What is wrong with records, as they come one after another.
-use Rattle.std.proofs.Common.{◌≡◌, ℕ, zero, suc, ◌+◌, ◌<◌, ◌≤◌, Bool, true, false, List, [], ◌∷◌, ◌++◌, map, length, drop, Option, Some, None, refl, sym, ap, ◌∙◌, append_assoc, arith}
-use Rattle.std.specs.Prelude.{ℤ, option_map, is_some, ◌==◌, if◌then◌else◌}
+use Rattle.std.proofs.Common.{◌≡◌, ℕ, zero, suc, ◌+◌, ◌<◌, true, false, List, [], ◌∷◌, ◌++◌, length, drop, Option, Some, None, refl, sym, ap, ◌∙◌, append_assoc, arith}
+use Rattle.std.specs.Prelude.{ℤ, option_map, ◌==◌}
 use Rattle.csv.specs.Records.{field_at}
 use Rattle.table_feed.specs.declared.fault.FeedFault.{FeedFault}
 use Rattle.table_feed.specs.declared.fault.FeedFault.TheVariants.{Ragged, BadNumber}
-use Rattle.table_feed.specs.Tables.{number_of, bad_column, or_else, record_fault, records_fault}
+use Rattle.table_feed.specs.Tables.{bad_column, or_else, record_fault, records_fault}
 use Rattle.table_feed.specs.Fields.{HasFirst}
 
 -- both lack a fault

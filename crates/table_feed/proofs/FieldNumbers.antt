@@ -1,6 +1,6 @@
 -- The numbers that fields are, as text is read, and that what is written of a number is read as it.
-use Rattle.std.proofs.Common.{◌≡◌, ◌≢◌, ℕ, suc, ℤ, ◌^◌, ◌<◌, ◌≤◌, List, [], ◌∷◌, Bool, true, false, ◌&&◌, cond, length, drop, get_or, Option, Some, None, refl, sym, ap, ◌∙◌, inl, inr, arith}
-use Rattle.std.specs.Prelude.{Result, Ok, Err, All, nat_lt, nat_le, ◌==◌, pos, negsuc, neg_ℤ, FitsSigned}
+use Rattle.std.proofs.Common.{◌≡◌, ◌≢◌, ℕ, suc, ℤ, ◌^◌, ◌<◌, ◌≤◌, List, [], ◌∷◌, true, false, ◌&&◌, cond, length, drop, get_or, Some, None, refl, sym, ap, ◌∙◌, inl, inr, arith}
+use Rattle.std.specs.Prelude.{Ok, Err, All, nat_lt, nat_le, ◌==◌, pos, negsuc, neg_ℤ, FitsSigned}
 use Rattle.std.specs.Int.{w64}
 use Rattle.std.specs.Str.{all_ascii_digits, IsUtf8}
 use Rattle.std.specs.Fmt.{decimal, signed_decimal}
@@ -14,7 +14,7 @@ use Rattle.event_word.specs.declared.event.Leaf.{Leaf}
 use Rattle.event_word.specs.declared.event.Leaf.TheVariants.{Int}
 use Rattle.event_text.specs.Reading.{is_number, number_leaf}
 use Rattle.event_text.proofs.Numbers.{own, some_digits as digits_of, number_too_big, number_text}
-use Rattle.table_feed.specs.Tables.{number_in, number_of}
+use Rattle.table_feed.specs.Tables.{number_of}
 
 -- a field that is no number
 pub not_number : (w : List ℕ) → is_number w ≡ false → number_of w ≡ None

@@ -1,8 +1,8 @@
 -- In whatever order words are mixed, the mixed word stands for their prefixes side by side.
-use Rattle.std.proofs.Common.{◌≡◌, ℕ, zero, suc, List, [], ◌∷◌, ◌++◌, map, Option, Some, None, refl, sym, ap, ap₂, ◌∙◌, append_assoc}
+use Rattle.std.proofs.Common.{◌≡◌, ℕ, zero, suc, List, [], ◌∷◌, ◌++◌, map, Option, Some, None, refl, ap, ap₂, ◌∙◌, append_assoc}
 use Rattle.std.specs.Prelude.{IfSome, option_map}
 use Rattle.stream_type.specs.StreamType.{StreamType, par}
-use Rattle.stream_prefix.specs.StreamPrefix.{StreamPrefix, par_both, emp, der, join}
+use Rattle.stream_prefix.specs.StreamPrefix.{par_both, emp, join}
 use Rattle.stream_prefix.proofs.Derivations.{Derives, par_has_both}
 use Rattle.stream_prefix.proofs.Joins.{emp_is_prefix, der-emp, join-emp}
 use Rattle.event_word.specs.declared.event.Step.TheVariants.{Left, Right}

@@ -1,19 +1,17 @@
 -- Tables as values and as whole prefixes.
-use Rattle.std.proofs.Common.{◌≡◌, ◌↔◌, ℕ, zero, suc, ◌+◌, ◌<◌, ◌≤◌, Bool, true, false, List, [], ◌∷◌, ◌++◌, map, drop, length, length-drop, Option, Some, None, refl, sym, ap, ap₂, ◌∙◌, inl, inr, subst, arith}
+use Rattle.std.proofs.Common.{◌≡◌, ◌↔◌, ℕ, zero, suc, ◌+◌, ◌<◌, ◌≤◌, Bool, true, false, List, [], ◌∷◌, map, drop, length, length-drop, Some, None, refl, sym, ap, ◌∙◌, inl, inr, subst, arith}
 use Rattle.std.proofs.lemmas.List.{length-map}
-use Rattle.std.specs.Prelude.{ℤ, IsTrue, Result, Ok, Err, IfOk, OnOk, option_map, is_some, nat_le, ◌==◌, if◌then◌else◌}
+use Rattle.std.specs.Prelude.{ℤ, IsTrue, Result, Ok, Err, IfOk, OnOk, nat_le, ◌==◌}
 use Rattle.std.proofs.lemmas.Bool.{cases_Bool, eqb-true}
 use Rattle.stream_type.specs.StreamType.{StreamType, eps, one, int, cat, par, sum, star}
-use Rattle.stream_prefix.specs.StreamPrefix.{StreamPrefix, int_full, cat_both, star_done, IsPrefix, is_maximal}
+use Rattle.stream_prefix.specs.StreamPrefix.{int_full, cat_both, star_done, IsPrefix, is_maximal}
 use Rattle.stream_prefix.specs.Tree.{star_of}
-use Rattle.hist_value.specs.HistType.{HistType, past, list_type}
-use Rattle.hist_value.specs.HistValue.{HistValue, HasType, list_of}
+use Rattle.hist_value.specs.HistType.{past}
+use Rattle.hist_value.specs.HistValue.{HasType}
 use Rattle.hist_value.specs.Wholes.{full}
 use Rattle.hist_value.proofs.WholeLaws.{full_is_prefix, full_is_maximal}
-use Rattle.table_feed.specs.declared.fault.FeedFault.{FeedFault}
-use Rattle.table_feed.specs.declared.fault.FeedFault.TheVariants.{Long, Ragged, BadNumber}
 use Rattle.table_feed.specs.RowType.{item_type, row_type, IsRowType, IsItemType, item_columns}
-use Rattle.table_feed.specs.Tables.{number_of, or_zero, numbers_of, row_value, table_of, table_value, bad_column, record_fault, records_fault, records_of, table_fault}
+use Rattle.table_feed.specs.Tables.{number_of, or_zero, numbers_of, row_value, table_of, table_value, record_fault, records_fault, records_of, table_fault}
 use Rattle.table_feed.specs.Fields.{HasFirst}
 use Rattle.table_feed.proofs.Faults.{first_none, second_none}
 

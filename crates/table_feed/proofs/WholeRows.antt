@@ -1,5 +1,5 @@
 -- Whole tables, row by row.
-use Rattle.std.proofs.Common.{◌≡◌, ℕ, zero, suc, ◌<◌, ◌≤◌, Bool, true, false, ◌&&◌, List, [], ◌∷◌, ◌++◌, map, length, get_or, refl, sym, ap, ap₂, ◌∙◌, append_assoc, subst, arith}
+use Rattle.std.proofs.Common.{◌≡◌, ℕ, zero, suc, ◌<◌, ◌≤◌, Bool, true, false, ◌&&◌, List, [], ◌∷◌, ◌++◌, map, length, get_or, refl, sym, ap, ◌∙◌, append_assoc, subst, arith}
 use Rattle.std.specs.Prelude.{ℤ, All, IsTrue, FitsSigned, Result, Ok, Err, OnOk, if◌then◌else◌}
 use Rattle.std.specs.Int.{w64}
 use Rattle.std.specs.Str.{IsAscii}
@@ -9,8 +9,8 @@ use Rattle.table_feed.proofs.FieldNumbers.{IsNumberByte, written_number}
 use Rattle.std.specs.Fmt.{signed_decimal}
 use Rattle.std.proofs.lemmas.List.{append-nil}
 use Rattle.std.proofs.lemmas.List.Elements.{All-nil, All-cons, All-head, All-tail, All-get_or, All-weaker}
-use Rattle.stream_type.specs.StreamType.{StreamType, eps, one, int, cat, par, sum, star}
-use Rattle.stream_prefix.specs.StreamPrefix.{StreamPrefix, eps_emp, one_emp, one_full, int_emp, int_full, par_both, cat_fst, cat_both, sum_emp, in_left, in_right, star_emp, star_done, star_first, star_rest, IsPrefix, is_maximal}
+use Rattle.stream_type.specs.StreamType.{StreamType, star}
+use Rattle.stream_prefix.specs.StreamPrefix.{StreamPrefix, int_emp, int_full, cat_fst, cat_both, star_emp, star_done, star_first, star_rest, IsPrefix, is_maximal}
 use Rattle.stream_prefix.specs.Fit.{is_of_star}
 use Rattle.stream_prefix.specs.Tree.{star_of, end_of, prefix_of, row_of}
 use Rattle.std.specs.declared.boxed.Box.{Box}
@@ -19,10 +19,9 @@ use Rattle.stream_prefix.specs.declared.prefix.Prefix.{Prefix}
 use Rattle.stream_prefix.specs.declared.prefix.Prefix.TheVariants.{IntFull, CatBoth, CatBoth', Star'}
 use Rattle.stream_prefix.specs.declared.prefix.StarEnd.{StarEnd}
 use Rattle.stream_prefix.specs.declared.prefix.StarEnd.TheVariants.{Emp, Done, First'}
-use Rattle.hist_value.specs.HistValue.{HistValue, number, pair_of}
 use Rattle.hist_value.specs.Wholes.{value_of}
-use Rattle.table_feed.specs.RowType.{item_type, row_type, IsRowType}
-use Rattle.table_feed.specs.Rows.{IsWholeTable, row_numbers, table_rows, line_of, rows_text, text_of}
+use Rattle.table_feed.specs.RowType.{item_type, row_type}
+use Rattle.table_feed.specs.Rows.{IsWholeTable, row_numbers, table_rows, line_of}
 use Rattle.table_feed.specs.Written.{IsNumber, IsWholeRow, joined}
 
 -- a star is no number and no row

@@ -1,18 +1,18 @@
 -- The text of rows is what csv writes of them, and is read as these rows.
-use Rattle.std.proofs.Common.{◌≡◌, ℕ, zero, suc, ◌+◌, ◌<◌, ◌≤◌, Bool, true, false, List, [], ◌∷◌, ◌++◌, map, length, Option, Some, None, refl, sym, ap, ap₂, ◌∙◌, inl, inr, append_assoc, arith}
-use Rattle.std.specs.Prelude.{ℤ, All, FitsSigned, ◌==◌, nat_le, is_some, if◌then◌else◌}
+use Rattle.std.proofs.Common.{◌≡◌, ℕ, ◌+◌, ◌<◌, ◌≤◌, true, false, List, [], ◌∷◌, ◌++◌, map, length, Some, None, refl, sym, ap, ap₂, ◌∙◌, append_assoc, arith}
+use Rattle.std.specs.Prelude.{ℤ, All, FitsSigned, ◌==◌, nat_le}
 use Rattle.std.specs.Int.{w64}
 use Rattle.std.specs.Fmt.{signed_decimal}
-use Rattle.std.specs.List.{list_any, flat_map}
+use Rattle.std.specs.List.{list_any}
 use Rattle.std.proofs.lemmas.Bool.Decides.{nat_tests}
-use Rattle.std.proofs.lemmas.List.{length-map, append-nil, map-append}
+use Rattle.std.proofs.lemmas.List.{length-map}
 use Rattle.std.proofs.lemmas.List.Elements.{All-head, All-tail}
-use Rattle.csv.specs.Machine.{Read, next_record}
+use Rattle.csv.specs.Machine.{next_record}
 use Rattle.csv.specs.Reading.{default_config, records, Reached, strip_bom}
 use Rattle.csv.specs.declared.parser.State.TheVariants as st
-use Rattle.csv.specs.Writing.{default_writer, needs_byte, needs_quotes, field_text, fields_text, is_blank, row_text, read_back}
+use Rattle.csv.specs.Writing.{default_writer, needs_byte, field_text, fields_text, is_blank, row_text, read_back}
 use Rattle.csv.proofs.RoundTrip.{read-write}
-use Rattle.table_feed.specs.Tables.{number_of, or_zero, numbers_of, records_of, table_of, bad_column, record_fault, records_fault, table_fault}
+use Rattle.table_feed.specs.Tables.{or_zero, numbers_of, records_of, table_of, bad_column, record_fault, records_fault, table_fault}
 use Rattle.table_feed.specs.Rows.{line_of, rows_text}
 use Rattle.table_feed.specs.Laws.{AreRows}
 use Rattle.table_feed.proofs.FieldNumbers.{IsNumberByte, IsWritten, written_number, number_of-written}

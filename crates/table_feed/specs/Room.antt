@@ -1,5 +1,5 @@
 -- What private clauses cite of the steps that lead to a word among several, and of what is still to come.
-use Rattle.std.specs.Prelude.{ℕ, zero, suc, ◌+◌, ◌≤◌, Bool, true, false, List, [], ◌∷◌, ◌++◌, length, All, ⊤, if◌then◌else◌}
+use Rattle.std.specs.Prelude.{ℕ, zero, suc, ◌+◌, ◌≤◌, Bool, List, [], ◌∷◌, ◌++◌, length, All, ⊤, if◌then◌else◌}
 use Rattle.event_word.specs.declared.event.Step.TheVariants.{Left, Right}
 use Rattle.event_word.specs.StreamEvent.{StreamEvent, under}
 use Rattle.table_feed.specs.Mixing.{rounds, in_order}

@@ -2,7 +2,7 @@
 --
 -- A table is a stream of rows, and a row has as many numbers as the table has columns, one after another.
 use Rattle.std.specs.Prelude.{ℕ, zero, suc, ◌+◌, ◌≡◌, ◌≤◌, ⊤}
-use Rattle.stream_type.specs.StreamType.{StreamType, eps, one, int, cat, par, sum, star}
+use Rattle.stream_type.specs.StreamType.{StreamType, eps, int, cat, par, star}
 
 -- a row of so many columns: as many times `Int`, joined by `.` and grouped to the right; there is none without
 -- a column

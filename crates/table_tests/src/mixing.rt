@@ -31,10 +31,18 @@ fn word_of(alloc: Global, column: &Ty, bytes: &[u8]) -> Result<Vec<Event>, FeedF
 
 // The words of two tables of one column mixed by a schedule, as lines; and the lines of the canonical word of what
 // it stands for.
-fn mixed_lines(alloc: Global, schedule: &[u32], first: &[u8], second: &[u8]) -> Result<(String, String), FeedFault> {
+fn mixed_lines(
+    alloc: Global,
+    schedule: &[u32],
+    first: &[u8],
+    second: &[u8],
+) -> Result<(String, String), FeedFault> {
     let column = star(alloc, Ty::Int)?;
     let both = par(alloc, copy(alloc, &column)?, star(alloc, Ty::Int)?)?;
-    let words = [word_of(alloc, &column, first)?, word_of(alloc, &column, second)?];
+    let words = [
+        word_of(alloc, &column, first)?,
+        word_of(alloc, &column, second)?,
+    ];
     let word = mixed(alloc, &both, &words, schedule)?;
     let whole = prefix_of(alloc, &both, &word)?;
     let same = canon(alloc, &both, &whole)?;
@@ -42,7 +50,8 @@ fn mixed_lines(alloc: Global, schedule: &[u32], first: &[u8], second: &[u8]) -> 
 }
 
 /// One word after the other.
-const IN_ORDER: &str = "L item\nL F int 1\nL cut\nL item\nL F int 2\nL cut\nL end\nR item\nR F int 10\nR cut\nR item\nR F int 20\nR cut\nR end\n";
+const IN_ORDER: &str =
+    "L item\nL F int 1\nL cut\nL item\nL F int 2\nL cut\nL end\nR item\nR F int 10\nR cut\nR item\nR F int 20\nR cut\nR end\n";
 
 // Whether a schedule mixes the words of two tables of two rows to these lines, which stand for what the words stand
 // for one after the other.

@@ -59,7 +59,11 @@ fn files_are_read_and_written(rt: HostRuntime) -> Result<(), Fail> {
         (1, b"1,2\n\n\"3\",-4", "1,2\n3,-4\n"),
         (2, b"1,2,3\n", "1,2,3\n"),
         (0, b"\xEF\xBB\xBF5\n", "5\n"),
-        (0, b"-0\n-9223372036854775808\n9223372036854775807\n", "0\n-9223372036854775808\n9223372036854775807\n"),
+        (
+            0,
+            b"-0\n-9223372036854775808\n9223372036854775807\n",
+            "0\n-9223372036854775808\n9223372036854775807\n",
+        ),
     ];
     for (more, bytes, text) in rows {
         assert!(rt; is_written(rt.alloc(), more, bytes, text)?, "{text}");
@@ -68,7 +72,13 @@ fn files_are_read_and_written(rt: HostRuntime) -> Result<(), Fail> {
 }
 
 // Whether a file of some columns has this fault.
-fn is_refused(alloc: Global, more: usize, file: u32, bytes: &[u8], fault: FeedFault) -> Result<bool, Fail> {
+fn is_refused(
+    alloc: Global,
+    more: usize,
+    file: u32,
+    bytes: &[u8],
+    fault: FeedFault,
+) -> Result<bool, Fail> {
     let t = row_type(alloc, more)?;
     match rewritten(alloc, &t, file, bytes) {
         Ok(_) => Ok(false),
@@ -81,7 +91,11 @@ fn ragged(file: u32, row: u32) -> FeedFault {
 }
 
 fn bad_number(row: u32, column: u32) -> FeedFault {
-    FeedFault::BadNumber { file: 0, row, column }
+    FeedFault::BadNumber {
+        file: 0,
+        row,
+        column,
+    }
 }
 
 #[test]
@@ -99,7 +113,10 @@ fn faults_are_told(rt: HostRuntime) -> Result<(), Fail> {
         (0, 0, b"\xFF\n", bad_number(0, 0)),
     ];
     for (more, file, bytes, fault) in rows {
-        assert!(rt; is_refused(rt.alloc(), more, file, bytes, fault)?, "{fault:?}");
+        assert!(rt;
+            is_refused(rt.alloc(), more, file, bytes, fault)?,
+            "{fault:?}"
+        );
     }
     Ok(())
 }

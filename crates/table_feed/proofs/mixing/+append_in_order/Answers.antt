@@ -1,5 +1,5 @@
 -- The first word, and then the others, one step more to the right.
-use Rattle.std.proofs.Common.{◌≡◌, List, ◌∷◌, ◌++◌, ◌+◌, map, suc, length, ap, ◌∙◌, sym, subst, append_assoc, arith}
+use Rattle.std.proofs.Common.{◌≡◌, List, ◌∷◌, ◌++◌, ◌+◌, map, suc, length, ap, ◌∙◌, sym, subst, append_assoc}
 use Rattle.std.specs.Prelude.{OnOk}
 use Rattle.std.proofs.lemmas.List.{length-map}
 use Rattle.event_word.specs.StreamEvent.{StreamEvent}

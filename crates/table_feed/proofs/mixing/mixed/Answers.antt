@@ -1,10 +1,10 @@
 -- The rounds, and then what is left of the words, is the mixed word.
-use Rattle.std.proofs.Common.{◌≡◌, List, ◌++◌, ◌∷◌, map, ℕ, ap, ap₂, ◌∙◌, sym, subst, arith}
+use Rattle.std.proofs.Common.{List, ◌++◌, map, ℕ, ap, ap₂, ◌∙◌, sym, subst, arith}
 use Rattle.std.proofs.lemmas.List.{take_all}
 use Rattle.stream_type.specs.StreamType.{type_of}
 use Rattle.event_word.specs.StreamEvent.{StreamEvent}
 use Rattle.event_word.specs.Word.{IsWord, pre}
-use Rattle.table_feed.specs.Mixing.{in_order, mixed_word}
+use Rattle.table_feed.specs.Mixing.{in_order}
 use Rattle.table_feed.specs.Room.{HasRoom, rest_of}
 use Rattle.table_feed.proofs.MixedWords.{mixed_spells}
 use Rattle.table_feed.proofs.Placing.{words_have_room, map-right_by}

@@ -1,8 +1,6 @@
 -- The word by its number, and what its first event leaves of the words.
-use Rattle.std.proofs.Common.{◌≡◌, ◌<◌, ◌≤◌, List, [], ◌∷◌, Some, map, length, ap, ◌∙◌, sym, refl, rules, arith}
-use Rattle.std.specs.Prelude.{slice_get}
+use Rattle.std.proofs.Common.{◌≡◌, ◌<◌, ◌≤◌, Some, map, length, ap, ◌∙◌, sym, refl, rules, arith}
 use Rattle.std.proofs.lemmas.List.{length-map, nil_from_length}
-use Rattle.event_word.specs.StreamEvent.{StreamEvent}
 use Rattle.table_feed.proofs.Placing.{at_number, take_room, take_next, left_room, no_next_at, past_words}
 use Rattle.table_feed.proofs.mixing.take.Goals as goal
 

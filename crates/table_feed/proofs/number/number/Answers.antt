@@ -1,6 +1,6 @@
 -- What is read as text is a number, but for one with a plus in front.
-use Rattle.std.proofs.Common.{◌≡◌, List, ℕ, Some, ap, ◌∙◌, sym, subst, rules}
-use Rattle.std.specs.Prelude.{Ok, Err}
+use Rattle.std.proofs.Common.{List, ℕ, Some, ap, ◌∙◌, sym, subst, rules}
+use Rattle.std.specs.Prelude.{Err}
 use Rattle.std.specs.Int.{w64}
 use Rattle.std.specs.Str.Parse.{ParsesSigned}
 use Rattle.std.proofs.lemmas.Int.{to_z-of_z}

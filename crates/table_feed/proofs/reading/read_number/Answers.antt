@@ -1,5 +1,5 @@
 -- The field at the column is the first of those from it on.
-use Rattle.std.proofs.Common.{◌≡◌, Some, refl, ap, ◌∙◌, sym, rules}
+use Rattle.std.proofs.Common.{Some, refl, ap, ◌∙◌, sym, rules}
 use Rattle.std.specs.Int.{w64}
 use Rattle.std.proofs.lemmas.Int.{to_z-of_z}
 use Rattle.csv.specs.Records.{fields_of}

@@ -1,9 +1,8 @@
 -- The records come one after another, and each is a row.
-use Rattle.std.proofs.Common.{Bor, List, ℕ, ◌≡◌, ◌<◌, ◌≤◌, ◌+◌, ◌∙◌, sym, refl, ap, ap₂, inl, inr, map, length, Some, None, ◌∷◌, ◌++◌, [], length-append, arith}
-use Rattle.std.specs.Prelude.{OnOk, IfErr}
+use Rattle.std.proofs.Common.{Bor, List, ℕ, ◌≡◌, ◌∙◌, sym, refl, ap, ap₂, inl, inr, map, length, Some, ◌∷◌, ◌++◌, [], length-append, arith}
 use Rattle.std.proofs.lemmas.List.{map-append}
 use Rattle.std.proofs.lemmas.Result.{err_from_is_err_and}
-use Rattle.csv.specs.Reading.{Reached, default_config, records, strip_bom}
+use Rattle.csv.specs.Reading.{Reached, default_config, strip_bom}
 use Rattle.csv.specs.Records.{fields_of}
 use Rattle.csv.specs.declared.parser.State.TheVariants as st
 use Rattle.csv.proofs.ReadFacts.{rows-end, rows-more}

@@ -1,5 +1,5 @@
 -- The rows are of a row's type, and a good table is a whole prefix of its type.
-use Rattle.std.proofs.Common.{◌≡◌, List, ap, ◌∙◌, sym, subst}
+use Rattle.std.proofs.Common.{◌≡◌, ap, ◌∙◌, sym, subst}
 use Rattle.std.specs.Prelude.{IsTrue}
 use Rattle.stream_type.specs.StreamType.{StreamType, type_of, star}
 use Rattle.stream_prefix.specs.StreamPrefix.{IsPrefix, is_maximal}

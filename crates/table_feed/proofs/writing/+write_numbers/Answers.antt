@@ -1,6 +1,4 @@
 -- Nothing but a whole row comes here.
-use Rattle.std.proofs.Common.{rules}
-use Rattle.std.specs.Prelude.{OnOk}
 use Rattle.table_feed.proofs.WholeRows.{the_row, on_ok_then}
 use Rattle.table_feed.proofs.writing.+write_numbers.Goals as goal
 

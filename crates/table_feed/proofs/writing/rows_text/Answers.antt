@@ -1,9 +1,9 @@
 -- What was written is text, and the rows are the table's.
-use Rattle.std.proofs.Common.{◌≡◌, List, ap, ◌∙◌, sym, subst, map}
-use Rattle.std.specs.Prelude.{ℤ, All}
+use Rattle.std.proofs.Common.{List, ap, ◌∙◌, sym, subst, map}
+use Rattle.std.specs.Prelude.{All}
 use Rattle.std.proofs.lemmas.Str.{IsUtf8-from_ascii}
 use Rattle.stream_prefix.specs.StreamPrefix.{StreamPrefix}
-use Rattle.stream_prefix.specs.Tree.{prefix_of, end_of}
+use Rattle.stream_prefix.specs.Tree.{prefix_of}
 use Rattle.stream_prefix.proofs.Rows.{prefix_of-star}
 use Rattle.hist_value.specs.Wholes.{value_of}
 use Rattle.table_feed.specs.Rows.{IsWholeTable, rows_text, row_numbers, table_rows}

@@ -1,5 +1,5 @@
 -- The digits of a number need no quotes.
-use Rattle.std.proofs.Common.{◌≡◌, ◌≢◌, ℕ, List, [], ◌∷◌, ◌++◌, Bool, true, false, length, ap, ◌∙◌, sym, inl, inr, refl}
+use Rattle.std.proofs.Common.{◌≡◌, ◌≢◌, ℕ, List, [], ◌∷◌, ◌++◌, length, ap, ◌∙◌, sym, inl, inr}
 use Rattle.std.specs.Prelude.{not, ◌==◌, if◌then◌else◌}
 use Rattle.std.specs.Fmt.{signed_decimal}
 use Rattle.std.specs.Int.{w64}
@@ -8,7 +8,7 @@ use Rattle.std.proofs.lemmas.Bool.{cases_Bool}
 use Rattle.std.proofs.lemmas.List.{append-nil}
 use Rattle.csv.specs.declared.writer.QuoteStyle.TheVariants as style
 use Rattle.csv.specs.Writing.{default_writer, field_text, fields_written, has_written}
-use Rattle.table_feed.specs.Written.{written, joined}
+use Rattle.table_feed.specs.Written.{written}
 use Rattle.table_feed.proofs.WrittenRows.{plain_number, not_zero}
 use Rattle.table_feed.proofs.FieldNumbers.{written_number}
 use Rattle.table_feed.proofs.WholeRows.{ascii_joined}
