@@ -1,6 +1,6 @@
 //! The state of a program whose feed goes on.
 
-ghost use Rattle.std.specs.Prelude.{IsTrue, ◌≤◌};
+ghost use Rattle.std.specs.Prelude.{IsTrue};
 ghost use Rattle.core_term.specs.CoreTerm.{core_of, fits_of};
 ghost use Rattle.delta_session.specs.Standing.{IsKept};
 
@@ -11,21 +11,24 @@ use delta_code::Coded;
 use delta_feed::gen_event;
 use delta_session::Session;
 use delta_state::Machine;
-use event_word::Event;
 use load_program::LOAD_TEXT;
 use std::alloc::Global;
 use std::test::Fail;
 
 const ITEMS: u64 = 10_000;
 
-// Feeds an event, and answers how many states there are then.
-fn count<M: Machine>(alloc: Global, session: &mut Session<M>, x: Event) -> Result<u64, Fail>
+// Feeds the load's event of a number, and answers how many states there are then.
+fn count<M: Machine>(alloc: Global, session: &mut Session<M>, i: u64) -> Result<u64, Fail>
     requires kept { IsKept M.seen M.stands session.old }
     ensures kept { IsKept M.seen M.stands session.new }
 {
-    if session.events() < ROOM {
-        let _word = session.feed(alloc, x)?;
+    let Some(x) = gen_event(1, ITEMS, i) else {
+        return Ok(0);
+    };
+    if session.events() >= ROOM {
+        return Ok(0);
     }
+    let _word = session.feed(alloc, x)?;
     Ok(session.nodes())
 }
 
@@ -41,11 +44,9 @@ fn greatest<M: Machine>(
 {
     let mut most = 0;
     for i in from..below {
-        if let Some(x) = gen_event(1, ITEMS, i) {
-            let nodes = count(alloc, session, x)?;
-            if i % 5 == 4 {
-                most = nodes.max(most);
-            }
+        let nodes = count(alloc, session, i)?;
+        if i % 5 == 4 {
+            most = nodes.max(most);
         }
     }
     Ok(most)
