@@ -13,6 +13,7 @@ ghost use Rattle.machine_parts.specs.Scope.{types_in, streams_in};
 ghost use Rattle.machine_parts.specs.Parameters.{parameters};
 ghost use Rattle.template_state.specs.Readers.{state_in, later_in, arguments_in};
 ghost use Rattle.delta_code.specs.Begun.{run_of, rest_of};
+ghost use Rattle.delta_code.specs.Eased.{Eased, EasedArguments};
 ghost use Rattle.delta_code.specs.Told.{told, left_after};
 ghost use Rattle.delta_code.specs.Steps.{funs_of, live_run, live_rest, lives_run, lives_rest};
 
@@ -53,8 +54,9 @@ pub fn step<'a>(
     levels: u64,
 ) -> Result<Told, Stop>
     ensures run { IfOk result (λ g. told g ≡ live_run code.now scope.now (state_in s.old) (type_of r.now)) }
-    ensures rest { OnOk result (state_in s.new ≡ live_rest code.now scope.now (state_in s.old) (type_of r.now)) }
+    ensures rest { OnOk result (Eased (live_rest code.now scope.now (state_in s.old) (type_of r.now)) (state_in s.new)) }
     ensures counted { IfOk result (λ g. g.calls ≤ left) }
+    ensures shallow { IfOk result (λ g. g.level ≤ levels) }
     ensures spent { IfErr result (λ e. e ≡ Stop.Spent → left < (live_run code.now scope.now (state_in s.old) (type_of r.now)).calls) }
     ensures deep { IfErr result (λ e. e ≡ Stop.Deep → levels < (live_run code.now scope.now (state_in s.old) (type_of r.now)).level) }
 {
@@ -124,8 +126,9 @@ fn step_both<'a>(
     levels: u64,
 ) -> Result<Told, Stop>
     ensures run { IfOk result (λ g. told g ≡ live_run code.now scope.now (par_state (state_in a.old) (state_in b.old)) (type_of r.now)) }
-    ensures rest { OnOk result (par_state (state_in a.new) (state_in b.new) ≡ live_rest code.now scope.now (par_state (state_in a.old) (state_in b.old)) (type_of r.now)) }
+    ensures rest { OnOk result (Eased (live_rest code.now scope.now (par_state (state_in a.old) (state_in b.old)) (type_of r.now)) (par_state (state_in a.new) (state_in b.new))) }
     ensures counted { IfOk result (λ g. g.calls ≤ left) }
+    ensures shallow { IfOk result (λ g. g.level ≤ levels) }
     ensures spent { IfErr result (λ e. e ≡ Stop.Spent → left < (live_run code.now scope.now (par_state (state_in a.old) (state_in b.old)) (type_of r.now)).calls) }
     ensures deep { IfErr result (λ e. e ≡ Stop.Deep → levels < (live_run code.now scope.now (par_state (state_in a.old) (state_in b.old)) (type_of r.now)).level) }
 {
@@ -150,8 +153,9 @@ fn step_in_turn<'a>(
     levels: u64,
 ) -> Result<Gone, Stop>
     ensures run { IfOk result (λ g. told g.told ≡ live_run code.now scope.now (cat_state (state_in a.old) (later_in l.now)) (type_of r.now)) }
-    ensures rest { IfOk result (λ g. left_after g.state (cat_state (state_in a.new) (later_in l.now)) ≡ live_rest code.now scope.now (cat_state (state_in a.old) (later_in l.now)) (type_of r.now)) }
+    ensures rest { IfOk result (λ g. Eased (live_rest code.now scope.now (cat_state (state_in a.old) (later_in l.now)) (type_of r.now)) (left_after g.state (cat_state (state_in a.new) (later_in l.now)))) }
     ensures counted { IfOk result (λ g. g.told.calls ≤ left) }
+    ensures shallow { IfOk result (λ g. g.told.level ≤ levels) }
     ensures spent { IfErr result (λ e. e ≡ Stop.Spent → left < (live_run code.now scope.now (cat_state (state_in a.old) (later_in l.now)) (type_of r.now)).calls) }
     ensures deep { IfErr result (λ e. e ≡ Stop.Deep → levels < (live_run code.now scope.now (cat_state (state_in a.old) (later_in l.now)) (type_of r.now)).level) }
 {
@@ -181,8 +185,9 @@ fn step_let<'a>(
     levels: u64,
 ) -> Result<Told, Stop>
     ensures run { IfOk result (λ g. told g ≡ live_run code.now scope.now (let_state x.0 (type_of t.old) (state_in a.old) (state_in b.old)) (type_of r.now)) }
-    ensures rest { OnOk result (let_state x.0 (type_of t.new) (state_in a.new) (state_in b.new) ≡ live_rest code.now scope.now (let_state x.0 (type_of t.old) (state_in a.old) (state_in b.old)) (type_of r.now)) }
+    ensures rest { OnOk result (Eased (live_rest code.now scope.now (let_state x.0 (type_of t.old) (state_in a.old) (state_in b.old)) (type_of r.now)) (let_state x.0 (type_of t.new) (state_in a.new) (state_in b.new))) }
     ensures counted { IfOk result (λ g. g.calls ≤ left) }
+    ensures shallow { IfOk result (λ g. g.level ≤ levels) }
     ensures spent { IfErr result (λ e. e ≡ Stop.Spent → left < (live_run code.now scope.now (let_state x.0 (type_of t.old) (state_in a.old) (state_in b.old)) (type_of r.now)).calls) }
     ensures deep { IfErr result (λ e. e ≡ Stop.Deep → levels < (live_run code.now scope.now (let_state x.0 (type_of t.old) (state_in a.old) (state_in b.old)) (type_of r.now)).level) }
 {
@@ -212,8 +217,9 @@ fn step_pair<'a>(
     levels: u64,
 ) -> Result<Told, Stop>
     ensures run { IfOk result (λ g. told g ≡ live_run code.now scope.now (let_par_state x.0 y.0 z.0 (state_in a.old)) (type_of r.now)) }
-    ensures rest { OnOk result (let_par_state x.0 y.0 z.0 (state_in a.new) ≡ live_rest code.now scope.now (let_par_state x.0 y.0 z.0 (state_in a.old)) (type_of r.now)) }
+    ensures rest { OnOk result (Eased (live_rest code.now scope.now (let_par_state x.0 y.0 z.0 (state_in a.old)) (type_of r.now)) (let_par_state x.0 y.0 z.0 (state_in a.new))) }
     ensures counted { IfOk result (λ g. g.calls ≤ left) }
+    ensures shallow { IfOk result (λ g. g.level ≤ levels) }
     ensures spent { IfErr result (λ e. e ≡ Stop.Spent → left < (live_run code.now scope.now (let_par_state x.0 y.0 z.0 (state_in a.old)) (type_of r.now)).calls) }
     ensures deep { IfErr result (λ e. e ≡ Stop.Deep → levels < (live_run code.now scope.now (let_par_state x.0 y.0 z.0 (state_in a.old)) (type_of r.now)).level) }
 {
@@ -241,8 +247,9 @@ fn step_row<'a>(
     levels: u64,
 ) -> Result<Gone, Stop>
     ensures run { IfOk result (λ g. told g.told ≡ live_run code.now scope.now (let_cat_state x.0 y.0 z.0 (state_in a.old)) (type_of r.now)) }
-    ensures rest { IfOk result (λ g. left_after g.state (let_cat_state x.0 y.0 z.0 (state_in a.new)) ≡ live_rest code.now scope.now (let_cat_state x.0 y.0 z.0 (state_in a.old)) (type_of r.now)) }
+    ensures rest { IfOk result (λ g. Eased (live_rest code.now scope.now (let_cat_state x.0 y.0 z.0 (state_in a.old)) (type_of r.now)) (left_after g.state (let_cat_state x.0 y.0 z.0 (state_in a.new)))) }
     ensures counted { IfOk result (λ g. g.told.calls ≤ left) }
+    ensures shallow { IfOk result (λ g. g.told.level ≤ levels) }
     ensures spent { IfErr result (λ e. e ≡ Stop.Spent → left < (live_run code.now scope.now (let_cat_state x.0 y.0 z.0 (state_in a.old)) (type_of r.now)).calls) }
     ensures deep { IfErr result (λ e. e ≡ Stop.Deep → levels < (live_run code.now scope.now (let_cat_state x.0 y.0 z.0 (state_in a.old)) (type_of r.now)).level) }
 {
@@ -275,8 +282,9 @@ fn step_sum<'a>(
     levels: u64,
 ) -> Result<Gone, Stop>
     ensures run { IfOk result (λ g. told g.told ≡ live_run code.now scope.now (sum_state z.0 (type_of t.now) (map entry_in held.old.items) x.0 (later_in l.now) y.0 (later_in m.now)) (type_of r.now)) }
-    ensures rest { IfOk result (λ g. left_after g.state (sum_state z.0 (type_of t.now) (map entry_in held.new.items) x.0 (later_in l.now) y.0 (later_in m.now)) ≡ live_rest code.now scope.now (sum_state z.0 (type_of t.now) (map entry_in held.old.items) x.0 (later_in l.now) y.0 (later_in m.now)) (type_of r.now)) }
+    ensures rest { IfOk result (λ g. Eased (live_rest code.now scope.now (sum_state z.0 (type_of t.now) (map entry_in held.old.items) x.0 (later_in l.now) y.0 (later_in m.now)) (type_of r.now)) (left_after g.state (sum_state z.0 (type_of t.now) (map entry_in held.new.items) x.0 (later_in l.now) y.0 (later_in m.now)))) }
     ensures counted { IfOk result (λ g. g.told.calls ≤ left) }
+    ensures shallow { IfOk result (λ g. g.told.level ≤ levels) }
     ensures spent { IfErr result (λ e. e ≡ Stop.Spent → left < (live_run code.now scope.now (sum_state z.0 (type_of t.now) (map entry_in held.old.items) x.0 (later_in l.now) y.0 (later_in m.now)) (type_of r.now)).calls) }
     ensures deep { IfErr result (λ e. e ≡ Stop.Deep → levels < (live_run code.now scope.now (sum_state z.0 (type_of t.now) (map entry_in held.old.items) x.0 (later_in l.now) y.0 (later_in m.now)) (type_of r.now)).level) }
 {
@@ -317,8 +325,9 @@ fn step_star<'a>(
     levels: u64,
 ) -> Result<Gone, Stop>
     ensures run { IfOk result (λ g. told g.told ≡ live_run code.now scope.now (star_state z.0 (type_of t.now) (map entry_in held.old.items) (later_in l.now) y.0 ys.0 (later_in m.now)) (type_of r.now)) }
-    ensures rest { IfOk result (λ g. left_after g.state (star_state z.0 (type_of t.now) (map entry_in held.new.items) (later_in l.now) y.0 ys.0 (later_in m.now)) ≡ live_rest code.now scope.now (star_state z.0 (type_of t.now) (map entry_in held.old.items) (later_in l.now) y.0 ys.0 (later_in m.now)) (type_of r.now)) }
+    ensures rest { IfOk result (λ g. Eased (live_rest code.now scope.now (star_state z.0 (type_of t.now) (map entry_in held.old.items) (later_in l.now) y.0 ys.0 (later_in m.now)) (type_of r.now)) (left_after g.state (star_state z.0 (type_of t.now) (map entry_in held.new.items) (later_in l.now) y.0 ys.0 (later_in m.now)))) }
     ensures counted { IfOk result (λ g. g.told.calls ≤ left) }
+    ensures shallow { IfOk result (λ g. g.told.level ≤ levels) }
     ensures spent { IfErr result (λ e. e ≡ Stop.Spent → left < (live_run code.now scope.now (star_state z.0 (type_of t.now) (map entry_in held.old.items) (later_in l.now) y.0 ys.0 (later_in m.now)) (type_of r.now)).calls) }
     ensures deep { IfErr result (λ e. e ≡ Stop.Deep → levels < (live_run code.now scope.now (star_state z.0 (type_of t.now) (map entry_in held.old.items) (later_in l.now) y.0 ys.0 (later_in m.now)) (type_of r.now)).level) }
 {
@@ -362,8 +371,9 @@ fn step_wait<'a>(
     levels: u64,
 ) -> Result<Gone, Stop>
     ensures run { IfOk result (λ g. told g.told ≡ live_run code.now scope.now (wait_state x.0 (type_of t.now) (map entry_in held.old.items) (later_in l.now)) (type_of r.now)) }
-    ensures rest { IfOk result (λ g. left_after g.state (wait_state x.0 (type_of t.now) (map entry_in held.new.items) (later_in l.now)) ≡ live_rest code.now scope.now (wait_state x.0 (type_of t.now) (map entry_in held.old.items) (later_in l.now)) (type_of r.now)) }
+    ensures rest { IfOk result (λ g. Eased (live_rest code.now scope.now (wait_state x.0 (type_of t.now) (map entry_in held.old.items) (later_in l.now)) (type_of r.now)) (left_after g.state (wait_state x.0 (type_of t.now) (map entry_in held.new.items) (later_in l.now)))) }
     ensures counted { IfOk result (λ g. g.told.calls ≤ left) }
+    ensures shallow { IfOk result (λ g. g.told.level ≤ levels) }
     ensures spent { IfErr result (λ e. e ≡ Stop.Spent → left < (live_run code.now scope.now (wait_state x.0 (type_of t.now) (map entry_in held.old.items) (later_in l.now)) (type_of r.now)).calls) }
     ensures deep { IfErr result (λ e. e ≡ Stop.Deep → levels < (live_run code.now scope.now (wait_state x.0 (type_of t.now) (map entry_in held.old.items) (later_in l.now)) (type_of r.now)).level) }
 {
@@ -389,8 +399,9 @@ fn step_frame<'a>(
     levels: u64,
 ) -> Result<Told, Stop>
     ensures run { IfOk result (λ g. told g ≡ live_run code.now scope.now (frame_state (arguments_in args.old) (state_in a.old)) (type_of r.now)) }
-    ensures rest { OnOk result (frame_state (arguments_in args.new) (state_in a.new) ≡ live_rest code.now scope.now (frame_state (arguments_in args.old) (state_in a.old)) (type_of r.now)) }
+    ensures rest { OnOk result (Eased (live_rest code.now scope.now (frame_state (arguments_in args.old) (state_in a.old)) (type_of r.now)) (frame_state (arguments_in args.new) (state_in a.new))) }
     ensures counted { IfOk result (λ g. g.calls ≤ left) }
+    ensures shallow { IfOk result (λ g. g.level ≤ levels) }
     ensures spent { IfErr result (λ e. e ≡ Stop.Spent → left < (live_run code.now scope.now (frame_state (arguments_in args.old) (state_in a.old)) (type_of r.now)).calls) }
     ensures deep { IfErr result (λ e. e ≡ Stop.Deep → levels < (live_run code.now scope.now (frame_state (arguments_in args.old) (state_in a.old)) (type_of r.now)).level) }
 {
@@ -417,8 +428,9 @@ fn step_arguments<'a>(
 ) -> Result<AllTold, Stop>
     ensures runs { IfOk result (λ a. (a.calls ≡ (lives_run code.now scope.now (arguments_in args.old)).calls) × ((a.level ≡ (lives_run code.now scope.now (arguments_in args.old)).level) × (a.are_shut ≡ (lives_run code.now scope.now (arguments_in args.old)).are_shut))) }
     ensures entries { OnOk result (map entry_in found.new.items ≡ map entry_in found.old.items ++ parameters (arguments_in args.old) (lives_run code.now scope.now (arguments_in args.old)).outs) }
-    ensures rests { OnOk result (arguments_in args.new ≡ lives_rest code.now scope.now (arguments_in args.old)) }
+    ensures rests { OnOk result (EasedArguments (lives_rest code.now scope.now (arguments_in args.old)) (arguments_in args.new)) }
     ensures counted { IfOk result (λ g. g.calls ≤ left) }
+    ensures shallow { IfOk result (λ g. g.level ≤ levels) }
     ensures spent { IfErr result (λ e. e ≡ Stop.Spent → left < (lives_run code.now scope.now (arguments_in args.old)).calls) }
     ensures deep { IfErr result (λ e. e ≡ Stop.Deep → levels < (lives_run code.now scope.now (arguments_in args.old)).level) }
 {
@@ -449,8 +461,9 @@ fn open<'a>(
     levels: u64,
 ) -> Result<Begun, Stop>
     ensures run { IfOk result (λ a. run_of a ≡ run_later (funs_of code.now) (later_in l.now) (types_in scope.now) (type_of r.now) (streams_in scope.now)) }
-    ensures rest { IfOk result (λ a. rest_of a ≡ rest_later (funs_of code.now) (later_in l.now) (types_in scope.now) (type_of r.now) (streams_in scope.now)) }
+    ensures rest { IfOk result (λ a. Eased (rest_later (funs_of code.now) (later_in l.now) (types_in scope.now) (type_of r.now) (streams_in scope.now)) (rest_of a)) }
     ensures counted { IfOk result (λ g. g.calls ≤ left) }
+    ensures shallow { IfOk result (λ g. g.level ≤ levels) }
     ensures spent { IfErr result (λ e. e ≡ Stop.Spent → left < (run_later (funs_of code.now) (later_in l.now) (types_in scope.now) (type_of r.now) (streams_in scope.now)).calls) }
     ensures deep { IfErr result (λ e. e ≡ Stop.Deep → levels < (run_later (funs_of code.now) (later_in l.now) (types_in scope.now) (type_of r.now) (streams_in scope.now)).level) }
 {
@@ -484,8 +497,9 @@ fn open_known(
     levels: u64,
 ) -> Result<Begun, Stop>
     ensures run { IfOk result (λ a. run_of a ≡ run_later (funs_of code.now) (knowing x.0 (types_held (map entry_in held.now) x.0) (value_of (prefixes_held (map entry_in held.now) x.0)) (later_in l.now)) (types_held (map entry_in held.now)) (type_of r.now) (prefixes_held (map entry_in held.now))) }
-    ensures rest { IfOk result (λ a. rest_of a ≡ rest_later (funs_of code.now) (knowing x.0 (types_held (map entry_in held.now) x.0) (value_of (prefixes_held (map entry_in held.now) x.0)) (later_in l.now)) (types_held (map entry_in held.now)) (type_of r.now) (prefixes_held (map entry_in held.now))) }
+    ensures rest { IfOk result (λ a. Eased (rest_later (funs_of code.now) (knowing x.0 (types_held (map entry_in held.now) x.0) (value_of (prefixes_held (map entry_in held.now) x.0)) (later_in l.now)) (types_held (map entry_in held.now)) (type_of r.now) (prefixes_held (map entry_in held.now))) (rest_of a)) }
     ensures counted { IfOk result (λ g. g.calls ≤ left) }
+    ensures shallow { IfOk result (λ g. g.level ≤ levels) }
     ensures spent { IfErr result (λ e. e ≡ Stop.Spent → left < (run_later (funs_of code.now) (knowing x.0 (types_held (map entry_in held.now) x.0) (value_of (prefixes_held (map entry_in held.now) x.0)) (later_in l.now)) (types_held (map entry_in held.now)) (type_of r.now) (prefixes_held (map entry_in held.now))).calls) }
     ensures deep { IfErr result (λ e. e ≡ Stop.Deep → levels < (run_later (funs_of code.now) (knowing x.0 (types_held (map entry_in held.now) x.0) (value_of (prefixes_held (map entry_in held.now) x.0)) (later_in l.now)) (types_held (map entry_in held.now)) (type_of r.now) (prefixes_held (map entry_in held.now))).level) }
 {
