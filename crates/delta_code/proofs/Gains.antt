@@ -1,7 +1,8 @@
 -- What is gained on a way, form by form.
-use Rattle.std.proofs.Common.{◌≡◌, ◌∙◌, ℕ, ◌+◌, max, Bool, true, false, ◌||◌, ◌++◌, List, [], ◌∷◌, ap, ap₂, refl, sym, subst, arith}
+use Rattle.std.proofs.Common.{◌≡◌, ◌∙◌, ℕ, ◌+◌, max, Bool, true, false, ◌||◌, ◌++◌, List, [], ◌∷◌, map, ap, ap₂, refl, sym, subst, arith}
 use Rattle.stream_prefix.specs.StreamPrefix.{StreamPrefix, star_rest, is_maximal}
-use Rattle.stream_prefix.specs.Tree.{star_of}
+use Rattle.stream_prefix.specs.declared.prefix.Prefix.{Prefix}
+use Rattle.stream_prefix.specs.Tree.{prefix_of, star_of}
 use Rattle.core_term.specs.Parts.{as_star}
 use Rattle.core_term.specs.Run.{Run, Runs, deeper, relabel, cat_run_at, let_run, call_run, one_call}
 use Rattle.delta_code.specs.Way.{gained}
@@ -76,3 +77,25 @@ gained_one items c l n b e =
     same_parts (record { out = star_of items b.out; calls = n + b.calls; level = max l b.level })
     (record { out = star_of items b.out; calls = c + (1 + b.calls); level = max l b.level })
     refl (sum_of n c 1 b.calls e) refl
+
+-- the same of the prefixes that code has
+pub gained_nothing : (v : List Prefix) (a : Run) → v ≡ [] → gained (map prefix_of v) 0 0 a ≡ a
+gained_nothing v a e = ap (λ (l : List Prefix). gained (map prefix_of l) 0 0 a) e ∙ gained_none a
+
+map_append : (xs ys : List Prefix) → map prefix_of (xs ++ ys) ≡ map prefix_of xs ++ map prefix_of ys
+map_append [] ys = refl
+map_append (x ∷ xs) ys = ap (λ (l : List StreamPrefix). prefix_of x ∷ l) (map_append xs ys)
+
+pub gained_behind : (xs news : List Prefix) (p : Prefix) (c l n m : ℕ) (a b : Run) → news ≡ xs ++ p ∷ [] → prefix_of p ≡ a.out → n ≡ c + a.calls → m ≡ max l a.level
+    → gained (map prefix_of news) n m b ≡ gained (map prefix_of xs) c l (relabel as_star (cat_run_at true a b))
+gained_behind xs news p c l n m a b e h f g =
+    ap (λ (v : List Prefix). gained (map prefix_of v) n m b) e
+    ∙ (ap (λ (v : List StreamPrefix). gained v n m b) (map_append xs (p ∷ []) ∙ ap (λ (q : StreamPrefix). map prefix_of xs ++ q ∷ []) h) ∙ gained_item (map prefix_of xs) c l n m a b f g)
+
+star_append : (ps qs : List StreamPrefix) (q : StreamPrefix) → star_of (ps ++ qs) q ≡ star_of ps (star_of qs q)
+star_append [] qs q = refl
+star_append (p ∷ ps) qs q = ap (star_rest p) (star_append ps qs q)
+
+-- items before those of a star
+pub star_more : (xs ys zs : List Prefix) (q : StreamPrefix) → zs ≡ xs ++ ys → star_of (map prefix_of zs) q ≡ star_of (map prefix_of xs) (star_of (map prefix_of ys) q)
+star_more xs ys zs q e = ap (λ (v : List Prefix). star_of (map prefix_of v) q) e ∙ (ap (λ (v : List StreamPrefix). star_of v q) (map_append xs ys) ∙ star_append (map prefix_of xs) (map prefix_of ys) q)

@@ -21,10 +21,10 @@ use Rattle.delta_code.specs.Steps.{funs_of}
 -- a state with what stands round it, from the inside out
 abbrev pub within : Layers → StateTree → StateTree
 within None s = s
-within (Let' x t p a q outer) s = within outer (let_state x.0 (type_of t) (state_in a) s)
+within (Let' x t a q outer) s = within outer (let_state x.0 (type_of t) (state_in a.value) s)
 within (Pair' x y z q outer) s = within outer (let_par_state x.0 y.0 z.0 s)
 within (Row' x y z q outer) s = within outer (let_cat_state x.0 y.0 z.0 s)
-within (Frame' p args q outer) s = within outer (frame_state (arguments_in args) s)
+within (Frame' args q outer) s = within outer (frame_state (arguments_in args.value) s)
 
 -- a run behind whole items and so many calls at this level
 unfoldable pub gained : List StreamPrefix → ℕ → ℕ → Run → Run

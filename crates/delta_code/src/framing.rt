@@ -4,7 +4,7 @@
 //! that stands for another one gives way to it, bindings that aren't used go, and a frame that stands right in
 //! another one becomes one with it. What then is left round a place is no more than the names that are passed.
 
-ghost use Rattle.std.specs.Prelude.{◌≡◌, true, IfOk, OnOk, ◌∷◌, []};
+ghost use Rattle.std.specs.Prelude.{◌≡◌, ◌&&◌, ◌∷◌, [], IfOk, OnOk};
 ghost use Rattle.stream_type.specs.StreamType.{StreamType, type_of};
 ghost use Rattle.delta_state.specs.StateTree.{StateTree, let_state, let_par_state, let_cat_state, frame_state, argument_at, free_in_arguments};
 ghost use Rattle.bunch.specs.Names.{holds};
@@ -21,6 +21,7 @@ use stream_type::{Memory, Ty};
 use template_state::{Arguments, Live, settle, uses};
 
 /// A frame with these arguments goes into what stands round it. Its only error is want of memory.
+#[tactic(auto, using(crate::proofs::Easing::finished_frame))]
 #[inline(never)]
 pub fn add_frame(alloc: Global, layers: &mut Layers, args: Box<Arguments>) -> Result<(), Memory>
     ensures { OnOk result ((s : StateTree) → Eased (within layers.old (frame_state (arguments_in args.value) s)) (within layers.new s)) }
@@ -134,15 +135,16 @@ fn in_frame(
 ) -> Result<Layers, Memory>
     ensures { IfOk result (λ l. (s : StateTree) → Eased (within outer.value (frame_state (arguments_in around.value) (frame_state (arguments_in args.value) s))) (within l s)) }
 {
-    if !(all_plain(&around) && all_plain(&args)) {
-        return stays(alloc, Layers::Frame(around, outer), args);
+    if both_plain(&around, &args) {
+        let mut args = args;
+        compose(alloc, &around, &mut args)?;
+        return framed(alloc, Box::into_inner(outer), args);
     }
-    let mut args = args;
-    compose(alloc, &around, &mut args)?;
-    framed(alloc, Box::into_inner(outer), args)
+    stays(alloc, Layers::Frame(around, outer), args)
 }
 
 // Where a let's name stands for another one, each argument that is the first becomes the second.
+#[tactic(auto, using(crate::proofs::Easing::aliasing))]
 fn put_alias(args: &mut Arguments, x: Name, a: &Live)
     ensures { (t : StreamType) (s : StateTree) → Eased (let_state x.0 t (state_in a.now) (frame_state (arguments_in args.old) s)) (let_state x.0 t (state_in a.now) (frame_state (arguments_in args.new) s)) }
 {
@@ -203,6 +205,13 @@ fn all_plain(args: &Arguments) -> bool
         Arguments::None => true,
         Arguments::Before(_, _, a, others) => plain_one(a) && all_plain(others),
     }
+}
+
+// The same of two frames.
+fn both_plain(around: &Arguments, args: &Arguments) -> bool
+    ensures { result ≡ (are_plain (arguments_in around.now) && are_plain (arguments_in args.now)) }
+{
+    all_plain(around) && all_plain(args)
 }
 
 // The arguments of a call inside a body, on those of that body. Its only error is want of memory; it counts as

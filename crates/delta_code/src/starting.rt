@@ -96,8 +96,8 @@ fn go_on(
     ensures rest { IfOk result (λ a. Eased (within way.layers (reached_rest code.now k reached)) (rest_of a)) }
     ensures counted { IfOk result (λ a. a.calls ≤ left) }
     ensures shallow { IfOk result (λ a. a.level ≤ levels) }
-    ensures spent { IfErr result (λ s. s ≡ Stop.Spent → left < (after way (reached_run code.now k reached)).calls) }
-    ensures deep { IfErr result (λ s. s ≡ Stop.Deep → levels < (after way (reached_run code.now k reached)).level) }
+    ensures spent { IfErr result (λ q. q ≡ Stop.Spent → left < (after way (reached_run code.now k reached)).calls) }
+    ensures deep { IfErr result (λ q. q ≡ Stop.Deep → levels < (after way (reached_run code.now k reached)).level) }
 {
     let mut k = k;
     let mut way = way;
@@ -116,7 +116,7 @@ fn go_on(
 
 // Enters the body of a function on its arguments, counted as a call, and goes on to what is reached in it.
 #[cycle(start)]
-#[tactic(auto, using(machine_parts::proofs::Runs::bodies))]
+#[tactic(auto, using(crate::proofs::Easing::reached_eased, machine_parts::proofs::Runs::bodies))]
 #[inline(never)]
 fn enter(
     alloc: Global,
@@ -135,8 +135,8 @@ fn enter(
     ensures rest { IfOk result (λ e. Eased (within way.old.layers (call_rest_at (funs_of code.now) k f (map hist_value_of values.now) (map prefix_of streams.now))) (within way.new.layers (reached_rest code.now (k - 1) e))) }
     ensures counted { IfOk result (λ e. way.new.calls + reached_calls e ≤ way.old.calls + left) }
     ensures shallow { IfOk result (λ e. max way.new.level (reached_level e) ≤ max way.old.level levels) }
-    ensures spent { IfErr result (λ s. s ≡ Stop.Spent → left < (call_at (funs_of code.now) k f (map hist_value_of values.now) (map prefix_of streams.now)).calls) }
-    ensures deep { IfErr result (λ s. s ≡ Stop.Deep → levels < (call_at (funs_of code.now) k f (map hist_value_of values.now) (map prefix_of streams.now)).level) }
+    ensures spent { IfErr result (λ q. q ≡ Stop.Spent → left < (call_at (funs_of code.now) k f (map hist_value_of values.now) (map prefix_of streams.now)).calls) }
+    ensures deep { IfErr result (λ q. q ≡ Stop.Deep → levels < (call_at (funs_of code.now) k f (map hist_value_of values.now) (map prefix_of streams.now)).level) }
 {
     if left == 0 {
         return Err(Stop::Spent);
@@ -190,6 +190,7 @@ fn start_body(
 // What a term leads to: what it gives, or a call that stands at its own level. What it gave before, and what is
 // left round the place, goes on the way.
 #[cycle(start)]
+#[tactic(auto, using(crate::proofs::Easing::reached_eased))]
 fn reach<'a>(
     alloc: Global,
     code: &Code,
@@ -208,15 +209,15 @@ fn reach<'a>(
     ensures rest { IfOk result (λ e. Eased (within way.old.layers (op_rest code.now k scope.now past.now.value (op_term n.now.value) (type_of r.now))) (within way.new.layers (reached_rest code.now k e))) }
     ensures counted { IfOk result (λ e. way.new.calls + reached_calls e ≤ way.old.calls + left) }
     ensures shallow { IfOk result (λ e. max way.new.level (reached_level e) ≤ max way.old.level levels) }
-    ensures spent { IfErr result (λ s. s ≡ Stop.Spent → left < (op_run code.now k scope.now past.now.value (op_term n.now.value) (type_of r.now)).calls) }
-    ensures deep { IfErr result (λ s. s ≡ Stop.Deep → levels < (op_run code.now k scope.now past.now.value (op_term n.now.value) (type_of r.now)).level) }
+    ensures spent { IfErr result (λ q. q ≡ Stop.Spent → left < (op_run code.now k scope.now past.now.value (op_term n.now.value) (type_of r.now)).calls) }
+    ensures deep { IfErr result (λ q. q ≡ Stop.Deep → levels < (op_run code.now k scope.now past.now.value (op_term n.now.value) (type_of r.now)).level) }
 {
     match &**n {
-        Op::Var(x) => Ok(Reached::Given(named(alloc, scope, *x)?)),
+        Op::Var(x) => Ok(Reached::Given(named(alloc, &*scope, *x)?)),
         Op::Eps => Ok(Reached::Given(at_once(alloc, Prefix::EpsEmp)?)),
         Op::Unit => Ok(Reached::Given(at_once(alloc, Prefix::OneFull)?)),
         Op::Nil => Ok(Reached::Given(no_items(alloc)?)),
-        Op::Past(m) => Ok(Reached::Given(whole_past(alloc, code, k, scope, past, m, r)?)),
+        Op::Past(m) => Ok(Reached::Given(whole_past(alloc, code, k, &*scope, past, m, r)?)),
         Op::Par(a, b) => {
             let (s, t) = par_types(r, &Ty::Eps);
             let both = start_both(alloc, code, k, scope, past, a, s, b, t, left, levels)?;
@@ -262,7 +263,7 @@ fn reach<'a>(
 
 // An item in front of the items after it, which stand at its own level.
 #[cycle(start)]
-#[tactic(auto, using(machine_parts::proofs::Runs::in_turn, machine_parts::proofs::Deeper::turn_deep))]
+#[tactic(auto, using(crate::proofs::Easing::reached_eased, machine_parts::proofs::Runs::in_turn, machine_parts::proofs::Deeper::turn_deep))]
 #[inline(never)]
 fn reach_cons<'a>(
     alloc: Global,
@@ -283,8 +284,8 @@ fn reach_cons<'a>(
     ensures rest { IfOk result (λ e. Eased (within way.old.layers (op_rest code.now k scope.now past.now.value (cons_term (op_term a.now.value) (op_term b.now.value)) (type_of r.now))) (within way.new.layers (reached_rest code.now k e))) }
     ensures counted { IfOk result (λ e. way.new.calls + reached_calls e ≤ way.old.calls + left) }
     ensures shallow { IfOk result (λ e. max way.new.level (reached_level e) ≤ max way.old.level levels) }
-    ensures spent { IfErr result (λ s. s ≡ Stop.Spent → left < (op_run code.now k scope.now past.now.value (cons_term (op_term a.now.value) (op_term b.now.value)) (type_of r.now)).calls) }
-    ensures deep { IfErr result (λ s. s ≡ Stop.Deep → levels < (op_run code.now k scope.now past.now.value (cons_term (op_term a.now.value) (op_term b.now.value)) (type_of r.now)).level) }
+    ensures spent { IfErr result (λ q. q ≡ Stop.Spent → left < (op_run code.now k scope.now past.now.value (cons_term (op_term a.now.value) (op_term b.now.value)) (type_of r.now)).calls) }
+    ensures deep { IfErr result (λ q. q ≡ Stop.Deep → levels < (op_run code.now k scope.now past.now.value (cons_term (op_term a.now.value) (op_term b.now.value)) (type_of r.now)).level) }
 {
     let (s, t) = star_types(r, &Ty::Eps);
     let head = start(alloc, code, k, scope, past, a, s, left, levels)?;
@@ -299,7 +300,7 @@ fn reach_cons<'a>(
 
 // A let, whose body stands at its own level where the head is a name or whole.
 #[cycle(start)]
-#[tactic(auto, using(machine_parts::proofs::Runs::spent_after, machine_parts::proofs::Deeper::let_deep))]
+#[tactic(auto, using(crate::proofs::Easing::reached_eased, machine_parts::proofs::Runs::spent_after, machine_parts::proofs::Deeper::let_deep))]
 #[inline(never)]
 fn reach_let<'a>(
     alloc: Global,
@@ -322,17 +323,17 @@ fn reach_let<'a>(
     ensures rest { IfOk result (λ e. Eased (within way.old.layers (op_rest code.now k scope.now past.now.value (let_term x.0 (type_of s.now) (op_term a.now.value) (op_term b.now.value)) (type_of r.now))) (within way.new.layers (reached_rest code.now k e))) }
     ensures counted { IfOk result (λ e. way.new.calls + reached_calls e ≤ way.old.calls + left) }
     ensures shallow { IfOk result (λ e. max way.new.level (reached_level e) ≤ max way.old.level levels) }
-    ensures spent { IfErr result (λ s. s ≡ Stop.Spent → left < (op_run code.now k scope.now past.now.value (let_term x.0 (type_of s.now) (op_term a.now.value) (op_term b.now.value)) (type_of r.now)).calls) }
-    ensures deep { IfErr result (λ s. s ≡ Stop.Deep → levels < (op_run code.now k scope.now past.now.value (let_term x.0 (type_of s.now) (op_term a.now.value) (op_term b.now.value)) (type_of r.now)).level) }
+    ensures spent { IfErr result (λ q. q ≡ Stop.Spent → left < (op_run code.now k scope.now past.now.value (let_term x.0 (type_of s.now) (op_term a.now.value) (op_term b.now.value)) (type_of r.now)).calls) }
+    ensures deep { IfErr result (λ q. q ≡ Stop.Deep → levels < (op_run code.now k scope.now past.now.value (let_term x.0 (type_of s.now) (op_term a.now.value) (op_term b.now.value)) (type_of r.now)).level) }
 {
     let head = start(alloc, code, k, scope, past, a, s, left, inside(levels))?;
     let rest = left - head.calls;
     if is_var(a) || maximal(&head.output) {
         let output = into_let(alloc, way, is_var(a), x, s, head)?;
-        let inner = Scope::Stream(x, s, &output, scope);
+        let inner = Scope::Stream(x, s, &output, &*scope);
         return reach(alloc, code, k, &inner, past, b, r, rest, levels, way);
     }
-    let inner = Scope::Stream(x, s, &head.output, scope);
+    let inner = Scope::Stream(x, s, &head.output, &*scope);
     let body = start(alloc, code, k, &inner, past, b, r, rest, inside(levels))?;
     Ok(Reached::Given(bound(alloc, false, x, s, head, body)?))
 }
@@ -361,12 +362,12 @@ fn reach_pair<'a>(
     ensures rest { IfOk result (λ e. Eased (within way.old.layers (op_rest code.now k scope.now past.now.value (let_par_term x.0 y.0 z.0 (op_term a.now.value)) (type_of r.now))) (within way.new.layers (reached_rest code.now k e))) }
     ensures counted { IfOk result (λ e. way.new.calls + reached_calls e ≤ way.old.calls + left) }
     ensures shallow { IfOk result (λ e. max way.new.level (reached_level e) ≤ max way.old.level levels) }
-    ensures spent { IfErr result (λ s. s ≡ Stop.Spent → left < (op_run code.now k scope.now past.now.value (let_par_term x.0 y.0 z.0 (op_term a.now.value)) (type_of r.now)).calls) }
-    ensures deep { IfErr result (λ s. s ≡ Stop.Deep → levels < (op_run code.now k scope.now past.now.value (let_par_term x.0 y.0 z.0 (op_term a.now.value)) (type_of r.now)).level) }
+    ensures spent { IfErr result (λ q. q ≡ Stop.Spent → left < (op_run code.now k scope.now past.now.value (let_par_term x.0 y.0 z.0 (op_term a.now.value)) (type_of r.now)).calls) }
+    ensures deep { IfErr result (λ q. q ≡ Stop.Deep → levels < (op_run code.now k scope.now past.now.value (let_par_term x.0 y.0 z.0 (op_term a.now.value)) (type_of r.now)).level) }
 {
-    let (s, t) = par_types(type_at(scope, z, &Ty::Eps), &Ty::Eps);
-    let (u, v) = par_parts(stream_at(scope, z, &Prefix::EpsEmp), &Prefix::EpsEmp);
-    let outer = Scope::Stream(x, s, u, scope);
+    let (s, t) = par_types(type_at(&*scope, z, &Ty::Eps), &Ty::Eps);
+    let (u, v) = par_parts(stream_at(&*scope, z, &Prefix::EpsEmp), &Prefix::EpsEmp);
+    let outer = Scope::Stream(x, s, u, &*scope);
     let inner = Scope::Stream(y, t, v, &outer);
     into_pair(alloc, &mut way.layers, x, y, z)?;
     reach(alloc, code, k, &inner, past, a, r, left, levels, way)
@@ -396,14 +397,14 @@ fn reach_row<'a>(
     ensures rest { IfOk result (λ e. Eased (within way.old.layers (op_rest code.now k scope.now past.now.value (let_cat_term x.0 y.0 z.0 (op_term a.now.value)) (type_of r.now))) (within way.new.layers (reached_rest code.now k e))) }
     ensures counted { IfOk result (λ e. way.new.calls + reached_calls e ≤ way.old.calls + left) }
     ensures shallow { IfOk result (λ e. max way.new.level (reached_level e) ≤ max way.old.level levels) }
-    ensures spent { IfErr result (λ s. s ≡ Stop.Spent → left < (op_run code.now k scope.now past.now.value (let_cat_term x.0 y.0 z.0 (op_term a.now.value)) (type_of r.now)).calls) }
-    ensures deep { IfErr result (λ s. s ≡ Stop.Deep → levels < (op_run code.now k scope.now past.now.value (let_cat_term x.0 y.0 z.0 (op_term a.now.value)) (type_of r.now)).level) }
+    ensures spent { IfErr result (λ q. q ≡ Stop.Spent → left < (op_run code.now k scope.now past.now.value (let_cat_term x.0 y.0 z.0 (op_term a.now.value)) (type_of r.now)).calls) }
+    ensures deep { IfErr result (λ q. q ≡ Stop.Deep → levels < (op_run code.now k scope.now past.now.value (let_cat_term x.0 y.0 z.0 (op_term a.now.value)) (type_of r.now)).level) }
 {
-    let ty = type_at(scope, z, &Ty::Eps);
-    let p = stream_at(scope, z, &Prefix::EpsEmp);
+    let ty = type_at(&*scope, z, &Ty::Eps);
+    let p = stream_at(&*scope, z, &Prefix::EpsEmp);
     let (s, t) = cat_types(ty, &Ty::Eps);
     let v = second_part(alloc, t, p)?;
-    let outer = Scope::Stream(x, s, first_part(p, &Prefix::EpsEmp), scope);
+    let outer = Scope::Stream(x, s, first_part(p, &Prefix::EpsEmp), &*scope);
     let inner = Scope::Stream(y, t, &v, &outer);
     into_cut(alloc, &mut way.layers, x, y, z, ty, p)?;
     reach(alloc, code, k, &inner, past, a, r, left, levels, way)
@@ -411,6 +412,7 @@ fn reach_row<'a>(
 
 // A case on a sum.
 #[cycle(start)]
+#[tactic(auto, using(crate::proofs::Easing::reached_eased))]
 #[inline(never)]
 fn reach_sum<'a>(
     alloc: Global,
@@ -437,23 +439,23 @@ fn reach_sum<'a>(
     ensures rest { IfOk result (λ e. Eased (within way.old.layers (op_rest code.now k scope.now past.now.value (op_term n.now.value) (type_of r.now))) (within way.new.layers (reached_rest code.now k e))) }
     ensures counted { IfOk result (λ e. way.new.calls + reached_calls e ≤ way.old.calls + left) }
     ensures shallow { IfOk result (λ e. max way.new.level (reached_level e) ≤ max way.old.level levels) }
-    ensures spent { IfErr result (λ s. s ≡ Stop.Spent → left < (op_run code.now k scope.now past.now.value (op_term n.now.value) (type_of r.now)).calls) }
-    ensures deep { IfErr result (λ s. s ≡ Stop.Deep → levels < (op_run code.now k scope.now past.now.value (op_term n.now.value) (type_of r.now)).level) }
+    ensures spent { IfErr result (λ q. q ≡ Stop.Spent → left < (op_run code.now k scope.now past.now.value (op_term n.now.value) (type_of r.now)).calls) }
+    ensures deep { IfErr result (λ q. q ≡ Stop.Deep → levels < (op_run code.now k scope.now past.now.value (op_term n.now.value) (type_of r.now)).level) }
 {
-    let (s, u) = sum_types(type_at(scope, z, &Ty::Eps), &Ty::Eps);
-    match side_taken(stream_at(scope, z, &Prefix::EpsEmp)) {
+    let (s, u) = sum_types(type_at(&*scope, z, &Ty::Eps), &Ty::Eps);
+    match side_taken(stream_at(&*scope, z, &Prefix::EpsEmp)) {
         Sided::Left(q) => {
             into_alias(alloc, &mut way.layers, x, s, q, z)?;
-            let inner = Scope::Stream(x, s, q, scope);
+            let inner = Scope::Stream(x, s, q, &*scope);
             reach(alloc, code, k, &inner, past, a, r, left, levels, way)
         }
         Sided::Right(q) => {
             into_alias(alloc, &mut way.layers, y, u, q, z)?;
-            let inner = Scope::Stream(y, u, q, scope);
+            let inner = Scope::Stream(y, u, q, &*scope);
             reach(alloc, code, k, &inner, past, b, r, left, levels, way)
         }
         Sided::Nothing => {
-            let held = held_by(alloc, n, scope)?;
+            let held = held_by(alloc, n, &*scope)?;
             let one = later(a, past, k)?;
             let two = later(b, past, k)?;
             let ty = stream_type::copy(alloc, t)?;
@@ -465,6 +467,7 @@ fn reach_sum<'a>(
 
 // A case on a star.
 #[cycle(start)]
+#[tactic(auto, using(crate::proofs::Easing::reached_eased))]
 #[inline(never)]
 fn reach_star<'a>(
     alloc: Global,
@@ -491,29 +494,29 @@ fn reach_star<'a>(
     ensures rest { IfOk result (λ e. Eased (within way.old.layers (op_rest code.now k scope.now past.now.value (op_term n.now.value) (type_of r.now))) (within way.new.layers (reached_rest code.now k e))) }
     ensures counted { IfOk result (λ e. way.new.calls + reached_calls e ≤ way.old.calls + left) }
     ensures shallow { IfOk result (λ e. max way.new.level (reached_level e) ≤ max way.old.level levels) }
-    ensures spent { IfErr result (λ s. s ≡ Stop.Spent → left < (op_run code.now k scope.now past.now.value (op_term n.now.value) (type_of r.now)).calls) }
-    ensures deep { IfErr result (λ s. s ≡ Stop.Deep → levels < (op_run code.now k scope.now past.now.value (op_term n.now.value) (type_of r.now)).level) }
+    ensures spent { IfErr result (λ q. q ≡ Stop.Spent → left < (op_run code.now k scope.now past.now.value (op_term n.now.value) (type_of r.now)).calls) }
+    ensures deep { IfErr result (λ q. q ≡ Stop.Deep → levels < (op_run code.now k scope.now past.now.value (op_term n.now.value) (type_of r.now)).level) }
 {
-    let ty = type_at(scope, z, &Ty::Eps);
+    let ty = type_at(&*scope, z, &Ty::Eps);
     let (s, u) = star_types(ty, &Ty::Eps);
-    match star_taken(stream_at(scope, z, &Prefix::EpsEmp)) {
+    match star_taken(stream_at(&*scope, z, &Prefix::EpsEmp)) {
         Taken::Over => reach(alloc, code, k, scope, past, a, r, left, levels, way),
         Taken::First(q) => {
             let qs = star_begun(alloc)?;
             into_row(alloc, &mut way.layers, y, ys, z)?;
-            let outer = Scope::Stream(y, s, q, scope);
+            let outer = Scope::Stream(y, s, q, &*scope);
             let inner = Scope::Stream(ys, u, &qs, &outer);
             reach(alloc, code, k, &inner, past, b, r, left, levels, way)
         }
         Taken::Item(q, after, end) => {
             let qs = items_after(alloc, after, end)?;
             into_two(alloc, &mut way.layers, y, s, q, ys, ty, &qs, z)?;
-            let outer = Scope::Stream(y, s, q, scope);
+            let outer = Scope::Stream(y, s, q, &*scope);
             let inner = Scope::Stream(ys, u, &qs, &outer);
             reach(alloc, code, k, &inner, past, b, r, left, levels, way)
         }
         Taken::Nothing => {
-            let held = held_by(alloc, n, scope)?;
+            let held = held_by(alloc, n, &*scope)?;
             let one = later(a, past, k)?;
             let two = later(b, past, k)?;
             let ty = stream_type::copy(alloc, t)?;
@@ -525,6 +528,7 @@ fn reach_star<'a>(
 
 // A wait.
 #[cycle(start)]
+#[tactic(auto, using(crate::proofs::Easing::reached_eased))]
 #[inline(never)]
 fn reach_wait<'a>(
     alloc: Global,
@@ -548,25 +552,25 @@ fn reach_wait<'a>(
     ensures rest { IfOk result (λ e. Eased (within way.old.layers (op_rest code.now k scope.now past.now.value (op_term n.now.value) (type_of r.now))) (within way.new.layers (reached_rest code.now k e))) }
     ensures counted { IfOk result (λ e. way.new.calls + reached_calls e ≤ way.old.calls + left) }
     ensures shallow { IfOk result (λ e. max way.new.level (reached_level e) ≤ max way.old.level levels) }
-    ensures spent { IfErr result (λ s. s ≡ Stop.Spent → left < (op_run code.now k scope.now past.now.value (op_term n.now.value) (type_of r.now)).calls) }
-    ensures deep { IfErr result (λ s. s ≡ Stop.Deep → levels < (op_run code.now k scope.now past.now.value (op_term n.now.value) (type_of r.now)).level) }
+    ensures spent { IfErr result (λ q. q ≡ Stop.Spent → left < (op_run code.now k scope.now past.now.value (op_term n.now.value) (type_of r.now)).calls) }
+    ensures deep { IfErr result (λ q. q ≡ Stop.Deep → levels < (op_run code.now k scope.now past.now.value (op_term n.now.value) (type_of r.now)).level) }
 {
-    let p = stream_at(scope, x, &Prefix::EpsEmp);
+    let p = stream_at(&*scope, x, &Prefix::EpsEmp);
     if !maximal(p) {
-        let held = held_by(alloc, n, scope)?;
+        let held = held_by(alloc, n, &*scope)?;
         let code = later(a, past, k)?;
         let ty = stream_type::copy(alloc, t)?;
         let state = Live::Wait(x, ty, held, code);
         return Ok(Reached::Given(waiting(alloc, r, state)?));
     }
-    let known = knowing(alloc, x, type_at(scope, x, &Ty::Eps), p, past)?;
+    let known = knowing(alloc, x, type_at(&*scope, x, &Ty::Eps), p, past)?;
     reach(alloc, code, k, scope, &known, a, r, left, levels, way)
 }
 
 // `f{ms}(es)`, of the function's own type. Where each argument is a name or whole, the call stands at the level of
 // the whole; else its body stands one deeper.
 #[cycle(start)]
-#[tactic(auto, using(machine_parts::proofs::Deeper::call_deep))]
+#[tactic(auto, using(crate::proofs::Easing::reached_eased, machine_parts::proofs::Deeper::call_deep))]
 #[inline(never)]
 fn reach_call<'a>(
     alloc: Global,
@@ -587,8 +591,8 @@ fn reach_call<'a>(
     ensures rest { IfOk result (λ e. (r : StreamType) → Eased (within way.old.layers (op_rest code.now k scope.now past.now.value (call_term f (map expr_of ms.now) (operand_terms es.now)) r)) (within way.new.layers (reached_rest code.now k e))) }
     ensures counted { IfOk result (λ e. way.new.calls + reached_calls e ≤ way.old.calls + left) }
     ensures shallow { IfOk result (λ e. max way.new.level (reached_level e) ≤ max way.old.level levels) }
-    ensures spent { IfErr result (λ s. s ≡ Stop.Spent → (r : StreamType) → left < (op_run code.now k scope.now past.now.value (call_term f (map expr_of ms.now) (operand_terms es.now)) r).calls) }
-    ensures deep { IfErr result (λ s. s ≡ Stop.Deep → (r : StreamType) → levels < (op_run code.now k scope.now past.now.value (call_term f (map expr_of ms.now) (operand_terms es.now)) r).level) }
+    ensures spent { IfErr result (λ q. q ≡ Stop.Spent → (r : StreamType) → left < (op_run code.now k scope.now past.now.value (call_term f (map expr_of ms.now) (operand_terms es.now)) r).calls) }
+    ensures deep { IfErr result (λ q. q ≡ Stop.Deep → (r : StreamType) → levels < (op_run code.now k scope.now past.now.value (call_term f (map expr_of ms.now) (operand_terms es.now)) r).level) }
 {
     if levels == 0 {
         return Err(Stop::Deep);
@@ -609,6 +613,7 @@ fn reach_call<'a>(
 
 // The left side of a sum.
 #[cycle(start)]
+#[tactic(auto, using(crate::proofs::Easing::same_eased))]
 #[inline(never)]
 fn start_left<'a>(
     alloc: Global,
@@ -636,6 +641,7 @@ fn start_left<'a>(
 
 // The right side of a sum.
 #[cycle(start)]
+#[tactic(auto, using(crate::proofs::Easing::same_eased))]
 #[inline(never)]
 fn start_right<'a>(
     alloc: Global,
@@ -663,7 +669,7 @@ fn start_right<'a>(
 
 // Two terms at once, each with its type.
 #[cycle(start)]
-#[tactic(auto, using(machine_parts::proofs::Runs::spent_after))]
+#[tactic(auto, using(crate::proofs::Easing::par_eased, machine_parts::proofs::Runs::spent_after))]
 #[inline(never)]
 fn start_both<'a>(
     alloc: Global,
@@ -693,7 +699,7 @@ fn start_both<'a>(
 
 // Two terms one after the other, each with its type: the second only once the first is whole.
 #[cycle(start)]
-#[tactic(auto, using(machine_parts::proofs::Runs::in_turn, machine_parts::proofs::Deeper::turn_deep))]
+#[tactic(auto, using(crate::proofs::Easing::cat_eased, crate::proofs::Easing::same_eased, machine_parts::proofs::Runs::in_turn, machine_parts::proofs::Deeper::turn_deep))]
 #[inline(never)]
 fn start_in_turn<'a>(
     alloc: Global,
@@ -728,7 +734,7 @@ fn start_in_turn<'a>(
 // Arguments, for parameters of these types; one without a parameter counts as of type `eps`, and no state
 // of it is kept.
 #[cycle(start)]
-#[tactic(auto, using(machine_parts::proofs::Runs::arguments))]
+#[tactic(auto, using(crate::proofs::Easing::arguments_eased, machine_parts::proofs::Runs::arguments))]
 #[inline(never)]
 fn start_arguments<'a>(
     alloc: Global,
@@ -746,8 +752,8 @@ fn start_arguments<'a>(
     ensures rests { IfOk result (λ a. EasedArguments (ops_rest code.now k scope.now past.now.value (operand_terms es.now) (names_in params.now) (types_listed params.now)) (rests_of a)) }
     ensures counted { IfOk result (λ a. a.calls ≤ left) }
     ensures shallow { IfOk result (λ a. a.level ≤ levels) }
-    ensures spent { IfErr result (λ s. s ≡ Stop.Spent → left < (ops_run code.now k scope.now past.now.value (operand_terms es.now) (types_listed params.now)).calls) }
-    ensures deep { IfErr result (λ s. s ≡ Stop.Deep → levels < (ops_run code.now k scope.now past.now.value (operand_terms es.now) (types_listed params.now)).level) }
+    ensures spent { IfErr result (λ q. q ≡ Stop.Spent → left < (ops_run code.now k scope.now past.now.value (operand_terms es.now) (types_listed params.now)).calls) }
+    ensures deep { IfErr result (λ q. q ≡ Stop.Deep → levels < (ops_run code.now k scope.now past.now.value (operand_terms es.now) (types_listed params.now)).level) }
 {
     let Operands::Before(e, more) = es else {
         return Ok(no_arguments(alloc)?);

@@ -44,6 +44,7 @@ use template_state::{Arguments, Code, Later, Live};
 /// and `rest_of` in `delta_state`. It is `Spent` only where it makes more, and `Deep` only where it makes one
 /// at a greater level. Its other error is want of memory. After an error the state is partly changed.
 #[cycle(step)]
+#[tactic(auto, using(crate::proofs::Easing::eased_same, crate::proofs::Easing::same_eased))]
 pub fn step<'a>(
     alloc: Global,
     code: &Code,
@@ -113,7 +114,7 @@ fn put(s: &mut Live, gone: Gone) -> Told
 
 // Both at once.
 #[cycle(step)]
-#[tactic(auto, using(machine_parts::proofs::Runs::spent_after))]
+#[tactic(auto, using(crate::proofs::Easing::par_eased, machine_parts::proofs::Runs::spent_after))]
 #[inline(never)]
 fn step_both<'a>(
     alloc: Global,
@@ -140,7 +141,7 @@ fn step_both<'a>(
 
 // The rest of the first, then the second.
 #[cycle(step)]
-#[tactic(auto, using(machine_parts::proofs::Runs::in_turn, machine_parts::proofs::Deeper::turn_deep))]
+#[tactic(auto, using(crate::proofs::Easing::cat_eased, crate::proofs::Easing::same_eased, machine_parts::proofs::Runs::in_turn, machine_parts::proofs::Deeper::turn_deep))]
 #[inline(never)]
 fn step_in_turn<'a>(
     alloc: Global,
@@ -170,7 +171,7 @@ fn step_in_turn<'a>(
 
 // A let.
 #[cycle(step)]
-#[tactic(auto, using(machine_parts::proofs::Runs::spent_after, machine_parts::proofs::Deeper::let_deep))]
+#[tactic(auto, using(crate::proofs::Easing::let_eased, machine_parts::proofs::Runs::spent_after, machine_parts::proofs::Deeper::let_deep))]
 #[inline(never)]
 fn step_let<'a>(
     alloc: Global,
@@ -203,6 +204,7 @@ fn step_let<'a>(
 
 // `let (x, y) = z`.
 #[cycle(step)]
+#[tactic(auto, using(crate::proofs::Easing::let_par_eased))]
 #[inline(never)]
 fn step_pair<'a>(
     alloc: Global,
@@ -264,7 +266,7 @@ fn step_row<'a>(
 }
 
 // A case on a sum, on what was held and what comes.
-#[tactic(auto, using(machine_parts::proofs::HeldAndComing::held_forms))]
+#[tactic(auto, using(crate::proofs::Easing::cases_eased, machine_parts::proofs::HeldAndComing::held_forms))]
 #[inline(never)]
 fn step_sum<'a>(
     alloc: Global,
@@ -307,7 +309,7 @@ fn step_sum<'a>(
 }
 
 // A case on a star, on what was held and what comes.
-#[tactic(auto, using(machine_parts::proofs::HeldAndComing::held_forms))]
+#[tactic(auto, using(crate::proofs::Easing::cases_eased, machine_parts::proofs::HeldAndComing::held_forms))]
 #[inline(never)]
 fn step_star<'a>(
     alloc: Global,
@@ -356,7 +358,7 @@ fn step_star<'a>(
 }
 
 // A wait, on what was held and what comes.
-#[tactic(auto, using(machine_parts::proofs::HeldAndComing::held_forms, machine_parts::proofs::Runs::waits))]
+#[tactic(auto, using(crate::proofs::Easing::cases_eased, machine_parts::proofs::HeldAndComing::held_forms, machine_parts::proofs::Runs::waits))]
 #[inline(never)]
 fn step_wait<'a>(
     alloc: Global,
@@ -386,7 +388,7 @@ fn step_wait<'a>(
 
 // A body on its arguments.
 #[cycle(step)]
-#[tactic(auto, using(machine_parts::proofs::HeldAndComing::frames, machine_parts::proofs::Deeper::frame_deep))]
+#[tactic(auto, using(crate::proofs::Easing::frame_eased, machine_parts::proofs::HeldAndComing::frames, machine_parts::proofs::Deeper::frame_deep))]
 #[inline(never)]
 fn step_frame<'a>(
     alloc: Global,
@@ -415,7 +417,7 @@ fn step_frame<'a>(
 
 // The arguments of a frame, each put with its type from before behind what was found.
 #[cycle(step)]
-#[tactic(auto, using(machine_parts::proofs::Runs::spent_after))]
+#[tactic(auto, using(crate::proofs::Easing::arguments_eased, machine_parts::proofs::Runs::spent_after))]
 #[inline(never)]
 fn step_arguments<'a>(
     alloc: Global,

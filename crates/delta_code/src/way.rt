@@ -3,7 +3,7 @@
 //! A call at its caller's level stands behind whole items, and in lets, destructurings and frames that give
 //! nothing more themselves. What they give is kept in a `Way`, and nothing waits for the call on the stack.
 
-ghost use Rattle.std.specs.Prelude.{◌≡◌, ◌≤◌, ◌<◌, ◌+◌, ◌^◌, ◌||◌, true, max, map, IfOk, OnOk};
+ghost use Rattle.std.specs.Prelude.{◌≡◌, ◌<◌, ◌+◌, ◌^◌, ◌||◌, true, false, max, map, IfOk, OnOk};
 ghost use Rattle.stream_type.specs.StreamType.{type_of};
 ghost use Rattle.stream_prefix.specs.StreamPrefix.{is_maximal, der};
 ghost use Rattle.stream_prefix.specs.Tree.{prefix_of, star_of};
@@ -68,6 +68,7 @@ pub enum Reached {
 }
 
 /// The way to the place where one stands.
+#[tactic(auto, using(crate::proofs::Gains::gained_nothing))]
 pub fn no_way(alloc: Global) -> Way
     ensures run { (a : Run) → after result a ≡ a }
     ensures rest { (s : StateTree) → within result.layers s ≡ s }
@@ -84,6 +85,7 @@ pub fn no_way(alloc: Global) -> Way
 
 /// Goes on into a let of this name and type, whose head is a name or whole, and answers what the head gives.
 /// Its only error is want of memory.
+#[tactic(auto, using(crate::proofs::Gains::gained_let))]
 #[inline(never)]
 pub fn into_let(
     alloc: Global,
@@ -110,6 +112,7 @@ pub fn into_let(
 }
 
 /// Goes on behind an item that is whole. Its only error is want of memory.
+#[tactic(auto, using(crate::proofs::Gains::gained_behind))]
 #[inline(never)]
 pub fn behind_item(way: &mut Way, head: Begun) -> Result<(), Memory>
     requires room { way.old.calls + head.calls < 2 ^ 64 }
@@ -126,6 +129,7 @@ pub fn behind_item(way: &mut Way, head: Begun) -> Result<(), Memory>
 
 /// Goes on into a call whose arguments are names or whole, and answers what they give. Its only error is want
 /// of memory.
+#[tactic(auto, using(crate::proofs::Gains::gained_call))]
 #[inline(never)]
 pub fn into_call(alloc: Global, way: &mut Way, arguments: Passed) -> Result<Vec<Prefix>, Memory>
     requires room { way.old.calls + arguments.calls < 2 ^ 64 }
@@ -144,6 +148,7 @@ pub fn into_call(alloc: Global, way: &mut Way, arguments: Passed) -> Result<Vec<
 }
 
 /// Goes on into a called body, which is counted.
+#[tactic(auto, using(crate::proofs::Gains::gained_one))]
 pub fn into_body(way: &mut Way)
     requires { way.old.calls + 1 < 2 ^ 64 }
     ensures run { (b : Run) → after way.new b ≡ after way.old (one_call b) }
@@ -156,6 +161,7 @@ pub fn into_body(way: &mut Way)
 
 /// What is given at the end of a way, as the whole gives it. Its only error is want of memory; it counts as that
 /// where items stand in front of what is no star, which no typed program gives.
+#[tactic(auto, using(crate::proofs::Gains::gained_is))]
 #[inline(never)]
 pub fn arrived(alloc: Global, way: Way, b: Begun) -> Result<Begun, Memory>
     requires { way.calls + b.calls < 2 ^ 64 }
@@ -173,7 +179,7 @@ pub fn arrived(alloc: Global, way: Way, b: Begun) -> Result<Begun, Memory>
 }
 
 // Whole items before the rest of a star.
-#[tactic(auto, using(machine_parts::proofs::StarForms::star_forms))]
+#[tactic(auto, using(machine_parts::proofs::StarForms::star_forms, crate::proofs::Gains::star_more))]
 fn behind_items(alloc: Global, items: Vec<Prefix>, rest: Box<Prefix>) -> Result<Box<Prefix>, Memory>
     ensures { IfOk result (λ r. prefix_of r.value ≡ star_of (map prefix_of items.items) (prefix_of rest.value)) }
 {

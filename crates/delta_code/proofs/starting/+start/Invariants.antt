@@ -1,5 +1,5 @@
 -- What is left to go through: what calls may weigh at the depth, and the weight of what stands there.
-use Rattle.std.proofs.Common.{◌≡◌, ◌≤◌, ◌<◌, ◌+◌, ◌*◌, ◌×◌, max}
+use Rattle.std.proofs.Common.{◌≡◌, ◌≤◌, ◌<◌, ◌+◌, ◌*◌, max}
 use Rattle.machine_parts.specs.Weights.{weight, weight_of_all, weight_of_calls}
 use Rattle.template_state.specs.Readers.{op_term, operand_terms}
 use Rattle.template_state.specs.Templates.{bodies_in}
@@ -63,13 +63,13 @@ abbrev pub decreases-start_arguments : goal.decreases-start_arguments
 decreases-start_arguments l = 4 * (weight_of_calls l.k (bodies_in l.code.now) + (2 + weight_of_all (operand_terms l.es.now)))
 
 -- what is still to come at the end of the way is what was to come when the loop began
-abbrev pub invariant-calls : goal.invariant-calls
-invariant-calls l = (after l.way (reached_run l.code.now l.k l.reached) ≡ after l.initial.way (reached_run l.code.now l.initial.k l.initial.reached))
+abbrev pub invariant-go_on-calls : goal.invariant-go_on-calls
+invariant-go_on-calls l = (after l.way (reached_run l.code.now l.k l.reached) ≡ after l.initial.way (reached_run l.code.now l.initial.k l.initial.reached))
     × (Eased (within l.initial.way.layers (reached_rest l.code.now l.initial.k l.initial.reached)) (within l.way.layers (reached_rest l.code.now l.k l.reached)))
     × (l.way.calls + reached_calls l.reached ≤ l.left)
     × (max l.way.level (reached_level l.reached) ≤ l.levels)
     × (l.left < l.k + l.way.calls)
     × (l.k ≤ l.initial.k)
 
-abbrev pub decreases-calls : goal.decreases-calls
-decreases-calls l = l.k
+abbrev pub decreases-go_on-calls : goal.decreases-go_on-calls
+decreases-go_on-calls l = l.k
