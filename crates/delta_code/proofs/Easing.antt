@@ -186,3 +186,6 @@ pub two_eased : {a b w v : StateTree} {x y z : ℕ} {s t u : StreamType} → Eas
 two_eased h e f = same_eased (eased_let (eased_same refl) (eased_let (eased_same refl) h)) e f
 
 pub ruleset cases_eased = (same_eased, eased_same, alias_eased, two_eased, let_cat_eased)
+
+pub moved : {l m : Layers} (b e : StateTree) → m ≡ l → Eased (within m b) e → Eased (within l b) e
+moved b e i h = subst (λ (n : Layers). Eased (within n b) e) i h

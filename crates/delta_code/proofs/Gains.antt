@@ -1,10 +1,11 @@
 -- What is gained on a way, form by form.
-use Rattle.std.proofs.Common.{◌≡◌, ◌∙◌, ℕ, ◌+◌, max, Bool, true, false, ◌||◌, ◌++◌, List, [], ◌∷◌, map, ap, ap₂, refl, sym, subst, arith}
+use Rattle.std.proofs.Common.{◌≡◌, ◌∙◌, ℕ, ◌+◌, ◌-◌, ◌<◌, ◌≤◌, max, Bool, true, false, ◌||◌, ◌++◌, List, [], ◌∷◌, map, ap, ap₂, refl, sym, subst, arith}
 use Rattle.stream_prefix.specs.StreamPrefix.{StreamPrefix, star_rest, is_maximal}
 use Rattle.stream_prefix.specs.declared.prefix.Prefix.{Prefix}
 use Rattle.stream_prefix.specs.Tree.{prefix_of, star_of}
 use Rattle.core_term.specs.Parts.{as_star}
-use Rattle.core_term.specs.Run.{Run, Runs, deeper, relabel, cat_run_at, let_run, call_run, one_call}
+use Rattle.core_term.specs.Run.{Run, Runs, deeper, relabel, cat_run, cat_run_at, let_run, call_run, one_call}
+use Rattle.machine_parts.proofs.Runs.{cat_run_both}
 use Rattle.delta_code.specs.Way.{gained}
 
 -- runs with the same parts are the same
@@ -99,3 +100,18 @@ star_append (p ∷ ps) qs q = ap (star_rest p) (star_append ps qs q)
 -- items before those of a star
 pub star_more : (xs ys zs : List Prefix) (q : StreamPrefix) → zs ≡ xs ++ ys → star_of (map prefix_of zs) q ≡ star_of (map prefix_of xs) (star_of (map prefix_of ys) q)
 star_more xs ys zs q e = ap (λ (v : List Prefix). star_of (map prefix_of v) q) e ∙ (ap (λ (v : List StreamPrefix). star_of v q) (map_append xs ys) ∙ star_append (map prefix_of xs) (map prefix_of ys) q)
+
+-- an item that is whole, and the items after it
+pub cons_runs : (a b x y : Run) → a ≡ x → b ≡ y → is_maximal a.out ≡ true → relabel as_star (cat_run_at true a b) ≡ relabel as_star (cat_run x y)
+cons_runs a b x y e f m = ap (λ (r : Run). relabel as_star r) (cat_run_both a b x y e f m)
+
+-- more calls, or one at a greater level, at the end of a way than are left there
+pub gained_spent : (items : List StreamPrefix) (c l n : ℕ) (a x : Run) → gained items c l a ≡ x → c ≤ n → n - c < a.calls → n < x.calls
+gained_spent items c l n a x e h k =
+    let one : x.calls ≡ c + a.calls = ap (λ (r : Run). r.calls) (sym e) ∙ gained_calls items c l a in
+    omega (arith, one, h, k)
+
+pub gained_deep : (items : List StreamPrefix) (c l n : ℕ) (a x : Run) → gained items c l a ≡ x → n < a.level → n < x.level
+gained_deep items c l n a x e h =
+    let one : x.level ≡ max l a.level = ap (λ (r : Run). r.level) (sym e) ∙ gained_level items c l a in
+    omega (arith, one, h)

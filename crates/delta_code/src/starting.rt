@@ -89,7 +89,6 @@ fn go_on(
     levels: u64,
     way: Way,
 ) -> Result<Begun, Stop>
-    requires room { left < k + way.calls }
     requires counted { way.calls + reached_calls reached ≤ left }
     requires shallow { max way.level (reached_level reached) ≤ levels }
     ensures run { IfOk result (λ a. run_of a ≡ after way (reached_run code.now k reached)) }
@@ -107,6 +106,9 @@ fn go_on(
             Reached::Given(begun) => return Ok(arrived(alloc, way, begun)?),
             Reached::Call(f, values, streams) => {
                 let rest = left - way.calls;
+                if rest >= k {
+                    return Err(Stop::Memory);
+                }
                 reached = enter(alloc, code, k, f, &values, &streams, rest, levels, &mut way)?;
                 k -= 1;
             }

@@ -167,6 +167,8 @@ pub fn arrived(alloc: Global, way: Way, b: Begun) -> Result<Begun, Memory>
     requires { way.calls + b.calls < 2 ^ 64 }
     ensures run { IfOk result (λ r. run_of r ≡ after way (run_of b)) }
     ensures rest { IfOk result (λ r. rest_of r ≡ within way.layers (rest_of b)) }
+    ensures calls { IfOk result (λ r. r.calls ≡ way.calls + b.calls) }
+    ensures level { IfOk result (λ r. r.level ≡ max way.level b.level) }
 {
     let output = behind_items(alloc, way.items, b.output)?;
     let state = around(alloc, way.layers, b.state)?;

@@ -64,12 +64,11 @@ decreases-start_arguments l = 4 * (weight_of_calls l.k (bodies_in l.code.now) + 
 
 -- what is still to come at the end of the way is what was to come when the loop began
 abbrev pub invariant-go_on-calls : goal.invariant-go_on-calls
-invariant-go_on-calls l = (after l.way (reached_run l.code.now l.k l.reached) ≡ after l.initial.way (reached_run l.code.now l.initial.k l.initial.reached))
-    × (Eased (within l.initial.way.layers (reached_rest l.code.now l.initial.k l.initial.reached)) (within l.way.layers (reached_rest l.code.now l.k l.reached)))
-    × (l.way.calls + reached_calls l.reached ≤ l.left)
-    × (max l.way.level (reached_level l.reached) ≤ l.levels)
-    × (l.left < l.k + l.way.calls)
-    × (l.k ≤ l.initial.k)
+invariant-go_on-calls l = (after l.way (reached_run l.code l.k l.reached) ≡ after l.initial.way (reached_run l.code l.initial.k l.initial.reached))
+    × (Eased (within l.initial.way.layers (reached_rest l.code l.initial.k l.initial.reached)) (within l.way.layers (reached_rest l.code l.k l.reached))
+    × ((l.way.calls + reached_calls l.reached ≤ l.left)
+    × ((max l.way.level (reached_level l.reached) ≤ l.levels)
+    × (l.k ≤ l.initial.k))))
 
 abbrev pub decreases-go_on-calls : goal.decreases-go_on-calls
 decreases-go_on-calls l = l.k
