@@ -14,7 +14,7 @@ use Rattle.machine_parts.proofs.HeldAndComing.{body_runs, body_rests, body_deep}
 use Rattle.template_state.specs.Readers.{state_in, arguments_in}
 use Rattle.delta_code.specs.Steps.{funs_of, lives_run}
 use Rattle.delta_code.specs.Told.{told}
-use Rattle.delta_code.proofs.Easing.{same_eased, frame_eased}
+use Rattle.delta_code.proofs.Easing.{same_eased, frame_eased, eased_cut}
 use Rattle.delta_code.proofs.stepping.+step.Goals as goal
 
 pub step_frame-returns-in_err-body-clause-spent : goal.step_frame-returns-in_err-body-clause-spent
@@ -76,5 +76,9 @@ step_frame-returns-clause-shallow t c =
 pub step_let-returns-clause-shallow : goal.step_let-returns-clause-shallow
 step_let-returns-clause-shallow t c =
     let head = c.in_ok-head.head in
-    let after : c.after_head-after.result ≡ below (c.is_name.result || is_maximal (prefix_of head.output.value)) c.args.levels = cc in
-    let_within c.is_name.result _ (told head) (told c.in_ok-body.body) _ _ _ c.in_ok-bound.ensures c.inside.ensures after c.in_ok-head.ensures.shallow c.in_ok-body.ensures.shallow
+    let after : c.after_head-after.result ≡ below (c.is_name-is_name.result || is_maximal (prefix_of head.output.value)) c.args.levels = cc in
+    let_within c.is_name-is_name.result _ (told head) (told c.in_ok-body.body) _ _ _ c.in_ok-bound.ensures c.inside.ensures after c.in_ok-head.ensures.shallow c.in_ok-body.ensures.shallow
+
+pub step_row-returns-clause-rest : goal.step_row-returns-clause-rest
+step_row-returns-clause-rest t c =
+    same_eased (eased_cut c.args.x.0 c.args.y.0 c.args.z.0 (type_of c.type_at-ty.result.now) (prefix_of c.stream_at-p.result.now) c.in_ok-given.ensures.rest) (search rules) c.in_ok-cut.ensures.rest
