@@ -1,9 +1,9 @@
 //! What is said to the last event of an input.
 
-ghost use Rattle.std.specs.Prelude.{◌≡◌, ◌≤◌};
+ghost use Rattle.std.specs.Prelude.{◌≤◌};
 ghost use Rattle.delta_session.specs.Standing.{IsKept};
 
-use crate::sessions::said_to;
+use crate::sessions::{opened, said_to};
 use core_term::fits;
 use delta_accept::accept;
 use delta_code::Coded;
@@ -56,7 +56,7 @@ fn says<M: Machine>(
     if !fits(accepted.checked.core()) {
         return Ok(false);
     }
-    let (mut session, _) = Session::<M>::open(alloc, &accepted.checked, budget)?;
+    let mut session = opened::<M>(alloc, &accepted.checked, budget)?;
     match said_at_last(alloc, &mut session, lines) {
         Some(events) => Ok(are_lines(&events, said)),
         None => Ok(false),

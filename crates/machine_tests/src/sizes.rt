@@ -1,9 +1,9 @@
 //! The number of states that the machine keeps on the load.
 
-ghost use Rattle.std.specs.Prelude.{◌≡◌, ◌≤◌};
+ghost use Rattle.std.specs.Prelude.{◌≤◌};
 ghost use Rattle.delta_session.specs.Standing.{IsKept};
 
-use crate::sessions::said_to;
+use crate::sessions::{opened, said_to};
 use core_term::fits;
 use delta_accept::accept;
 use delta_code::Coded;
@@ -67,7 +67,7 @@ fn load_stays_small<M: Machine>(alloc: Global) -> Result<bool, Fail> {
     if !fits(accepted.checked.core()) {
         return Ok(false);
     }
-    let (mut session, _) = Session::<M>::open(alloc, &accepted.checked, 1_000_000)?;
+    let mut session = opened::<M>(alloc, &accepted.checked, 1_000_000)?;
     Ok(stays_as_small(alloc, &mut session) == Some(true))
 }
 

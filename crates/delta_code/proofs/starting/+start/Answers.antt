@@ -157,10 +157,13 @@ go_on-calls-preserved t c =
     let low = i.1.1.1.0 in
     let less = i.1.1.1.1 in
     let counted = given.counted in
-    let shallow = given.shallow in
-    (given.run ∙ (ap (after c.calls.way) (sym run) ∙ i.0),
-    (eased_then i.1.0 (eased_then (within_eased c.calls.way.layers (eased_same rest)) given.rest),
-    (omega (arith, counted, few), (omega (arith, shallow, low), omega (arith, less)))))
+    let shallow = given.shallow in (
+      given.run ∙ (ap (after c.calls.way) (sym run) ∙ i.0),
+      (
+        eased_then i.1.0 (eased_then (within_eased c.calls.way.layers (eased_same rest)) given.rest),
+        (omega (arith, counted, few), (omega (arith, shallow, low), omega (arith, less))),
+      ),
+    )
 
 pub go_on-returns-in_err-reached-in-Call-clause-deep : goal.go_on-returns-in_err-reached-in-Call-clause-deep
 go_on-returns-in_err-reached-in-Call-clause-deep t c =
