@@ -1,2 +1,4 @@
 -- The lemmas.
 pub mod SameProgram
+pub mod Easing
+pub mod Gains

@@ -1,6 +1,8 @@
 -- What the contracts cite.
 pub mod Around
 pub mod Begun
+pub mod Eased
 pub mod Told
 pub mod Steps
 pub mod CodedView
+pub mod Way

@@ -74,6 +74,7 @@ pub fn entered(
 pub fn missing(alloc: Global, code: &Code, f: u32) -> Result<Begun, Memory>
     requires { is_there (bodies_in code.now) f ≡ false }
     ensures counted { IfOk result (λ r. r.calls ≡ 1) }
+    ensures flat { IfOk result (λ r. r.level ≡ 0) }
     ensures run { IfOk result (λ r. (k : ℕ) (vs : List HistValue) (ps : List StreamPrefix) → 0 < k → run_of r ≡ call_at (funs_of code.now) k f vs ps) }
     ensures rest { IfOk result (λ r. (k : ℕ) (vs : List HistValue) (ps : List StreamPrefix) → 0 < k → rest_of r ≡ call_rest_at (funs_of code.now) k f vs ps) }
 {

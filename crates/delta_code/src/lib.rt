@@ -5,6 +5,7 @@ mod around;
 mod begun;
 mod compiling;
 mod entering;
+mod framing;
 mod free;
 mod machine;
 mod seeing;
@@ -12,5 +13,6 @@ mod starting;
 mod stepping;
 mod still;
 mod told;
+mod way;
 
 pub use machine::Coded;

@@ -13,6 +13,7 @@ ghost use Rattle.main_steps.specs.Laws.{first_run_on, first_state_on};
 ghost use Rattle.state_rewriting.specs.Rewriting.{SimplerBy};
 ghost use Rattle.template_state.specs.Readers.{state_in};
 ghost use Rattle.delta_code.specs.Begun.{run_of, rest_of};
+ghost use Rattle.delta_code.specs.Eased.{Eased};
 ghost use Rattle.delta_code.specs.Told.{told};
 ghost use Rattle.template_state.specs.Templates.{bodies_in, body_in};
 ghost use Rattle.delta_code.specs.CodedView.{run_awaiting, rest_awaiting, program_of, view_of, CodedStands, coded_stands_after, coded_stays_below};
@@ -149,8 +150,9 @@ fn first_run(
     requires awaited { awaited_in awaited.now ≡ whole_of (core_of core.now).main.params }
     requires budget { budget ≤ 1000000 }
     ensures run { IfOk result (λ r. run_of r ≡ first_run_on (core_of core.now) (entries_on (whole_of (core_of core.now).main.params) (emp (input_type (core_of core.now))))) }
-    ensures rest { IfOk result (λ r. rest_of r ≡ first_state_on (core_of core.now) (entries_on (whole_of (core_of core.now).main.params) (emp (input_type (core_of core.now))))) }
+    ensures rest { IfOk result (λ r. Eased (first_state_on (core_of core.now) (entries_on (whole_of (core_of core.now).main.params) (emp (input_type (core_of core.now))))) (rest_of r)) }
     ensures counted { IfOk result (λ r. r.calls ≤ budget) }
+    ensures shallow { IfOk result (λ r. r.level ≤ 1001) }
     ensures costly { (n : ℕ) → IsErrOf result (StepRefusal.Budget n) → (n ≡ budget) × (budget < (first_run_on (core_of core.now) (entries_on (whole_of (core_of core.now).main.params) (emp (input_type (core_of core.now))))).calls) }
     ensures deep { (n : ℕ) → IsErrOf result (StepRefusal.Deep n) → (n ≡ 1001) × (1001 < (first_run_on (core_of core.now) (entries_on (whole_of (core_of core.now).main.params) (emp (input_type (core_of core.now))))).level) }
 {
@@ -189,8 +191,9 @@ fn next_run(
     next: &Prefix,
 ) -> Result<Told, StepRefusal>
     ensures run { IfOk result (λ r. told r ≡ run_awaiting code.now (state_in state.old) (type_of output.now) (awaited_in awaited.now) (prefix_of next.now)) }
-    ensures rest { OnOk result (state_in state.new ≡ rest_awaiting code.now (state_in state.old) (type_of output.now) (awaited_in awaited.now) (prefix_of next.now)) }
+    ensures rest { OnOk result (Eased (rest_awaiting code.now (state_in state.old) (type_of output.now) (awaited_in awaited.now) (prefix_of next.now)) (state_in state.new)) }
     ensures counted { IfOk result (λ r. r.calls ≤ budget) }
+    ensures shallow { IfOk result (λ r. r.level ≤ 1001) }
     ensures costly { (n : ℕ) → IsErrOf result (StepRefusal.Budget n) → (n ≡ budget) × (n < (run_awaiting code.now (state_in state.old) (type_of output.now) (awaited_in awaited.now) (prefix_of next.now)).calls) }
     ensures deep { (n : ℕ) → IsErrOf result (StepRefusal.Deep n) → (n ≡ 1001) × (1001 < (run_awaiting code.now (state_in state.old) (type_of output.now) (awaited_in awaited.now) (prefix_of next.now)).level) }
 {

@@ -13,6 +13,7 @@ ghost use Rattle.machine_parts.specs.Scope.{types_in, streams_in};
 ghost use Rattle.machine_parts.specs.Parameters.{parameters};
 ghost use Rattle.template_state.specs.Readers.{state_in, later_in, arguments_in};
 ghost use Rattle.delta_code.specs.Begun.{run_of, rest_of};
+ghost use Rattle.delta_code.specs.Eased.{Eased, EasedArguments};
 ghost use Rattle.delta_code.specs.Told.{told, left_after};
 ghost use Rattle.delta_code.specs.Steps.{funs_of, live_run, live_rest, lives_run, lives_rest};
 
@@ -43,6 +44,7 @@ use template_state::{Arguments, Code, Later, Live};
 /// and `rest_of` in `delta_state`. It is `Spent` only where it makes more, and `Deep` only where it makes one
 /// at a greater level. Its other error is want of memory. After an error the state is partly changed.
 #[cycle(step)]
+#[tactic(auto, using(crate::proofs::Easing::eased_same, crate::proofs::Easing::same_eased))]
 pub fn step<'a>(
     alloc: Global,
     code: &Code,
@@ -53,8 +55,9 @@ pub fn step<'a>(
     levels: u64,
 ) -> Result<Told, Stop>
     ensures run { IfOk result (λ g. told g ≡ live_run code.now scope.now (state_in s.old) (type_of r.now)) }
-    ensures rest { OnOk result (state_in s.new ≡ live_rest code.now scope.now (state_in s.old) (type_of r.now)) }
+    ensures rest { OnOk result (Eased (live_rest code.now scope.now (state_in s.old) (type_of r.now)) (state_in s.new)) }
     ensures counted { IfOk result (λ g. g.calls ≤ left) }
+    ensures shallow { IfOk result (λ g. g.level ≤ levels) }
     ensures spent { IfErr result (λ e. e ≡ Stop.Spent → left < (live_run code.now scope.now (state_in s.old) (type_of r.now)).calls) }
     ensures deep { IfErr result (λ e. e ≡ Stop.Deep → levels < (live_run code.now scope.now (state_in s.old) (type_of r.now)).level) }
 {
@@ -111,7 +114,7 @@ fn put(s: &mut Live, gone: Gone) -> Told
 
 // Both at once.
 #[cycle(step)]
-#[tactic(auto, using(machine_parts::proofs::Runs::spent_after))]
+#[tactic(auto, using(crate::proofs::Easing::par_eased, machine_parts::proofs::Runs::spent_after))]
 #[inline(never)]
 fn step_both<'a>(
     alloc: Global,
@@ -124,8 +127,9 @@ fn step_both<'a>(
     levels: u64,
 ) -> Result<Told, Stop>
     ensures run { IfOk result (λ g. told g ≡ live_run code.now scope.now (par_state (state_in a.old) (state_in b.old)) (type_of r.now)) }
-    ensures rest { OnOk result (par_state (state_in a.new) (state_in b.new) ≡ live_rest code.now scope.now (par_state (state_in a.old) (state_in b.old)) (type_of r.now)) }
+    ensures rest { OnOk result (Eased (live_rest code.now scope.now (par_state (state_in a.old) (state_in b.old)) (type_of r.now)) (par_state (state_in a.new) (state_in b.new))) }
     ensures counted { IfOk result (λ g. g.calls ≤ left) }
+    ensures shallow { IfOk result (λ g. g.level ≤ levels) }
     ensures spent { IfErr result (λ e. e ≡ Stop.Spent → left < (live_run code.now scope.now (par_state (state_in a.old) (state_in b.old)) (type_of r.now)).calls) }
     ensures deep { IfErr result (λ e. e ≡ Stop.Deep → levels < (live_run code.now scope.now (par_state (state_in a.old) (state_in b.old)) (type_of r.now)).level) }
 {
@@ -137,7 +141,7 @@ fn step_both<'a>(
 
 // The rest of the first, then the second.
 #[cycle(step)]
-#[tactic(auto, using(machine_parts::proofs::Runs::in_turn, machine_parts::proofs::Deeper::turn_deep))]
+#[tactic(auto, using(crate::proofs::Easing::cat_eased, crate::proofs::Easing::same_eased, machine_parts::proofs::Runs::in_turn, machine_parts::proofs::Deeper::turn_deep))]
 #[inline(never)]
 fn step_in_turn<'a>(
     alloc: Global,
@@ -150,8 +154,9 @@ fn step_in_turn<'a>(
     levels: u64,
 ) -> Result<Gone, Stop>
     ensures run { IfOk result (λ g. told g.told ≡ live_run code.now scope.now (cat_state (state_in a.old) (later_in l.now)) (type_of r.now)) }
-    ensures rest { IfOk result (λ g. left_after g.state (cat_state (state_in a.new) (later_in l.now)) ≡ live_rest code.now scope.now (cat_state (state_in a.old) (later_in l.now)) (type_of r.now)) }
+    ensures rest { IfOk result (λ g. Eased (live_rest code.now scope.now (cat_state (state_in a.old) (later_in l.now)) (type_of r.now)) (left_after g.state (cat_state (state_in a.new) (later_in l.now)))) }
     ensures counted { IfOk result (λ g. g.told.calls ≤ left) }
+    ensures shallow { IfOk result (λ g. g.told.level ≤ levels) }
     ensures spent { IfErr result (λ e. e ≡ Stop.Spent → left < (live_run code.now scope.now (cat_state (state_in a.old) (later_in l.now)) (type_of r.now)).calls) }
     ensures deep { IfErr result (λ e. e ≡ Stop.Deep → levels < (live_run code.now scope.now (cat_state (state_in a.old) (later_in l.now)) (type_of r.now)).level) }
 {
@@ -166,7 +171,7 @@ fn step_in_turn<'a>(
 
 // A let.
 #[cycle(step)]
-#[tactic(auto, using(machine_parts::proofs::Runs::spent_after, machine_parts::proofs::Deeper::let_deep))]
+#[tactic(auto, using(crate::proofs::Easing::let_eased, machine_parts::proofs::Runs::spent_after, machine_parts::proofs::Deeper::let_deep))]
 #[inline(never)]
 fn step_let<'a>(
     alloc: Global,
@@ -181,8 +186,9 @@ fn step_let<'a>(
     levels: u64,
 ) -> Result<Told, Stop>
     ensures run { IfOk result (λ g. told g ≡ live_run code.now scope.now (let_state x.0 (type_of t.old) (state_in a.old) (state_in b.old)) (type_of r.now)) }
-    ensures rest { OnOk result (let_state x.0 (type_of t.new) (state_in a.new) (state_in b.new) ≡ live_rest code.now scope.now (let_state x.0 (type_of t.old) (state_in a.old) (state_in b.old)) (type_of r.now)) }
+    ensures rest { OnOk result (Eased (live_rest code.now scope.now (let_state x.0 (type_of t.old) (state_in a.old) (state_in b.old)) (type_of r.now)) (let_state x.0 (type_of t.new) (state_in a.new) (state_in b.new))) }
     ensures counted { IfOk result (λ g. g.calls ≤ left) }
+    ensures shallow { IfOk result (λ g. g.level ≤ levels) }
     ensures spent { IfErr result (λ e. e ≡ Stop.Spent → left < (live_run code.now scope.now (let_state x.0 (type_of t.old) (state_in a.old) (state_in b.old)) (type_of r.now)).calls) }
     ensures deep { IfErr result (λ e. e ≡ Stop.Deep → levels < (live_run code.now scope.now (let_state x.0 (type_of t.old) (state_in a.old) (state_in b.old)) (type_of r.now)).level) }
 {
@@ -198,6 +204,7 @@ fn step_let<'a>(
 
 // `let (x, y) = z`.
 #[cycle(step)]
+#[tactic(auto, using(crate::proofs::Easing::let_par_eased))]
 #[inline(never)]
 fn step_pair<'a>(
     alloc: Global,
@@ -212,8 +219,9 @@ fn step_pair<'a>(
     levels: u64,
 ) -> Result<Told, Stop>
     ensures run { IfOk result (λ g. told g ≡ live_run code.now scope.now (let_par_state x.0 y.0 z.0 (state_in a.old)) (type_of r.now)) }
-    ensures rest { OnOk result (let_par_state x.0 y.0 z.0 (state_in a.new) ≡ live_rest code.now scope.now (let_par_state x.0 y.0 z.0 (state_in a.old)) (type_of r.now)) }
+    ensures rest { OnOk result (Eased (live_rest code.now scope.now (let_par_state x.0 y.0 z.0 (state_in a.old)) (type_of r.now)) (let_par_state x.0 y.0 z.0 (state_in a.new))) }
     ensures counted { IfOk result (λ g. g.calls ≤ left) }
+    ensures shallow { IfOk result (λ g. g.level ≤ levels) }
     ensures spent { IfErr result (λ e. e ≡ Stop.Spent → left < (live_run code.now scope.now (let_par_state x.0 y.0 z.0 (state_in a.old)) (type_of r.now)).calls) }
     ensures deep { IfErr result (λ e. e ≡ Stop.Deep → levels < (live_run code.now scope.now (let_par_state x.0 y.0 z.0 (state_in a.old)) (type_of r.now)).level) }
 {
@@ -241,8 +249,9 @@ fn step_row<'a>(
     levels: u64,
 ) -> Result<Gone, Stop>
     ensures run { IfOk result (λ g. told g.told ≡ live_run code.now scope.now (let_cat_state x.0 y.0 z.0 (state_in a.old)) (type_of r.now)) }
-    ensures rest { IfOk result (λ g. left_after g.state (let_cat_state x.0 y.0 z.0 (state_in a.new)) ≡ live_rest code.now scope.now (let_cat_state x.0 y.0 z.0 (state_in a.old)) (type_of r.now)) }
+    ensures rest { IfOk result (λ g. Eased (live_rest code.now scope.now (let_cat_state x.0 y.0 z.0 (state_in a.old)) (type_of r.now)) (left_after g.state (let_cat_state x.0 y.0 z.0 (state_in a.new)))) }
     ensures counted { IfOk result (λ g. g.told.calls ≤ left) }
+    ensures shallow { IfOk result (λ g. g.told.level ≤ levels) }
     ensures spent { IfErr result (λ e. e ≡ Stop.Spent → left < (live_run code.now scope.now (let_cat_state x.0 y.0 z.0 (state_in a.old)) (type_of r.now)).calls) }
     ensures deep { IfErr result (λ e. e ≡ Stop.Deep → levels < (live_run code.now scope.now (let_cat_state x.0 y.0 z.0 (state_in a.old)) (type_of r.now)).level) }
 {
@@ -257,7 +266,7 @@ fn step_row<'a>(
 }
 
 // A case on a sum, on what was held and what comes.
-#[tactic(auto, using(machine_parts::proofs::HeldAndComing::held_forms))]
+#[tactic(auto, using(crate::proofs::Easing::cases_eased, machine_parts::proofs::HeldAndComing::held_forms))]
 #[inline(never)]
 fn step_sum<'a>(
     alloc: Global,
@@ -275,8 +284,9 @@ fn step_sum<'a>(
     levels: u64,
 ) -> Result<Gone, Stop>
     ensures run { IfOk result (λ g. told g.told ≡ live_run code.now scope.now (sum_state z.0 (type_of t.now) (map entry_in held.old.items) x.0 (later_in l.now) y.0 (later_in m.now)) (type_of r.now)) }
-    ensures rest { IfOk result (λ g. left_after g.state (sum_state z.0 (type_of t.now) (map entry_in held.new.items) x.0 (later_in l.now) y.0 (later_in m.now)) ≡ live_rest code.now scope.now (sum_state z.0 (type_of t.now) (map entry_in held.old.items) x.0 (later_in l.now) y.0 (later_in m.now)) (type_of r.now)) }
+    ensures rest { IfOk result (λ g. Eased (live_rest code.now scope.now (sum_state z.0 (type_of t.now) (map entry_in held.old.items) x.0 (later_in l.now) y.0 (later_in m.now)) (type_of r.now)) (left_after g.state (sum_state z.0 (type_of t.now) (map entry_in held.new.items) x.0 (later_in l.now) y.0 (later_in m.now)))) }
     ensures counted { IfOk result (λ g. g.told.calls ≤ left) }
+    ensures shallow { IfOk result (λ g. g.told.level ≤ levels) }
     ensures spent { IfErr result (λ e. e ≡ Stop.Spent → left < (live_run code.now scope.now (sum_state z.0 (type_of t.now) (map entry_in held.old.items) x.0 (later_in l.now) y.0 (later_in m.now)) (type_of r.now)).calls) }
     ensures deep { IfErr result (λ e. e ≡ Stop.Deep → levels < (live_run code.now scope.now (sum_state z.0 (type_of t.now) (map entry_in held.old.items) x.0 (later_in l.now) y.0 (later_in m.now)) (type_of r.now)).level) }
 {
@@ -299,7 +309,7 @@ fn step_sum<'a>(
 }
 
 // A case on a star, on what was held and what comes.
-#[tactic(auto, using(machine_parts::proofs::HeldAndComing::held_forms))]
+#[tactic(auto, using(crate::proofs::Easing::cases_eased, machine_parts::proofs::HeldAndComing::held_forms))]
 #[inline(never)]
 fn step_star<'a>(
     alloc: Global,
@@ -317,8 +327,9 @@ fn step_star<'a>(
     levels: u64,
 ) -> Result<Gone, Stop>
     ensures run { IfOk result (λ g. told g.told ≡ live_run code.now scope.now (star_state z.0 (type_of t.now) (map entry_in held.old.items) (later_in l.now) y.0 ys.0 (later_in m.now)) (type_of r.now)) }
-    ensures rest { IfOk result (λ g. left_after g.state (star_state z.0 (type_of t.now) (map entry_in held.new.items) (later_in l.now) y.0 ys.0 (later_in m.now)) ≡ live_rest code.now scope.now (star_state z.0 (type_of t.now) (map entry_in held.old.items) (later_in l.now) y.0 ys.0 (later_in m.now)) (type_of r.now)) }
+    ensures rest { IfOk result (λ g. Eased (live_rest code.now scope.now (star_state z.0 (type_of t.now) (map entry_in held.old.items) (later_in l.now) y.0 ys.0 (later_in m.now)) (type_of r.now)) (left_after g.state (star_state z.0 (type_of t.now) (map entry_in held.new.items) (later_in l.now) y.0 ys.0 (later_in m.now)))) }
     ensures counted { IfOk result (λ g. g.told.calls ≤ left) }
+    ensures shallow { IfOk result (λ g. g.told.level ≤ levels) }
     ensures spent { IfErr result (λ e. e ≡ Stop.Spent → left < (live_run code.now scope.now (star_state z.0 (type_of t.now) (map entry_in held.old.items) (later_in l.now) y.0 ys.0 (later_in m.now)) (type_of r.now)).calls) }
     ensures deep { IfErr result (λ e. e ≡ Stop.Deep → levels < (live_run code.now scope.now (star_state z.0 (type_of t.now) (map entry_in held.old.items) (later_in l.now) y.0 ys.0 (later_in m.now)) (type_of r.now)).level) }
 {
@@ -347,7 +358,7 @@ fn step_star<'a>(
 }
 
 // A wait, on what was held and what comes.
-#[tactic(auto, using(machine_parts::proofs::HeldAndComing::held_forms, machine_parts::proofs::Runs::waits))]
+#[tactic(auto, using(crate::proofs::Easing::cases_eased, machine_parts::proofs::HeldAndComing::held_forms, machine_parts::proofs::Runs::waits))]
 #[inline(never)]
 fn step_wait<'a>(
     alloc: Global,
@@ -362,8 +373,9 @@ fn step_wait<'a>(
     levels: u64,
 ) -> Result<Gone, Stop>
     ensures run { IfOk result (λ g. told g.told ≡ live_run code.now scope.now (wait_state x.0 (type_of t.now) (map entry_in held.old.items) (later_in l.now)) (type_of r.now)) }
-    ensures rest { IfOk result (λ g. left_after g.state (wait_state x.0 (type_of t.now) (map entry_in held.new.items) (later_in l.now)) ≡ live_rest code.now scope.now (wait_state x.0 (type_of t.now) (map entry_in held.old.items) (later_in l.now)) (type_of r.now)) }
+    ensures rest { IfOk result (λ g. Eased (live_rest code.now scope.now (wait_state x.0 (type_of t.now) (map entry_in held.old.items) (later_in l.now)) (type_of r.now)) (left_after g.state (wait_state x.0 (type_of t.now) (map entry_in held.new.items) (later_in l.now)))) }
     ensures counted { IfOk result (λ g. g.told.calls ≤ left) }
+    ensures shallow { IfOk result (λ g. g.told.level ≤ levels) }
     ensures spent { IfErr result (λ e. e ≡ Stop.Spent → left < (live_run code.now scope.now (wait_state x.0 (type_of t.now) (map entry_in held.old.items) (later_in l.now)) (type_of r.now)).calls) }
     ensures deep { IfErr result (λ e. e ≡ Stop.Deep → levels < (live_run code.now scope.now (wait_state x.0 (type_of t.now) (map entry_in held.old.items) (later_in l.now)) (type_of r.now)).level) }
 {
@@ -376,7 +388,7 @@ fn step_wait<'a>(
 
 // A body on its arguments.
 #[cycle(step)]
-#[tactic(auto, using(machine_parts::proofs::HeldAndComing::frames, machine_parts::proofs::Deeper::frame_deep))]
+#[tactic(auto, using(crate::proofs::Easing::frame_eased, machine_parts::proofs::HeldAndComing::frames, machine_parts::proofs::Deeper::frame_deep))]
 #[inline(never)]
 fn step_frame<'a>(
     alloc: Global,
@@ -389,8 +401,9 @@ fn step_frame<'a>(
     levels: u64,
 ) -> Result<Told, Stop>
     ensures run { IfOk result (λ g. told g ≡ live_run code.now scope.now (frame_state (arguments_in args.old) (state_in a.old)) (type_of r.now)) }
-    ensures rest { OnOk result (frame_state (arguments_in args.new) (state_in a.new) ≡ live_rest code.now scope.now (frame_state (arguments_in args.old) (state_in a.old)) (type_of r.now)) }
+    ensures rest { OnOk result (Eased (live_rest code.now scope.now (frame_state (arguments_in args.old) (state_in a.old)) (type_of r.now)) (frame_state (arguments_in args.new) (state_in a.new))) }
     ensures counted { IfOk result (λ g. g.calls ≤ left) }
+    ensures shallow { IfOk result (λ g. g.level ≤ levels) }
     ensures spent { IfErr result (λ e. e ≡ Stop.Spent → left < (live_run code.now scope.now (frame_state (arguments_in args.old) (state_in a.old)) (type_of r.now)).calls) }
     ensures deep { IfErr result (λ e. e ≡ Stop.Deep → levels < (live_run code.now scope.now (frame_state (arguments_in args.old) (state_in a.old)) (type_of r.now)).level) }
 {
@@ -404,7 +417,7 @@ fn step_frame<'a>(
 
 // The arguments of a frame, each put with its type from before behind what was found.
 #[cycle(step)]
-#[tactic(auto, using(machine_parts::proofs::Runs::spent_after))]
+#[tactic(auto, using(crate::proofs::Easing::arguments_eased, machine_parts::proofs::Runs::spent_after))]
 #[inline(never)]
 fn step_arguments<'a>(
     alloc: Global,
@@ -417,8 +430,9 @@ fn step_arguments<'a>(
 ) -> Result<AllTold, Stop>
     ensures runs { IfOk result (λ a. (a.calls ≡ (lives_run code.now scope.now (arguments_in args.old)).calls) × ((a.level ≡ (lives_run code.now scope.now (arguments_in args.old)).level) × (a.are_shut ≡ (lives_run code.now scope.now (arguments_in args.old)).are_shut))) }
     ensures entries { OnOk result (map entry_in found.new.items ≡ map entry_in found.old.items ++ parameters (arguments_in args.old) (lives_run code.now scope.now (arguments_in args.old)).outs) }
-    ensures rests { OnOk result (arguments_in args.new ≡ lives_rest code.now scope.now (arguments_in args.old)) }
+    ensures rests { OnOk result (EasedArguments (lives_rest code.now scope.now (arguments_in args.old)) (arguments_in args.new)) }
     ensures counted { IfOk result (λ g. g.calls ≤ left) }
+    ensures shallow { IfOk result (λ g. g.level ≤ levels) }
     ensures spent { IfErr result (λ e. e ≡ Stop.Spent → left < (lives_run code.now scope.now (arguments_in args.old)).calls) }
     ensures deep { IfErr result (λ e. e ≡ Stop.Deep → levels < (lives_run code.now scope.now (arguments_in args.old)).level) }
 {
@@ -449,8 +463,9 @@ fn open<'a>(
     levels: u64,
 ) -> Result<Begun, Stop>
     ensures run { IfOk result (λ a. run_of a ≡ run_later (funs_of code.now) (later_in l.now) (types_in scope.now) (type_of r.now) (streams_in scope.now)) }
-    ensures rest { IfOk result (λ a. rest_of a ≡ rest_later (funs_of code.now) (later_in l.now) (types_in scope.now) (type_of r.now) (streams_in scope.now)) }
+    ensures rest { IfOk result (λ a. Eased (rest_later (funs_of code.now) (later_in l.now) (types_in scope.now) (type_of r.now) (streams_in scope.now)) (rest_of a)) }
     ensures counted { IfOk result (λ g. g.calls ≤ left) }
+    ensures shallow { IfOk result (λ g. g.level ≤ levels) }
     ensures spent { IfErr result (λ e. e ≡ Stop.Spent → left < (run_later (funs_of code.now) (later_in l.now) (types_in scope.now) (type_of r.now) (streams_in scope.now)).calls) }
     ensures deep { IfErr result (λ e. e ≡ Stop.Deep → levels < (run_later (funs_of code.now) (later_in l.now) (types_in scope.now) (type_of r.now) (streams_in scope.now)).level) }
 {
@@ -484,8 +499,9 @@ fn open_known(
     levels: u64,
 ) -> Result<Begun, Stop>
     ensures run { IfOk result (λ a. run_of a ≡ run_later (funs_of code.now) (knowing x.0 (types_held (map entry_in held.now) x.0) (value_of (prefixes_held (map entry_in held.now) x.0)) (later_in l.now)) (types_held (map entry_in held.now)) (type_of r.now) (prefixes_held (map entry_in held.now))) }
-    ensures rest { IfOk result (λ a. rest_of a ≡ rest_later (funs_of code.now) (knowing x.0 (types_held (map entry_in held.now) x.0) (value_of (prefixes_held (map entry_in held.now) x.0)) (later_in l.now)) (types_held (map entry_in held.now)) (type_of r.now) (prefixes_held (map entry_in held.now))) }
+    ensures rest { IfOk result (λ a. Eased (rest_later (funs_of code.now) (knowing x.0 (types_held (map entry_in held.now) x.0) (value_of (prefixes_held (map entry_in held.now) x.0)) (later_in l.now)) (types_held (map entry_in held.now)) (type_of r.now) (prefixes_held (map entry_in held.now))) (rest_of a)) }
     ensures counted { IfOk result (λ g. g.calls ≤ left) }
+    ensures shallow { IfOk result (λ g. g.level ≤ levels) }
     ensures spent { IfErr result (λ e. e ≡ Stop.Spent → left < (run_later (funs_of code.now) (knowing x.0 (types_held (map entry_in held.now) x.0) (value_of (prefixes_held (map entry_in held.now) x.0)) (later_in l.now)) (types_held (map entry_in held.now)) (type_of r.now) (prefixes_held (map entry_in held.now))).calls) }
     ensures deep { IfErr result (λ e. e ≡ Stop.Deep → levels < (run_later (funs_of code.now) (knowing x.0 (types_held (map entry_in held.now) x.0) (value_of (prefixes_held (map entry_in held.now) x.0)) (later_in l.now)) (types_held (map entry_in held.now)) (type_of r.now) (prefixes_held (map entry_in held.now))).level) }
 {

@@ -16,3 +16,6 @@ returns-clause-rest c =
 
 pub returns-clause-counted : goal.returns-clause-counted
 returns-clause-counted c = ap (λ (r : Run). r.calls) (c.one_call.ensures.run ∙ ap one_call c.in_ok-at_once.ensures.run)
+
+pub returns-clause-flat : goal.returns-clause-flat
+returns-clause-flat c = ap (λ (r : Run). r.level) (c.one_call.ensures.run ∙ ap one_call c.in_ok-at_once.ensures.run)

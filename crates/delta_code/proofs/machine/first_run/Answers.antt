@@ -1,5 +1,5 @@
 -- The first run is that of main's body on the names at the start, with all the depth there is.
-use Rattle.std.proofs.Common.{◌≡◌, ◌<◌, List, map, sym, ap, ap₂, ◌∙◌, subst}
+use Rattle.std.proofs.Common.{◌≡◌, ◌<◌, List, map, sym, ap, ap₂, ◌∙◌, subst, refl}
 use Rattle.stream_prefix.specs.StreamPrefix.{emp}
 use Rattle.core_term.specs.CoreTerm.{core_of}
 use Rattle.core_term.specs.Run.{Run}
@@ -10,6 +10,7 @@ use Rattle.machine_parts.specs.Entry.{entry_in}
 use Rattle.machine_parts.specs.AwaitedTree.{whole_of, entries_on}
 use Rattle.machine_parts.proofs.StandingTrees.{horizon_is}
 use Rattle.template_state.specs.Templates.{bodies_in, body_in}
+use Rattle.delta_code.proofs.Easing.{same_eased}
 use Rattle.delta_code.proofs.SameProgram.{same_run, same_rest}
 use Rattle.delta_code.proofs.machine.first_run.Goals as goal
 
@@ -25,7 +26,7 @@ returns-in-Ok-clause-rest c =
     let d = core_of c.args.core.now in
     let same : map entry_in c.deref.result.now ≡ entries_on (whole_of d.main.params) (emp (input_type d)) =
     ap (λ (l : List Entry). map entry_in l) c.deref.ensures.value ∙ (c.in_ok-entries.ensures ∙ ap₂ entries_on c.requires.awaited (c.in_ok-nothing.ensures ∙ ap emp c.requires.input)) in
-    c.in-Ok.ensures.rest ∙ same_rest d (bodies_in c.args.code.now) _ (body_in c.args.code.now.main) _ _ _ c.requires.funs (sym horizon_is) c.requires.main c.in_ok-past.ensures same
+    same_eased c.in-Ok.ensures.rest (sym (same_rest d (bodies_in c.args.code.now) _ (body_in c.args.code.now.main) _ _ _ c.requires.funs (sym horizon_is) c.requires.main c.in_ok-past.ensures same)) refl
 
 pub returns-clause-costly : goal.returns-clause-costly
 returns-clause-costly c n q =

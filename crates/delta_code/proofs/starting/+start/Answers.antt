@@ -1,100 +1,185 @@
--- What a call and a called body are.
-use Rattle.std.proofs.Common.{◌≡◌, suc, ◌+◌, ◌-◌, ◌*◌, ◌<◌, ◌≤◌, ◌||◌, Bool, List, map, subst, sym, ap, ap₂, ◌∙◌, arith, rules}
+-- What a call and a called body are, and what is left where a way goes on.
+use Rattle.std.proofs.Common.{◌≡◌, ℕ, suc, ◌+◌, ◌-◌, ◌*◌, ◌<◌, ◌≤◌, List, map, subst, sym, refl, ap, ap₂, ◌∙◌, arith, rules}
 use Rattle.std.proofs.lemmas.Result.{IfOk-weaker, MatchResult-weaker, err_from_is_err_and}
 use Rattle.stream_type.specs.StreamType.{type_of}
-use Rattle.stream_prefix.specs.declared.prefix.Prefix.{Prefix}
-use Rattle.stream_prefix.specs.StreamPrefix.{StreamPrefix, is_maximal}
 use Rattle.stream_prefix.specs.Tree.{prefix_of}
-use Rattle.bunch.specs.Names.{put}
 use Rattle.hist_value.specs.declared.expr.Expr.{Expr}
 use Rattle.hist_value.specs.HistExpr.{expr_of}
 use Rattle.hist_value.specs.HistValue.{hist_value_of}
-use Rattle.core_term.specs.CoreTerm.{CoreTerm, CoreBody, fun_at, is_var, call_term}
-use Rattle.core_term.specs.Run.{Run, one_call}
-use Rattle.core_term.specs.Meaning.{run_at}
+use Rattle.core_term.specs.CoreTerm.{CoreTerm, CoreBody, fun_at, call_term}
+use Rattle.core_term.specs.Parts.{star_item, star_items}
+use Rattle.core_term.specs.Run.{one_call}
+use Rattle.core_term.specs.Meaning.{run_at, call_at}
 use Rattle.delta_state.specs.StateMeaning.{past_in, types_held, prefixes_held}
-use Rattle.delta_state.specs.Rest.{rest_at}
+use Rattle.delta_state.specs.Rest.{rest_at, call_rest_at}
 use Rattle.machine_parts.specs.declared.entry.Entry.{Entry}
 use Rattle.machine_parts.specs.Entry.{entry_in}
-use Rattle.machine_parts.specs.Levels.{below}
-use Rattle.machine_parts.specs.Scope.{types_in, streams_in}
 use Rattle.machine_parts.specs.Weights.{weight, heaviest}
-use Rattle.machine_parts.proofs.Runs.{body_weighs_less, heaviest_is}
-use Rattle.machine_parts.proofs.Deeper.{let_deep_body}
+use Rattle.machine_parts.proofs.Runs.{body_weighs_less, heaviest_is, in_turn}
 use Rattle.machine_parts.proofs.Entering.{one_at_least}
-use Rattle.template_state.specs.declared.code.Op.{Op}
 use Rattle.template_state.specs.declared.code.Operands.{Operands}
 use Rattle.template_state.specs.Readers.{op_term, operand_terms, known_in}
 use Rattle.template_state.specs.Templates.{bodies_in}
 use Rattle.delta_code.specs.Begun.{run_of}
 use Rattle.delta_code.specs.Steps.{funs_of, op_run}
+use Rattle.delta_code.specs.Way.{after, reached_run, reached_rest}
+use Rattle.delta_code.proofs.Easing.{eased_then, eased_same, within_eased, cat_eased, let_eased, frame_eased, moved}
+use Rattle.delta_code.proofs.Gains.{cons_runs, gained_spent, gained_deep}
 use Rattle.delta_code.proofs.starting.+start.Goals as goal
 
-pub start-returns-in-Call-clause-run : goal.start-returns-in-Call-clause-run
-start-returns-in-Call-clause-run t c =
-    let is : op_term c.args.n.now.value ≡ call_term c.in-Call.f (map expr_of c.deref-in-Call.result.now) (operand_terms c.deref-in-Call-2.result.now) =
-    ap op_term (sym c.deref.ensures ∙ c.in-Call.is) ∙ ap₂ (λ (m : List Expr) (l : Operands). call_term c.in-Call.f (map expr_of m) (operand_terms l)) (sym c.deref-in-Call.ensures.value) (sym c.deref-in-Call-2.ensures) in
-    rw is (IfOk-weaker c.start_call.result _ _ (λ a h. h (type_of c.args.r.now)) c.start_call.ensures.run)
+pub reach_pair-returns-clause-rest : goal.reach_pair-returns-clause-rest
+reach_pair-returns-clause-rest t c =
+    IfOk-weaker c.reach.result _ _ (λ e h. eased_then (within_eased c.args.way.now.layers (eased_same (search rules))) (eased_then (eased_same (sym (c.in_ok-into_pair.ensures _))) h)) c.reach.ensures.rest
 
-pub start-returns-in-Call-clause-rest : goal.start-returns-in-Call-clause-rest
-start-returns-in-Call-clause-rest t c =
-    let is : op_term c.args.n.now.value ≡ call_term c.in-Call.f (map expr_of c.deref-in-Call.result.now) (operand_terms c.deref-in-Call-2.result.now) =
-    ap op_term (sym c.deref.ensures ∙ c.in-Call.is) ∙ ap₂ (λ (m : List Expr) (l : Operands). call_term c.in-Call.f (map expr_of m) (operand_terms l)) (sym c.deref-in-Call.ensures.value) (sym c.deref-in-Call-2.ensures) in
-    rw is (IfOk-weaker c.start_call.result _ _ (λ a h. h (type_of c.args.r.now)) c.start_call.ensures.rest)
+pub reach_row-returns-clause-rest : goal.reach_row-returns-clause-rest
+reach_row-returns-clause-rest t c =
+    IfOk-weaker c.reach.result _ _ (λ e h. eased_then (within_eased c.args.way.now.layers (eased_same (search rules))) (eased_then (eased_same (sym (c.in_ok-into_cut.ensures _))) h)) c.reach.ensures.rest
 
-pub start-returns-in-Call-clause-spent : goal.start-returns-in-Call-clause-spent
-start-returns-in-Call-clause-spent t c =
-    let is : op_term c.args.n.now.value ≡ call_term c.in-Call.f (map expr_of c.deref-in-Call.result.now) (operand_terms c.deref-in-Call-2.result.now) =
-    ap op_term (sym c.deref.ensures ∙ c.in-Call.is) ∙ ap₂ (λ (m : List Expr) (l : Operands). call_term c.in-Call.f (map expr_of m) (operand_terms l)) (sym c.deref-in-Call.ensures.value) (sym c.deref-in-Call-2.ensures) in
-    rw is (MatchResult-weaker c.start_call.result c.start_call.ensures.spent (λ x u. u) (λ y h p. h p (type_of c.args.r.now)))
+pub reach_wait-returns-clause-rest : goal.reach_wait-returns-clause-rest
+reach_wait-returns-clause-rest t c =
+    IfOk-weaker c.reach.result _ _ (λ e h. eased_then (within_eased c.args.way.now.layers (eased_same (search rules))) h) c.reach.ensures.rest
 
-pub start-returns-in-Call-clause-deep : goal.start-returns-in-Call-clause-deep
-start-returns-in-Call-clause-deep t c =
-    let is : op_term c.args.n.now.value ≡ call_term c.in-Call.f (map expr_of c.deref-in-Call.result.now) (operand_terms c.deref-in-Call-2.result.now) =
-    ap op_term (sym c.deref.ensures ∙ c.in-Call.is) ∙ ap₂ (λ (m : List Expr) (l : Operands). call_term c.in-Call.f (map expr_of m) (operand_terms l)) (sym c.deref-in-Call.ensures.value) (sym c.deref-in-Call-2.ensures) in
-    rw is (MatchResult-weaker c.start_call.result c.start_call.ensures.deep (λ x u. u) (λ y h p. h p (type_of c.args.r.now)))
+pub reach_sum-returns-in_ok-into_alias-in-Left-clause-rest : goal.reach_sum-returns-in_ok-into_alias-in-Left-clause-rest
+reach_sum-returns-in_ok-into_alias-in-Left-clause-rest t c =
+    IfOk-weaker c.reach.result _ _ (λ e h. eased_then (within_eased c.args.way.now.layers (eased_same (search rules))) (eased_then (eased_same (sym (c.in_ok-into_alias-in-Left.ensures _))) h)) c.reach.ensures.rest
 
-pub start_let-returns-in_err-body-clause-deep : goal.start_let-returns-in_err-body-clause-deep
-start_let-returns-in_err-body-clause-deep t c =
+pub reach_sum-returns-in_ok-into_alias-in-Right-clause-rest : goal.reach_sum-returns-in_ok-into_alias-in-Right-clause-rest
+reach_sum-returns-in_ok-into_alias-in-Right-clause-rest t c =
+    IfOk-weaker c.reach-in-Right.result _ _ (λ e h. eased_then (within_eased c.args.way.now.layers (eased_same (search rules))) (eased_then (eased_same (sym (c.in_ok-into_alias-in-Right.ensures _))) h)) c.reach-in-Right.ensures.rest
+
+pub reach_cons-returns-clause-rest : goal.reach_cons-returns-clause-rest
+reach_cons-returns-clause-rest t c =
+    IfOk-weaker c.reach.result _ _ (λ e h. eased_then (within_eased c.args.way.now.layers (eased_same (sym (search (rules, in_turn))))) (moved _ _ c.in_ok-behind_item.ensures.rest h)) c.reach.ensures.rest
+
+pub reach_cons-returns-clause-run : goal.reach_cons-returns-clause-run
+reach_cons-returns-clause-run t c =
     let a = c.args in
-    let funs = funs_of a.code.now in
-    let past = past_in (known_in a.past.now.value) in
-    let first = op_run a.code.now a.k a.scope.now a.past.now.value (op_term a.a.now.value) (type_of a.s.now) in
-    let out : prefix_of c.deref.result.now ≡ first.out = ap prefix_of c.deref.ensures ∙ ap (λ (r : Run). r.out) c.in_ok-head.ensures.run in
-    let named : c.is_var.result ≡ is_var (op_term a.a.now.value) = c.is_var.ensures ∙ ap (λ (o : Op). is_var (op_term o)) c.deref-2.ensures in
-    let after : c.after_head-after.result ≡ below (is_var (op_term a.a.now.value) || is_maximal (prefix_of c.in_ok-head.head.output.value)) a.levels =
-    c.after_head-after.ensures ∙ ap₂ (λ (v : Bool) (p : Prefix). below (v || is_maximal (prefix_of p)) a.levels) named c.deref-3.ensures in
-    let exit = err_from_is_err_and c.from_residual-in_err-body.result c.from_residual-in_err-body.ensures.1 in
-    let run_after : StreamPrefix → Run = λ p. run_at funs a.k (op_term a.b.now.value) (put a.x.0 (type_of a.s.now) (types_in a.scope.now)) (type_of a.r.now) (put a.x.0 p (streams_in a.scope.now)) past in
-    rw (exit.1, exit.2) (λ q. let_deep_body (is_var (op_term a.a.now.value)) (run_of c.in_ok-head.head) first (run_after first.out) a.levels c.after_head-after.result c.in_ok-head.ensures.run after
-    (subst (λ (p : StreamPrefix). c.after_head-after.result < (run_after p).level) out (c.in_err-body.ensures.deep q)))
+    let x = op_run a.code.now a.k a.scope.now a.past.now.value (op_term a.a.now.value) (star_item (type_of a.r.now)) in
+    let y = op_run a.code.now a.k a.scope.now a.past.now.value (op_term a.b.now.value) (star_items (type_of a.r.now)) in
+    IfOk-weaker c.reach.result _ _ (λ e h. h ∙ (c.in_ok-behind_item.ensures.run _ ∙ ap (after a.way.now) (cons_runs (run_of c.in_ok-head.head) _ x y (search rules) (search rules) (search rules)))) c.reach.ensures.run
 
-pub start_body-returns-then-left-eq0-clause-spent : goal.start_body-returns-then-left-eq0-clause-spent
-start_body-returns-then-left-eq0-clause-spent t c =
+pub reach_cons-returns-then-not-maximal-clause-rest : goal.reach_cons-returns-then-not-maximal-clause-rest
+reach_cons-returns-then-not-maximal-clause-rest t c =
+    within_eased c.args.way.now.layers (cat_eased {l = record { term = op_term c.args.b.now.value; past = known_in c.args.past.now.value; depth = c.args.k }} c.in_ok-head.ensures.rest (sym (search (rules, in_turn))) (search rules))
+
+pub reach_let-returns-clause-rest : goal.reach_let-returns-clause-rest
+reach_let-returns-clause-rest t c =
+    within_eased c.args.way.now.layers (let_eased c.in_ok-head.ensures.rest c.in_ok-body.ensures.rest (search rules) c.in_ok-bound.ensures.rest)
+
+pub reach_let-returns-then-is_var-clause-rest : goal.reach_let-returns-then-is_var-clause-rest
+reach_let-returns-then-is_var-clause-rest t c =
+    IfOk-weaker c.reach.result _ _ (λ e h. eased_then (within_eased c.args.way.now.layers (let_eased c.in_ok-head.ensures.rest (eased_same refl) (search rules) refl)) (eased_then (eased_same (sym (c.in_ok-output.ensures.rest _))) h)) c.reach.ensures.rest
+
+pub reach_call-returns-clause-rest : goal.reach_call-returns-clause-rest
+reach_call-returns-clause-rest t c =
+    λ r. within_eased c.args.way.now.layers (frame_eased c.in_ok-arguments.ensures.rests c.in_ok-body.ensures.rest (search rules) c.in_ok-called.ensures.rest)
+
+pub reach_call-returns-then-arguments-clause-rest : goal.reach_call-returns-then-arguments-clause-rest
+reach_call-returns-then-arguments-clause-rest t c =
+    λ r. eased_then (within_eased c.args.way.now.layers (frame_eased c.in_ok-arguments.ensures.rests (eased_same refl) (search rules) refl)) (c.in_ok-streams.ensures.rest _)
+
+pub reach-returns-in-Call-clause-run : goal.reach-returns-in-Call-clause-run
+reach-returns-in-Call-clause-run t c =
+    let is : op_term c.args.n.now.value ≡ call_term c.in-Call.f (map expr_of c.deref-in-Call.result.now) (operand_terms c.deref-in-Call-2.result.now) =
+    ap op_term (sym c.deref.ensures ∙ c.in-Call.is) ∙ ap₂ (λ (m : List Expr) (l : Operands). call_term c.in-Call.f (map expr_of m) (operand_terms l)) (sym c.deref-in-Call.ensures.value) (sym c.deref-in-Call-2.ensures) in
+    rw is (IfOk-weaker c.reach_call.result _ _ (λ a h. h (type_of c.args.r.now)) c.reach_call.ensures.run)
+
+pub reach-returns-in-Call-clause-rest : goal.reach-returns-in-Call-clause-rest
+reach-returns-in-Call-clause-rest t c =
+    let is : op_term c.args.n.now.value ≡ call_term c.in-Call.f (map expr_of c.deref-in-Call.result.now) (operand_terms c.deref-in-Call-2.result.now) =
+    ap op_term (sym c.deref.ensures ∙ c.in-Call.is) ∙ ap₂ (λ (m : List Expr) (l : Operands). call_term c.in-Call.f (map expr_of m) (operand_terms l)) (sym c.deref-in-Call.ensures.value) (sym c.deref-in-Call-2.ensures) in
+    rw is (IfOk-weaker c.reach_call.result _ _ (λ a h. h (type_of c.args.r.now)) c.reach_call.ensures.rest)
+
+pub reach-returns-in-Call-clause-spent : goal.reach-returns-in-Call-clause-spent
+reach-returns-in-Call-clause-spent t c =
+    let is : op_term c.args.n.now.value ≡ call_term c.in-Call.f (map expr_of c.deref-in-Call.result.now) (operand_terms c.deref-in-Call-2.result.now) =
+    ap op_term (sym c.deref.ensures ∙ c.in-Call.is) ∙ ap₂ (λ (m : List Expr) (l : Operands). call_term c.in-Call.f (map expr_of m) (operand_terms l)) (sym c.deref-in-Call.ensures.value) (sym c.deref-in-Call-2.ensures) in
+    rw is (MatchResult-weaker c.reach_call.result c.reach_call.ensures.spent (λ x u. u) (λ y h p. h p (type_of c.args.r.now)))
+
+pub reach-returns-in-Call-clause-deep : goal.reach-returns-in-Call-clause-deep
+reach-returns-in-Call-clause-deep t c =
+    let is : op_term c.args.n.now.value ≡ call_term c.in-Call.f (map expr_of c.deref-in-Call.result.now) (operand_terms c.deref-in-Call-2.result.now) =
+    ap op_term (sym c.deref.ensures ∙ c.in-Call.is) ∙ ap₂ (λ (m : List Expr) (l : Operands). call_term c.in-Call.f (map expr_of m) (operand_terms l)) (sym c.deref-in-Call.ensures.value) (sym c.deref-in-Call-2.ensures) in
+    rw is (MatchResult-weaker c.reach_call.result c.reach_call.ensures.deep (λ x u. u) (λ y h p. h p (type_of c.args.r.now)))
+
+pub start-returns-clause-rest : goal.start-returns-clause-rest
+start-returns-clause-rest t c =
+    IfOk-weaker c.go_on.result _ _ (λ a h. eased_then (eased_same (sym (c.no_way-way.ensures.rest _))) (eased_then c.in_ok-reached.ensures.rest h)) c.go_on.ensures.rest
+
+pub start_body-returns-clause-rest : goal.start_body-returns-clause-rest
+start_body-returns-clause-rest t c =
+    IfOk-weaker c.go_on.result _ _ (λ a h. eased_then (eased_same (sym (c.no_way-way.ensures.rest _))) (eased_then c.in_ok-reached.ensures.rest h)) c.go_on.ensures.rest
+
+pub enter-returns-then-left-eq0-clause-spent : goal.enter-returns-then-left-eq0-clause-spent
+enter-returns-then-left-eq0-clause-spent t c =
     λ q. let h = one_at_least (funs_of c.args.code.now) c.args.f c.args.k (map hist_value_of c.args.values.now) (map prefix_of c.args.streams.now) (omega arith) in omega (arith, h)
 
-pub start_body-start-requires : goal.start_body-start-requires
-start_body-start-requires t c =
+pub enter-reach-requires : goal.enter-reach-requires
+enter-reach-requires t c =
     let funs = bodies_in c.args.code.now in
     let same : op_term c.in-Some.body.now.body.value ≡ (fun_at funs c.args.f).body = ap (λ (b : CoreBody). b.body) c.in-Some.ensures.body in
     let light : weight (op_term c.in-Some.body.now.body.value) ≤ heaviest funs = subst (λ (e : CoreTerm). weight e ≤ heaviest funs) (sym same) (heaviest_is funs c.args.f) in
     let less : (c.args.k - 1) * suc (heaviest funs) + weight (op_term c.in-Some.body.now.body.value) < c.args.k * suc (heaviest funs) + 1 = body_weighs_less c.args.k (heaviest funs) (weight (op_term c.in-Some.body.now.body.value)) (omega arith) light in
+    let four : 4 * ((c.args.k - 1) * suc (heaviest funs) + weight (op_term c.in-Some.body.now.body.value)) < 4 * (c.args.k * suc (heaviest funs)) + 5 = omega (arith, less) in
     search rules
 
-pub start_body-returns-clause-run : goal.start_body-returns-clause-run
-start_body-returns-clause-run t c =
+pub enter-returns-clause-run : goal.enter-returns-clause-run
+enter-returns-clause-run t c =
     let funs = funs_of c.args.code.now in
     let d = c.args.k - 1 in
     let past = known_in c.in_ok-seen.seen.past.value in
     let same = ap (λ (l : List Entry). one_call (run_at funs d (funs c.args.f).body (types_held (map entry_in l)) (funs c.args.f).result (prefixes_held (map entry_in l)) (past_in past))) c.deref.ensures.value in
     let there = ap (λ (b : CoreBody). one_call (run_at funs d b.body (types_held (map entry_in c.deref.result.now)) b.result (prefixes_held (map entry_in c.deref.result.now)) (past_in past))) c.in-Some.ensures.body in
-    c.one_call.ensures.run ∙ (ap one_call c.in_ok-inside.ensures.run ∙ (there ∙ (same ∙ sym (c.in_ok-seen.ensures.runs c.args.k (omega arith)))))
+    IfOk-weaker c.reach.result _ _ (λ e h. h ∙ (c.into_body.ensures.run _ ∙ ap (after c.args.way.now) (there ∙ (same ∙ sym (c.in_ok-seen.ensures.runs c.args.k (omega arith)))))) c.reach.ensures.run
 
-pub start_body-returns-clause-rest : goal.start_body-returns-clause-rest
-start_body-returns-clause-rest t c =
+pub enter-returns-clause-rest : goal.enter-returns-clause-rest
+enter-returns-clause-rest t c =
     let funs = funs_of c.args.code.now in
     let d = c.args.k - 1 in
     let past = known_in c.in_ok-seen.seen.past.value in
     let same = ap (λ (l : List Entry). rest_at funs d (funs c.args.f).body (types_held (map entry_in l)) (funs c.args.f).result (prefixes_held (map entry_in l)) past) c.deref.ensures.value in
     let there = ap (λ (b : CoreBody). rest_at funs d b.body (types_held (map entry_in c.deref.result.now)) b.result (prefixes_held (map entry_in c.deref.result.now)) past) c.in-Some.ensures.body in
-    c.one_call.ensures.rest ∙ (c.in_ok-inside.ensures.rest ∙ (there ∙ (same ∙ sym (c.in_ok-seen.ensures.rests c.args.k (omega arith)))))
+    IfOk-weaker c.reach.result _ _ (λ e h. eased_then (within_eased c.args.way.now.layers (eased_same (sym (there ∙ (same ∙ sym (c.in_ok-seen.ensures.rests c.args.k (omega arith))))))) (moved _ _ c.into_body.ensures.rest h)) c.reach.ensures.rest
+
+pub go_on-calls-init : goal.go_on-calls-init
+go_on-calls-init t c = (refl, (eased_same refl, (c.requires.counted, (c.requires.shallow, omega arith))))
+
+pub go_on-calls-preserved : goal.go_on-calls-preserved
+go_on-calls-preserved t c =
+    let code = c.args.code.now in
+    let i = c.calls.invariant in
+    let run : reached_run code c.calls.k c.calls.reached ≡ call_at (funs_of code) c.calls.k c.in-Call.f (map hist_value_of c.deref.result.now) (map prefix_of c.deref-in-Call.result.now) =
+    ap (reached_run code c.calls.k) c.in-Call.is ∙ ap₂ (λ vs ps. call_at (funs_of code) c.calls.k c.in-Call.f (map hist_value_of vs) (map prefix_of ps)) (sym c.deref.ensures.value) (sym c.deref-in-Call.ensures.value) in
+    let rest : reached_rest code c.calls.k c.calls.reached ≡ call_rest_at (funs_of code) c.calls.k c.in-Call.f (map hist_value_of c.deref.result.now) (map prefix_of c.deref-in-Call.result.now) =
+    ap (reached_rest code c.calls.k) c.in-Call.is ∙ ap₂ (λ vs ps. call_rest_at (funs_of code) c.calls.k c.in-Call.f (map hist_value_of vs) (map prefix_of ps)) (sym c.deref.ensures.value) (sym c.deref-in-Call.ensures.value) in
+    let given = c.in_ok-reached-in-Call.ensures in
+    let few = i.1.1.0 in
+    let low = i.1.1.1.0 in
+    let less = i.1.1.1.1 in
+    let counted = given.counted in
+    let shallow = given.shallow in (
+      given.run ∙ (ap (after c.calls.way) (sym run) ∙ i.0),
+      (
+        eased_then i.1.0 (eased_then (within_eased c.calls.way.layers (eased_same rest)) given.rest),
+        (omega (arith, counted, few), (omega (arith, shallow, low), omega (arith, less))),
+      ),
+    )
+
+pub go_on-returns-in_err-reached-in-Call-clause-deep : goal.go_on-returns-in_err-reached-in-Call-clause-deep
+go_on-returns-in_err-reached-in-Call-clause-deep t c =
+    let code = c.args.code.now in
+    let i = c.calls.invariant in
+    let run : reached_run code c.calls.k c.calls.reached ≡ call_at (funs_of code) c.calls.k c.in-Call.f (map hist_value_of c.deref.result.now) (map prefix_of c.deref-in-Call.result.now) =
+    ap (reached_run code c.calls.k) c.in-Call.is ∙ ap₂ (λ vs ps. call_at (funs_of code) c.calls.k c.in-Call.f (map hist_value_of vs) (map prefix_of ps)) (sym c.deref.ensures.value) (sym c.deref-in-Call.ensures.value) in
+    let exit = err_from_is_err_and c.from_residual-in_err-reached-in-Call.result c.from_residual-in_err-reached-in-Call.ensures.1 in
+    rw (exit.1, exit.2) (λ q. gained_deep _ _ _ _ _ _ (ap (after c.calls.way) (sym run) ∙ i.0) (c.in_err-reached-in-Call.ensures.deep q))
+
+pub go_on-returns-in_err-reached-in-Call-clause-spent : goal.go_on-returns-in_err-reached-in-Call-clause-spent
+go_on-returns-in_err-reached-in-Call-clause-spent t c =
+    let code = c.args.code.now in
+    let i = c.calls.invariant in
+    let run : reached_run code c.calls.k c.calls.reached ≡ call_at (funs_of code) c.calls.k c.in-Call.f (map hist_value_of c.deref.result.now) (map prefix_of c.deref-in-Call.result.now) =
+    ap (reached_run code c.calls.k) c.in-Call.is ∙ ap₂ (λ vs ps. call_at (funs_of code) c.calls.k c.in-Call.f (map hist_value_of vs) (map prefix_of ps)) (sym c.deref.ensures.value) (sym c.deref-in-Call.ensures.value) in
+    let few = i.1.1.0 in
+    let exit = err_from_is_err_and c.from_residual-in_err-reached-in-Call.result c.from_residual-in_err-reached-in-Call.ensures.1 in
+    rw (exit.1, exit.2) (λ q. gained_spent _ _ _ _ _ _ (ap (after c.calls.way) (sym run) ∙ i.0) (omega (arith, few)) (c.in_err-reached-in-Call.ensures.spent q))

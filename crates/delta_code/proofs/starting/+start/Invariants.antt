@@ -1,51 +1,74 @@
 -- What is left to go through: what calls may weigh at the depth, and the weight of what stands there.
-use Rattle.std.proofs.Common.{◌+◌}
+use Rattle.std.proofs.Common.{◌≡◌, ◌≤◌, ◌<◌, ◌+◌, ◌*◌, max}
 use Rattle.machine_parts.specs.Weights.{weight, weight_of_all, weight_of_calls}
 use Rattle.template_state.specs.Readers.{op_term, operand_terms}
 use Rattle.template_state.specs.Templates.{bodies_in}
+use Rattle.delta_code.specs.Begun.{run_of, rest_of}
+use Rattle.delta_code.specs.Eased.{Eased}
+use Rattle.delta_code.specs.Way.{within, after, reached_run, reached_rest, reached_calls, reached_level}
 use Rattle.delta_code.proofs.starting.+start.Given as goal
 
 abbrev pub decreases-start : goal.decreases-start
-decreases-start l = weight_of_calls l.k (bodies_in l.code.now) + weight (op_term l.n.now.value)
+decreases-start l = 4 * (weight_of_calls l.k (bodies_in l.code.now) + weight (op_term l.n.now.value)) + 3
 
-abbrev pub decreases-start_both : goal.decreases-start_both
-decreases-start_both l = weight_of_calls l.k (bodies_in l.code.now) + (1 + (weight (op_term l.a.now.value) + weight (op_term l.b.now.value)))
+abbrev pub decreases-go_on : goal.decreases-go_on
+decreases-go_on l = 4 * weight_of_calls l.k (bodies_in l.code.now) + 6
 
-abbrev pub decreases-start_in_turn : goal.decreases-start_in_turn
-decreases-start_in_turn l = weight_of_calls l.k (bodies_in l.code.now) + (1 + (weight (op_term l.a.now.value) + weight (op_term l.b.now.value)))
-
-abbrev pub decreases-start_pair : goal.decreases-start_pair
-decreases-start_pair l = weight_of_calls l.k (bodies_in l.code.now) + (1 + weight (op_term l.a.now.value))
-
-abbrev pub decreases-start_row : goal.decreases-start_row
-decreases-start_row l = weight_of_calls l.k (bodies_in l.code.now) + (1 + weight (op_term l.a.now.value))
-
-abbrev pub decreases-start_sum : goal.decreases-start_sum
-decreases-start_sum l = weight_of_calls l.k (bodies_in l.code.now) + (1 + (weight (op_term l.a.now.value) + weight (op_term l.b.now.value)))
-
-abbrev pub decreases-start_star : goal.decreases-start_star
-decreases-start_star l = weight_of_calls l.k (bodies_in l.code.now) + (1 + (weight (op_term l.a.now.value) + weight (op_term l.b.now.value)))
-
-abbrev pub decreases-start_wait : goal.decreases-start_wait
-decreases-start_wait l = weight_of_calls l.k (bodies_in l.code.now) + (1 + weight (op_term l.a.now.value))
-
-abbrev pub decreases-start_call : goal.decreases-start_call
-decreases-start_call l = weight_of_calls l.k (bodies_in l.code.now) + (3 + weight_of_all (operand_terms l.es.now))
-
-abbrev pub decreases-start_arguments : goal.decreases-start_arguments
-decreases-start_arguments l = weight_of_calls l.k (bodies_in l.code.now) + (2 + weight_of_all (operand_terms l.es.now))
+abbrev pub decreases-enter : goal.decreases-enter
+decreases-enter l = 4 * weight_of_calls l.k (bodies_in l.code.now) + 5
 
 abbrev pub decreases-start_body : goal.decreases-start_body
-decreases-start_body l = weight_of_calls l.k (bodies_in l.code.now) + 1
+decreases-start_body l = 4 * weight_of_calls l.k (bodies_in l.code.now) + 7
 
-abbrev pub decreases-start_let : goal.decreases-start_let
-decreases-start_let l = weight_of_calls l.k (bodies_in l.code.now) + (1 + (weight (op_term l.a.now.value) + weight (op_term l.b.now.value)))
+abbrev pub decreases-reach : goal.decreases-reach
+decreases-reach l = 4 * (weight_of_calls l.k (bodies_in l.code.now) + weight (op_term l.n.now.value))
 
-abbrev pub decreases-start_cons : goal.decreases-start_cons
-decreases-start_cons l = weight_of_calls l.k (bodies_in l.code.now) + (2 + (weight (op_term l.a.now.value) + weight (op_term l.b.now.value)))
+abbrev pub decreases-reach_let : goal.decreases-reach_let
+decreases-reach_let l = 4 * (weight_of_calls l.k (bodies_in l.code.now) + (1 + (weight (op_term l.a.now.value) + weight (op_term l.b.now.value))))
+
+abbrev pub decreases-reach_sum : goal.decreases-reach_sum
+decreases-reach_sum l = 4 * (weight_of_calls l.k (bodies_in l.code.now) + (1 + (weight (op_term l.a.now.value) + weight (op_term l.b.now.value))))
+
+abbrev pub decreases-reach_star : goal.decreases-reach_star
+decreases-reach_star l = 4 * (weight_of_calls l.k (bodies_in l.code.now) + (1 + (weight (op_term l.a.now.value) + weight (op_term l.b.now.value))))
+
+abbrev pub decreases-start_both : goal.decreases-start_both
+decreases-start_both l = 4 * (weight_of_calls l.k (bodies_in l.code.now) + (1 + (weight (op_term l.a.now.value) + weight (op_term l.b.now.value))))
+
+abbrev pub decreases-start_in_turn : goal.decreases-start_in_turn
+decreases-start_in_turn l = 4 * (weight_of_calls l.k (bodies_in l.code.now) + (1 + (weight (op_term l.a.now.value) + weight (op_term l.b.now.value))))
+
+abbrev pub decreases-reach_cons : goal.decreases-reach_cons
+decreases-reach_cons l = 4 * (weight_of_calls l.k (bodies_in l.code.now) + (2 + (weight (op_term l.a.now.value) + weight (op_term l.b.now.value))))
+
+abbrev pub decreases-reach_pair : goal.decreases-reach_pair
+decreases-reach_pair l = 4 * (weight_of_calls l.k (bodies_in l.code.now) + (1 + weight (op_term l.a.now.value)))
+
+abbrev pub decreases-reach_row : goal.decreases-reach_row
+decreases-reach_row l = 4 * (weight_of_calls l.k (bodies_in l.code.now) + (1 + weight (op_term l.a.now.value)))
 
 abbrev pub decreases-start_left : goal.decreases-start_left
-decreases-start_left l = weight_of_calls l.k (bodies_in l.code.now) + (1 + weight (op_term l.a.now.value))
+decreases-start_left l = 4 * (weight_of_calls l.k (bodies_in l.code.now) + (1 + weight (op_term l.a.now.value)))
 
 abbrev pub decreases-start_right : goal.decreases-start_right
-decreases-start_right l = weight_of_calls l.k (bodies_in l.code.now) + (1 + weight (op_term l.a.now.value))
+decreases-start_right l = 4 * (weight_of_calls l.k (bodies_in l.code.now) + (1 + weight (op_term l.a.now.value)))
+
+abbrev pub decreases-reach_wait : goal.decreases-reach_wait
+decreases-reach_wait l = 4 * (weight_of_calls l.k (bodies_in l.code.now) + (1 + weight (op_term l.a.now.value)))
+
+abbrev pub decreases-reach_call : goal.decreases-reach_call
+decreases-reach_call l = 4 * (weight_of_calls l.k (bodies_in l.code.now) + (3 + weight_of_all (operand_terms l.es.now)))
+
+abbrev pub decreases-start_arguments : goal.decreases-start_arguments
+decreases-start_arguments l = 4 * (weight_of_calls l.k (bodies_in l.code.now) + (2 + weight_of_all (operand_terms l.es.now)))
+
+-- what is still to come at the end of the way is what was to come when the loop began
+abbrev pub invariant-go_on-calls : goal.invariant-go_on-calls
+invariant-go_on-calls l = (after l.way (reached_run l.code l.k l.reached) ≡ after l.initial.way (reached_run l.code l.initial.k l.initial.reached))
+    × (Eased (within l.initial.way.layers (reached_rest l.code l.initial.k l.initial.reached)) (within l.way.layers (reached_rest l.code l.k l.reached))
+    × ((l.way.calls + reached_calls l.reached ≤ l.left)
+    × ((max l.way.level (reached_level l.reached) ≤ l.levels)
+    × (l.k ≤ l.initial.k))))
+
+abbrev pub decreases-go_on-calls : goal.decreases-go_on-calls
+decreases-go_on-calls l = l.k

@@ -1,16 +1,20 @@
 -- A frame's body runs on entries for its parameters.
-use Rattle.std.proofs.Common.{◌≡◌, ◌-◌, ◌<◌, map, sym, ap, ap₂, ◌∙◌, subst, arith, rules}
+use Rattle.std.proofs.Common.{◌≡◌, ℕ, ◌-◌, ◌<◌, ◌≤◌, ◌||◌, map, refl, sym, ap, ◌∙◌, subst, arith, rules}
 use Rattle.std.proofs.lemmas.Result.{err_from_is_err_and}
 use Rattle.stream_type.specs.StreamType.{type_of}
+use Rattle.stream_prefix.specs.StreamPrefix.{is_maximal}
+use Rattle.stream_prefix.specs.Tree.{prefix_of}
 use Rattle.core_term.specs.Run.{Run, frame_run}
-use Rattle.delta_state.specs.StateTree.{frame_state}
 use Rattle.machine_parts.specs.Entry.{entry_in}
 use Rattle.machine_parts.specs.Parameters.{parameters}
 use Rattle.machine_parts.specs.Scope.{types_in, streams_in}
 use Rattle.machine_parts.specs.Levels.{below}
+use Rattle.machine_parts.proofs.Deeper.{let_within, frame_within}
 use Rattle.machine_parts.proofs.HeldAndComing.{body_runs, body_rests, body_deep}
 use Rattle.template_state.specs.Readers.{state_in, arguments_in}
 use Rattle.delta_code.specs.Steps.{funs_of, lives_run}
+use Rattle.delta_code.specs.Told.{told}
+use Rattle.delta_code.proofs.Easing.{same_eased, frame_eased, eased_cut}
 use Rattle.delta_code.proofs.stepping.+step.Goals as goal
 
 pub step_frame-returns-in_err-body-clause-spent : goal.step_frame-returns-in_err-body-clause-spent
@@ -58,4 +62,23 @@ step_frame-returns-clause-rest t c =
     let es = map entry_in c.deref.result.now in
     let names : es ≡ parameters args runs.outs = search rules in
     let same = body_rests (funs_of a.code.now) args (types_in a.scope.now) (streams_in a.scope.now) runs es (λ i. runs) names (state_in a.a.now) (type_of a.r.now) in
-    ap₂ frame_state c.in_ok-arguments.ensures.rests (c.in_ok-body.ensures.rest ∙ same)
+    frame_eased c.in_ok-arguments.ensures.rests (same_eased c.in_ok-body.ensures.rest (sym same) refl) refl refl
+
+pub step_frame-returns-clause-shallow : goal.step_frame-returns-clause-shallow
+step_frame-returns-clause-shallow t c =
+    let a = c.args in
+    let runs = lives_run a.code.now a.scope.now (arguments_in a.args.now) in
+    let are = c.in_ok-arguments.ensures.runs in
+    let levels : c.on_arguments-on_those.result ≡ below runs.are_shut a.levels = c.on_arguments-on_those.ensures ∙ ap (λ b. below b a.levels) are.1.1 in
+    frame_within runs _ (told c.in_ok-body.body) a.levels _ _ (c.in_ok-framed.ensures runs (sym are.0) (sym are.1.0) (sym are.1.1)) c.inside.ensures levels
+    (subst (λ (n : ℕ). n ≤ c.inside.result) are.1.0 c.in_ok-arguments.ensures.shallow) c.in_ok-body.ensures.shallow
+
+pub step_let-returns-clause-shallow : goal.step_let-returns-clause-shallow
+step_let-returns-clause-shallow t c =
+    let head = c.in_ok-head.head in
+    let after : c.after_head-after.result ≡ below (c.is_name-is_name.result || is_maximal (prefix_of head.output.value)) c.args.levels = cc in
+    let_within c.is_name-is_name.result _ (told head) (told c.in_ok-body.body) _ _ _ c.in_ok-bound.ensures c.inside.ensures after c.in_ok-head.ensures.shallow c.in_ok-body.ensures.shallow
+
+pub step_row-returns-clause-rest : goal.step_row-returns-clause-rest
+step_row-returns-clause-rest t c =
+    same_eased (eased_cut c.args.x.0 c.args.y.0 c.args.z.0 (type_of c.type_at-ty.result.now) (prefix_of c.stream_at-p.result.now) c.in_ok-given.ensures.rest) (search rules) c.in_ok-cut.ensures.rest

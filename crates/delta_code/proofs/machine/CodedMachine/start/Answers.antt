@@ -1,5 +1,5 @@
 -- What the machine holds at its start is what it has to keep, and what it stops for is the program's.
-use Rattle.std.proofs.Common.{◌≡◌, ◌<◌, Err, List, [], map, string_bytes, sym, ap, ◌∙◌, subst}
+use Rattle.std.proofs.Common.{◌≡◌, ◌<◌, Err, List, [], map, string_bytes, sym, ap, ◌∙◌, subst, refl}
 use Rattle.std.specs.declared.alloc.Global.{Global}
 use Rattle.std.specs.declared.string.String.{String}
 use Rattle.stream_type.specs.declared.ty.Ty.{Ty}
@@ -21,6 +21,7 @@ use Rattle.state_rewriting.specs.Rewriting.{SimplerBy}
 use Rattle.template_state.specs.Readers.{state_in}
 use Rattle.template_state.specs.Templates.{bodies_in, body_in}
 use Rattle.delta_code.specs.Begun.{run_of, rest_of}
+use Rattle.state_rewriting.proofs.RewritingsInside.{by_then}
 use Rattle.delta_code.proofs.SameProgram.{same_program, keeps_simpler}
 use Rattle.delta_code.proofs.machine.CodedMachine.start.Goals as goal
 
@@ -55,14 +56,14 @@ returns-clause-stands c =
     let begun = c.in_ok-run.run' in
     let texts : map string_bytes c.in_ok-texts.texts.items ≡ d.texts = c.in_ok-texts.ensures ∙ ap (λ (l : List (String Global)). map string_bytes l) c.deref-4.ensures.value in
     let program : CoreProgram = record { funs = bodies_in code; main = body_in code.main; texts = map string_bytes c.in_ok-texts.texts.items } in
-    let kept = begins_below_with d (record { is_core = c.core-core.ensures.core; is_typed = c.core-core.ensures.typed }) c.args.budget (run_of begun) (rest_of begun) c.in_ok-run.ensures.run c.in_ok-run.ensures.rest c.in_ok-run.ensures.counted c.requires.budget
+    let kept = begins_below_with d (record { is_core = c.core-core.ensures.core; is_typed = c.core-core.ensures.typed }) c.args.budget (run_of begun) _ c.in_ok-run.ensures.run refl c.in_ok-run.ensures.counted c.requires.budget
     program (awaited_in c.in_ok-awaited.awaited.value) (type_of c.in_ok-input.input.value) (type_of c.in_ok-output.output.value)
     (same_program d (bodies_in code) (body_in code.main) (map string_bytes c.in_ok-texts.texts.items) c.in_ok-code.ensures.funs c.in_ok-code.ensures.main texts)
     c.in_ok-awaited.ensures
     (c.in_ok-input.ensures ∙ (c.input-2.ensures ∙ ap (λ (p : CoreProgram). input_type p) (sym same)))
     (c.in_ok-output.ensures ∙ ap (λ (p : Prefix). der (prefix_of p) d.main.result) c.deref-3.ensures) in
-    keeps_simpler program c.args.budget (rest_of begun) (state_in c.in_ok-state.state.value) (awaited_in c.in_ok-awaited.awaited.value) (type_of c.in_ok-input.input.value) (type_of c.in_ok-output.output.value) 0 begun.calls [] kept
-    (subst (λ (t : Ty). SimplerBy (type_of t) (rest_of begun) (state_in c.in_ok-state.state.value)) c.deref-5.ensures c.in_ok-state.ensures)
+    keeps_simpler program c.args.budget _ (state_in c.in_ok-state.state.value) (awaited_in c.in_ok-awaited.awaited.value) (type_of c.in_ok-input.input.value) (type_of c.in_ok-output.output.value) 0 begun.calls [] kept
+    (by_then (c.in_ok-run.ensures.rest.at (type_of c.in_ok-output.output.value)) (subst (λ (t : Ty). SimplerBy (type_of t) (rest_of begun) (state_in c.in_ok-state.state.value)) c.deref-5.ensures c.in_ok-state.ensures))
 
 pub returns-clause-answer : goal.returns-clause-answer
 returns-clause-answer c =

@@ -15,6 +15,7 @@ use Rattle.machine_parts.specs.AwaitedTree.{awaited_in, entries_on}
 use Rattle.machine_parts.proofs.StandingTrees.{is_costly, is_deep, is_answer}
 use Rattle.machine_bounds.proofs.BelowBounds.{goes_on_below_with}
 use Rattle.state_rewriting.specs.Rewriting.{SimplerBy}
+use Rattle.state_rewriting.proofs.RewritingsInside.{by_then}
 use Rattle.template_state.specs.Readers.{state_in}
 use Rattle.delta_code.specs.Told.{told}
 use Rattle.delta_code.specs.CodedView.{run_awaiting, rest_awaiting, program_of}
@@ -69,15 +70,16 @@ returns-clause-stands c word w =
     λ j. run_awaiting (c.deref-2.ensures j) (state_in (c.deref_mut.ensures.value j)) (type_of (c.deref-4.ensures j)) (awaited_in (c.deref-3.ensures j)) (came j) in
     let rests : rest_awaiting c.deref-2.result.now (state_in c.deref_mut.result.now) (type_of c.deref-4.result.now) (awaited_in c.deref-3.result.now) (prefix_of c.deref-5.result.now) ≡ state_on d s o (entries_on a (one_of x i)) =
     λ j. rest_awaiting (c.deref-2.ensures j) (state_in (c.deref_mut.ensures.value j)) (type_of (c.deref-4.ensures j)) (awaited_in (c.deref-3.ensures j)) (came j) in
+    let left = rest_awaiting c.deref-2.result.now (state_in c.deref_mut.result.now) (type_of c.deref-4.result.now) (awaited_in c.deref-3.result.now) (prefix_of c.deref-5.result.now) in
     let again : prefix_of c.deref-6.result.now ≡ one_of x i = ap (λ (p : Prefix). prefix_of p) c.deref-6.ensures ∙ (c.in_ok-next.ensures ∙ ap (λ (t : Ty). one_of x (type_of t)) c.deref.ensures) in
     let k = c.in_ok-advance.ensures in
     let after = c.advance.new.machine in
     let next : after.events ≡ suc m.events = omega (arith, k.events) in
     let simpler : SimplerBy (type_of after.output.value) (state_in c.next_run.new.state) (state_in after.state.value) = k.state in
     let kept = goes_on_below_with d m.budget s a i o m.events m.spent word x w.stands_after w.admits (told c.in_ok-told.told) (c.in_ok-told.ensures.run ∙ runs) c.in_ok-told.ensures.counted c.requires.has_room
-    (prefix_of c.deref-6.result.now) (state_in c.next_run.new.state) (program_of after) after.budget (awaited_in after.awaited.value) (type_of after.input.value) (type_of after.output.value) after.events after.spent
-    again (c.in_ok-told.ensures.rest ∙ rests) k.program k.budget k.awaited k.input k.output next k.spent in
-    keeps_simpler (program_of after) after.budget (state_in c.next_run.new.state) (state_in after.state.value) (awaited_in after.awaited.value) (type_of after.input.value) (type_of after.output.value) after.events after.spent _ kept simpler
+    (prefix_of c.deref-6.result.now) left (program_of after) after.budget (awaited_in after.awaited.value) (type_of after.input.value) (type_of after.output.value) after.events after.spent
+    again rests k.program k.budget k.awaited k.input k.output next k.spent in
+    keeps_simpler (program_of after) after.budget left (state_in after.state.value) (awaited_in after.awaited.value) (type_of after.input.value) (type_of after.output.value) after.events after.spent _ kept (by_then (c.in_ok-told.ensures.rest.at (type_of after.output.value)) simpler)
 
 pub returns-clause-answer : goal.returns-clause-answer
 returns-clause-answer c word w =
