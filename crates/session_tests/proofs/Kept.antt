@@ -1,5 +1,5 @@
 -- A session that was opened is kept.
-use Rattle.std.proofs.Common.{ℕ, [], Result, Ok, Err, IfOk, List, inl}
+use Rattle.std.proofs.Common.{ℕ, Result, Ok, Err, IfOk, List, inl}
 use Rattle.event_word.specs.StreamEvent.{StreamEvent}
 use Rattle.core_term.specs.CoreTerm.{CoreProgram}
 use Rattle.delta_state.specs.MachineView.{MachineView}
