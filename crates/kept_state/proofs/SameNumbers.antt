@@ -1,5 +1,5 @@
 -- Numbers of which the bytes begin the same: they are the same, and so is what follows.
-use Rattle.std.proofs.Common.{◌≡◌, ◌∙◌, ◌^◌, ◌<◌, ℕ, suc, eqb, false, List, [], ◌∷◌, ◌++◌, append_assoc, ap, refl, sym, arith}
+use Rattle.std.proofs.Common.{◌≡◌, ◌∙◌, ℕ, suc, eqb, false, List, ◌∷◌, ◌++◌, append_assoc, ap, sym, arith}
 use Rattle.std.specs.Prelude.{ℤ}
 use Rattle.std.specs.Int.{w32, w64, from_be_bytes, cast_signed, cast_unsigned}
 use Rattle.std.proofs.lemmas.Nat.{from_be_bytes-to_be_bytes_4, from_be_bytes-to_be_bytes_8}

@@ -1,6 +1,5 @@
 -- Types, historical expressions, prefixes and values of which the bytes begin the same.
-use Rattle.std.proofs.Common.{◌≡◌, ◌∙◌, ◌<◌, ◌^◌, ℕ, suc, List, [], ◌∷◌, ◌++◌, length, map, append_assoc, ap, refl, sym, arith}
-use Rattle.std.specs.Prelude.{ℤ, ⊤}
+use Rattle.std.proofs.Common.{◌≡◌, ◌∙◌, ℕ, suc, List, [], ◌∷◌, ◌++◌, length, map, ap, refl, sym, arith}
 use Rattle.std.specs.List.{concat, AllByRecursion}
 use Rattle.stream_type.specs.StreamType.{StreamType, eps, one, int, cat, par, sum, star}
 use Rattle.stream_prefix.specs.StreamPrefix.{StreamPrefix, eps_emp, one_emp, one_full, int_emp, int_full, par_both, cat_fst, cat_both, sum_emp, in_left, in_right, star_emp, star_done, star_first, star_rest}
@@ -8,8 +7,8 @@ use Rattle.hist_value.specs.declared.expr.Op.{Op}
 use Rattle.hist_value.specs.declared.expr.Op.TheVariants.{Add, Sub, Mul, Div, Less, Same as Equal}
 use Rattle.hist_value.specs.HistValue.{HistValue, unit_value, number, pair_of, left_of, right_of, no_items, item_before}
 use Rattle.hist_value.specs.HistExpr.{HistExpr, variable, literal, unit_expr, reckoned, pair_expr, first_expr, second_expr, left_expr, right_expr, choice, nil_expr, cons_expr, fold_expr}
-use Rattle.kept_state.specs.KeptBytes.{short_bytes, int_bytes, list_bytes, type_bytes, whole_items, prefix_bytes, rest_bytes, item_count, value_bytes, items_bytes, op_byte, expr_bytes}
-use Rattle.kept_state.specs.KeptSizes.{FitsShort, FitsInt, FitsPrefix, FitsValue, FitsExpr, IsOfStar, IsShaped, IsOfList, IsShapedValue}
+use Rattle.kept_state.specs.KeptBytes.{short_bytes, list_bytes, type_bytes, whole_items, prefix_bytes, rest_bytes, item_count, value_bytes, items_bytes, op_byte, expr_bytes}
+use Rattle.kept_state.specs.KeptSizes.{FitsShort, FitsPrefix, FitsValue, FitsExpr, IsOfStar, IsShaped, IsOfList, IsShapedValue}
 use Rattle.kept_state.proofs.SameNumbers.{Same, short_same, int_same, first_of, behind_byte, pred_same, after_none, clash}
 
 -- types

@@ -1,16 +1,14 @@
 -- Terms and states of which the bytes begin the same; and that no two kept states have the same bytes.
-use Rattle.std.proofs.Common.{◌≡◌, ◌∙◌, ◌<◌, ◌^◌, ℕ, suc, Bool, true, false, List, [], ◌∷◌, ◌++◌, length, drop, map, append_assoc, append-nil, ap, refl, sym, arith}
+use Rattle.std.proofs.Common.{◌≡◌, ◌∙◌, ℕ, Bool, true, false, List, [], ◌∷◌, ◌++◌, length, drop, ap, refl, arith}
 use Rattle.std.specs.Prelude.{⊤}
-use Rattle.std.specs.List.{concat, AllByRecursion}
-use Rattle.stream_type.specs.StreamType.{StreamType}
+use Rattle.std.specs.List.{AllByRecursion}
 use Rattle.core_term.specs.CoreTerm.{CoreTerm, CoreTerms, var_term, eps_term, unit_term, nil_term, past_term, par_term, cat_term, cons_term, inl_term, inr_term, let_term, let_par_term, let_cat_term, case_sum_term, case_star_term, wait_term, call_term, no_terms, term_before, term_count}
 use Rattle.delta_state.specs.StateTree.{Known, HeldName, LaterTree, StateTree, ArgumentTrees, sink, var_state, par_state, cat_state, let_state, let_par_state, let_cat_state, sum_state, star_state, wait_state, frame_state, no_arguments, argument_before, argument_names}
-use Rattle.kept_state.specs.KeptTree.{KeptTree}
-use Rattle.kept_state.specs.KeptBytes.{short_bytes, long_bytes, list_bytes, bool_bytes, type_bytes, expr_bytes, term_bytes, terms_bytes, behind, known_bytes, held_name_bytes, later_bytes, nodes_in_state, state_bytes, arguments_bytes, kept_bytes}
-use Rattle.kept_state.specs.KeptSizes.{FitsShort, FitsExpr, FitsTerm, FitsTerms, FitsKnown, FitsHeldName, FitsHeld, FitsLater, FitsState, FitsArguments, HasSizes, IsShaped, IsShapedValue, AreShaped, IsShapedLater, IsShapedState, AreShapedArguments}
+use Rattle.kept_state.specs.KeptBytes.{list_bytes, bool_bytes, type_bytes, expr_bytes, term_bytes, terms_bytes, behind, known_bytes, held_name_bytes, later_bytes, nodes_in_state, state_bytes, arguments_bytes, kept_bytes}
+use Rattle.kept_state.specs.KeptSizes.{FitsExpr, FitsTerm, FitsTerms, FitsKnown, FitsHeldName, FitsHeld, FitsLater, FitsState, FitsArguments, IsShaped, IsShapedValue, AreShaped, IsShapedLater, IsShapedState, AreShapedArguments}
 use Rattle.kept_state.specs.Laws.{OneSpelling}
 use Rattle.kept_state.proofs.SameNumbers.{Same, short_same, long_same, after_short, first_of, behind_byte, pred_same, clash}
-use Rattle.kept_state.proofs.SameParts.{types_same, exprs_same, prefixes_same, values_same, lists_same, each_same}
+use Rattle.kept_state.proofs.SameParts.{types_same, exprs_same, prefixes_same, values_same, lists_same}
 
 mutual
   -- terms, wherever their nodes stand

@@ -1,9 +1,8 @@
 -- Bytes without a fault of form are those of a kept state.
-use Rattle.std.proofs.Common.{◌≡◌, ◌∙◌, ◌+◌, ◌*◌, ◌<◌, ◌≤◌, ◌^◌, ℕ, zero, suc, Bool, true, false, List, [], ◌∷◌, ◌++◌, length, map, drop, get_or, eqb, ap, ap₂, refl, sym, subst, arith, append_assoc, length-append}
-use Rattle.std.specs.Prelude.{ℤ, ⊤, Some, None, Option, if◌then◌else◌, option_map, nat_lt}
-use Rattle.std.specs.Int.{w32, w64, to_be_bytes, from_be_bytes, cast_signed, cast_unsigned}
+use Rattle.std.proofs.Common.{◌≡◌, ◌∙◌, ◌+◌, ◌*◌, ◌<◌, ◌^◌, ℕ, zero, suc, Bool, true, false, List, [], ◌∷◌, ◌++◌, length, map, get_or, ap, ap₂, refl, sym, subst, arith, append_assoc}
+use Rattle.std.specs.Prelude.{ℤ, ⊤, Some, None, Option}
+use Rattle.std.specs.Int.{w32, w64, to_be_bytes, from_be_bytes, cast_signed}
 use Rattle.std.specs.List.{concat, AllByRecursion}
-use Rattle.std.proofs.lemmas.Bool.{eqb-true}
 use Rattle.std.proofs.lemmas.List.{append-nil}
 use Rattle.std.proofs.lemmas.Nat.{be_bytes_4, be_bytes_8}
 use Rattle.std.proofs.lemmas.Int.{of_z-to_z}
@@ -14,12 +13,11 @@ use Rattle.hist_value.specs.declared.expr.Op.{Op}
 use Rattle.hist_value.specs.declared.expr.Op.TheVariants.{Add, Sub, Mul, Div, Less, Same}
 use Rattle.hist_value.specs.HistValue.{HistValue, unit_value, number, pair_of, left_of, right_of, no_items, item_before}
 use Rattle.hist_value.specs.HistExpr.{HistExpr, variable, literal, unit_expr, reckoned, pair_expr, first_expr, second_expr, left_expr, right_expr, choice, nil_expr, cons_expr, fold_expr}
-use Rattle.core_term.specs.CoreTerm.{CoreTerm, CoreTerms, var_term, eps_term, unit_term, nil_term, past_term, par_term, cat_term, cons_term, inl_term, inr_term, let_term, let_par_term, let_cat_term, case_sum_term, case_star_term, wait_term, call_term, no_terms, term_before, term_count, node_count, node_counts}
-use Rattle.delta_state.specs.StateTree.{Known, HeldName, LaterTree, StateTree, ArgumentTrees, sink, var_state, par_state, cat_state, let_state, let_par_state, let_cat_state, sum_state, star_state, wait_state, frame_state, no_arguments, argument_before, argument_names}
-use Rattle.kept_state.specs.KeptTree.{KeptTree}
-use Rattle.kept_state.specs.KeptBytes.{short_bytes, long_bytes, int_bytes, list_bytes, bool_bytes, type_bytes, whole_items, prefix_bytes, rest_bytes, item_count, value_bytes, items_bytes, op_byte, expr_bytes, behind, node_bytes, inside, term_bytes, terms_bytes, known_bytes, held_name_bytes, later_bytes, nodes_in_state, nodes_in_arguments, state_bytes, arguments_bytes, kept_bytes}
-use Rattle.kept_state.specs.KeptForm.{Kind, bool_kind, type_kind, prefix_kind, end_kind, value_kind, op_kind, expr_kind, term_kind, state_kind, Item, bool_item, type_item, prefix_item, value_item, expr_item, node_item, known_item, held_item, argument_item, Part, exactly, any, form, count, items, list_part, item_parts, forms_of, form_at, settle, after_byte, is_whole, go_on, fault_from, kept_parts}
-use Rattle.kept_state.specs.KeptSizes.{FitsShort, FitsLong, FitsInt, FitsPrefix, FitsValue, FitsExpr, FitsExprs, FitsTerm, FitsTerms, FitsKnown, FitsHeldName, FitsHeld, FitsLater, FitsState, FitsArguments, HasSizes, IsOfStar, IsShaped, IsOfList, IsShapedValue, AreShaped, IsShapedLater, IsShapedState, AreShapedArguments}
+use Rattle.core_term.specs.CoreTerm.{CoreTerm, node_count}
+use Rattle.delta_state.specs.StateTree.{Known, HeldName, StateTree}
+use Rattle.kept_state.specs.KeptBytes.{short_bytes, long_bytes, int_bytes, list_bytes, bool_bytes, type_bytes, whole_items, prefix_bytes, rest_bytes, item_count, value_bytes, items_bytes, op_byte, expr_bytes, node_bytes, inside, term_bytes, known_bytes, held_name_bytes, nodes_in_state, state_bytes}
+use Rattle.kept_state.specs.KeptForm.{Kind, bool_kind, type_kind, prefix_kind, end_kind, value_kind, op_kind, expr_kind, term_kind, state_kind, Item, bool_item, type_item, prefix_item, value_item, expr_item, node_item, known_item, held_item, argument_item, Part, exactly, any, form, count, items, list_part, forms_of, form_at}
+use Rattle.kept_state.specs.KeptSizes.{FitsShort, FitsLong, FitsInt, FitsPrefix, FitsValue, FitsExpr, FitsTerm, FitsKnown, FitsHeldName, FitsState, IsOfStar, IsShaped, IsOfList, IsShapedValue, IsShapedState}
 
 -- each is a byte
 abbrev pub AreBytes : List ℕ → Type 0
@@ -528,4 +526,3 @@ made_value (suc (suc (suc (suc zero)))) bs h =
     record { value = right_of t0.value; good = t0.good; is = ap (λ x. 4 ∷ x) (sym (t0.is ∙ (ap (λ x. value_bytes t0.value ++ x) t0.more ∙ append-nil (value_bytes t0.value)))) }
 made_value (suc (suc (suc (suc (suc zero))))) bs h = made_list bs h
 made_value _ bs h = absurd h
-

@@ -1,30 +1,20 @@
 -- Terms, states and kept states of bytes without a fault of form.
-use Rattle.std.proofs.Common.{◌≡◌, ◌∙◌, ◌+◌, ◌*◌, ◌<◌, ◌≤◌, ◌^◌, ℕ, zero, suc, Bool, true, false, List, [], ◌∷◌, ◌++◌, length, map, drop, get_or, eqb, ap, ap₂, refl, sym, subst, arith, append_assoc, length-append}
-use Rattle.std.specs.Prelude.{ℤ, ⊤, Some, None, Option, if◌then◌else◌, option_map, nat_lt}
-use Rattle.std.specs.Int.{w32, w64, to_be_bytes, from_be_bytes, cast_signed, cast_unsigned}
-use Rattle.std.specs.List.{concat, AllByRecursion}
+use Rattle.std.proofs.Common.{◌≡◌, ◌∙◌, ◌+◌, ◌*◌, ◌<◌, ℕ, zero, suc, Bool, true, false, List, [], ◌∷◌, ◌++◌, length, drop, eqb, ap, ap₂, refl, sym, subst, arith, append_assoc, length-append}
+use Rattle.std.specs.Prelude.{⊤, Some, None, Option, if◌then◌else◌, option_map, nat_lt}
+use Rattle.std.specs.List.{AllByRecursion}
 use Rattle.std.proofs.lemmas.Bool.{eqb-true}
 use Rattle.std.proofs.lemmas.List.{append-nil}
-use Rattle.std.proofs.lemmas.Nat.{be_bytes_4, be_bytes_8}
-use Rattle.std.proofs.lemmas.Int.{of_z-to_z}
-use Rattle.std.proofs.Math.Facts.{sfits_to_z}
-use Rattle.stream_type.specs.StreamType.{StreamType, eps, one, int, cat, par, sum, star}
-use Rattle.stream_prefix.specs.StreamPrefix.{StreamPrefix, eps_emp, one_emp, one_full, int_emp, int_full, par_both, cat_fst, cat_both, sum_emp, in_left, in_right, star_emp, star_done, star_first, star_rest}
-use Rattle.hist_value.specs.declared.expr.Op.{Op}
-use Rattle.hist_value.specs.declared.expr.Op.TheVariants.{Add, Sub, Mul, Div, Less, Same}
-use Rattle.hist_value.specs.HistValue.{HistValue, unit_value, number, pair_of, left_of, right_of, no_items, item_before}
-use Rattle.hist_value.specs.HistExpr.{HistExpr, variable, literal, unit_expr, reckoned, pair_expr, first_expr, second_expr, left_expr, right_expr, choice, nil_expr, cons_expr, fold_expr}
+use Rattle.stream_type.specs.StreamType.{StreamType}
+use Rattle.hist_value.specs.HistExpr.{HistExpr}
 use Rattle.core_term.specs.CoreTerm.{CoreTerm, CoreTerms, var_term, eps_term, unit_term, nil_term, past_term, par_term, cat_term, cons_term, inl_term, inr_term, let_term, let_par_term, let_cat_term, case_sum_term, case_star_term, wait_term, call_term, no_terms, term_before, term_count, node_count, node_counts}
 use Rattle.delta_state.specs.StateTree.{Known, HeldName, LaterTree, StateTree, ArgumentTrees, sink, var_state, par_state, cat_state, let_state, let_par_state, let_cat_state, sum_state, star_state, wait_state, frame_state, no_arguments, argument_before, argument_names}
-use Rattle.kept_state.specs.KeptTree.{KeptTree}
-use Rattle.kept_state.specs.KeptBytes.{short_bytes, long_bytes, int_bytes, list_bytes, bool_bytes, type_bytes, whole_items, prefix_bytes, rest_bytes, item_count, value_bytes, items_bytes, op_byte, expr_bytes, behind, node_bytes, inside, term_bytes, terms_bytes, known_bytes, held_name_bytes, later_bytes, nodes_in_state, nodes_in_arguments, state_bytes, arguments_bytes, kept_bytes}
+use Rattle.kept_state.specs.KeptBytes.{short_bytes, long_bytes, list_bytes, bool_bytes, type_bytes, prefix_bytes, value_bytes, expr_bytes, node_bytes, inside, term_bytes, terms_bytes, known_bytes, held_name_bytes, later_bytes, nodes_in_state, nodes_in_arguments, state_bytes, arguments_bytes}
 use Rattle.kept_state.specs.KeptForm.{Kind, bool_kind, type_kind, prefix_kind, end_kind, value_kind, op_kind, expr_kind, term_kind, state_kind, Item, bool_item, type_item, prefix_item, value_item, expr_item, node_item, known_item, held_item, argument_item, Part, exactly, any, form, count, items, list_part, item_parts, forms_of, form_at, settle, after_byte, is_whole, go_on, fault_from, kept_parts}
-use Rattle.kept_state.specs.KeptSizes.{FitsShort, FitsLong, FitsInt, FitsPrefix, FitsValue, FitsExpr, FitsExprs, FitsTerm, FitsTerms, FitsKnown, FitsHeldName, FitsHeld, FitsLater, FitsState, FitsArguments, HasSizes, IsOfStar, IsShaped, IsOfList, IsShapedValue, AreShaped, IsShapedLater, IsShapedState, AreShapedArguments}
-use Rattle.std.proofs.lemmas.Bool.{ltb-true}
+use Rattle.kept_state.specs.KeptSizes.{FitsShort, FitsExpr, FitsTerm, FitsTerms, FitsKnown, FitsHeldName, FitsLater, FitsState, FitsArguments, IsShaped, IsShapedValue, IsShapedLater, IsShapedState, AreShapedArguments}
 use Rattle.kept_state.specs.KeptBytes.{most_bytes}
-use Rattle.kept_state.specs.KeptForm.{FormFault, bad_form, bad_version, or_else, version_fault, form_fault, later_parts}
+use Rattle.kept_state.specs.KeptForm.{FormFault, bad_form, or_else, version_fault, later_parts}
 use Rattle.kept_state.specs.Laws.{AllSpelled}
-use Rattle.kept_state.proofs.SpelledParts.{AreBytes, Got, GotTerm, GotNode, GotState, GotArgument, GotKind, GotItem, Both, GotItems, told, GotCount, GotPart, GotParts, Took, MadeOf, TookCount, TookList, take_got, byte_at, below_4, below_8, take_name, take_long, take_int, take_type, take_expr, take_prefix, take_value, take_op, take_count, take_list, got_list, made_bool, made_type, made_op, made_expr, made_prefix, made_end, made_value}
+use Rattle.kept_state.proofs.SpelledParts.{AreBytes, Got, GotNode, GotArgument, GotKind, GotItem, Both, GotItems, GotCount, GotParts, MadeOf, TookList, take_name, take_long, take_type, take_expr, take_prefix, take_value, take_count, take_list, made_bool, made_type, made_op, made_expr, made_prefix, made_end, made_value}
 
 -- what is left behind the first part
 drop_first : (n : ℕ) (xs ys : List ℕ) → length xs ≡ n → drop n (xs ++ ys) ≡ ys
@@ -693,26 +683,25 @@ all_spelled bs h e =
     let i = take_list StreamType type_bytes (λ t. ⊤) type_item (λ x g. g) (list_part bool_item ∷ form type_kind ∷ form state_kind ∷ []) n.rest n.more in
     let c = take_list Bool bool_bytes (λ t. ⊤) bool_item (λ x g. g) (form type_kind ∷ form state_kind ∷ []) i.rest i.more in
     let t = take_type (form state_kind ∷ []) c.rest c.more in
-    let s = take_state [] t.rest t.more in
-    (
+    let s = take_state [] t.rest t.more in (
       record { events = n.value; ins = i.values; cuts = c.values; out = t.value; state = s.state },
       s.places ++ [],
       record { events = n.good; types = i.fits; cuts = c.fits; state = s.good },
       s.shaped,
       sym
-      (b0.1
-      ∙ ap (λ x. 0x44 ∷ x)
-      (b1.1
-      ∙ ap (λ x. 0x53 ∷ x)
-      (b2.1
-      ∙ ap (λ x. 0x54 ∷ x)
-      (b3.1
-      ∙ ap (λ x. 0x01 ∷ x)
-      (n.is
-      ∙ ap (λ x. long_bytes n.value ++ x)
-      (i.is
-      ∙ ap (λ x. list_bytes type_bytes i.values ++ x)
-      (c.is
-      ∙ ap (λ x. list_bytes bool_bytes c.values ++ x)
-      (t.is ∙ ap (λ x. type_bytes t.value ++ x) (s.is [] ∙ (ap (λ x. state_bytes s.state (s.places ++ []) ++ x) s.more ∙ append-nil (state_bytes s.state (s.places ++ [])))))))))))),
+          (b0.1
+          ∙ ap (λ x. 0x44 ∷ x)
+          (b1.1
+          ∙ ap (λ x. 0x53 ∷ x)
+          (b2.1
+          ∙ ap (λ x. 0x54 ∷ x)
+          (b3.1
+          ∙ ap (λ x. 0x01 ∷ x)
+          (n.is
+          ∙ ap (λ x. long_bytes n.value ++ x)
+          (i.is
+          ∙ ap (λ x. list_bytes type_bytes i.values ++ x)
+          (c.is
+          ∙ ap (λ x. list_bytes bool_bytes c.values ++ x)
+          (t.is ∙ ap (λ x. type_bytes t.value ++ x) (s.is [] ∙ (ap (λ x. state_bytes s.state (s.places ++ []) ++ x) s.more ∙ append-nil (state_bytes s.state (s.places ++ [])))))))))))),
     )

@@ -1,19 +1,18 @@
 -- What is typed has the shapes that bytes tell.
 use Rattle.std.proofs.Common.{ℕ, Bool, List, [], ◌∷◌}
-use Rattle.std.specs.Prelude.{⊤}
 use Rattle.std.specs.List.{All, AllByRecursion}
 use Rattle.std.proofs.lemmas.List.Elements.{recursion_from_All}
-use Rattle.stream_type.specs.StreamType.{StreamType, eps, one, int, cat, par, sum, star}
+use Rattle.stream_type.specs.StreamType.{StreamType, cat, par, sum, star}
 use Rattle.stream_prefix.specs.StreamPrefix.{StreamPrefix, IsPrefix, eps_emp, one_emp, one_full, int_emp, int_full, par_both, cat_fst, cat_both, sum_emp, in_left, in_right, star_emp, star_done, star_first, star_rest}
-use Rattle.hist_value.specs.HistType.{HistType, unit_type, int_type, pair_type, sum_type, list_type, past}
+use Rattle.hist_value.specs.HistType.{HistType, pair_type, sum_type, list_type, past}
 use Rattle.hist_value.specs.HistValue.{HistValue, HasType, unit_value, number, pair_of, left_of, right_of, no_items, item_before}
 use Rattle.core_term.specs.CoreTerm.{CoreBody}
 use Rattle.core_term.specs.Inert.{is_inert_fun}
 use Rattle.core_term.specs.Typing.{Context}
-use Rattle.delta_state.specs.StateTree.{Known, HeldName, LaterTree, StateTree, ArgumentTrees, sink, var_state, par_state, cat_state, let_state, let_par_state, let_cat_state, sum_state, star_state, wait_state, frame_state, no_arguments, argument_before}
-use Rattle.delta_state.specs.StateTyping.{HasStateType, HaveArgumentTypes, IsTypedLater}
+use Rattle.delta_state.specs.StateTree.{HeldName, LaterTree, StateTree, ArgumentTrees, sink, var_state, par_state, cat_state, let_state, let_par_state, let_cat_state, sum_state, star_state, wait_state, frame_state, no_arguments, argument_before}
+use Rattle.delta_state.specs.StateTyping.{HasStateType, HaveArgumentTypes}
 use Rattle.kept_state.specs.KeptSizes.{IsOfStar, IsShaped, IsOfList, IsShapedValue, AreShaped, IsShapedLater, IsShapedState, AreShapedArguments}
-use Rattle.kept_state.specs.Laws.{TypedIsShaped, OneSpelling, TypedOneSpelling}
+use Rattle.kept_state.specs.Laws.{TypedIsShaped, TypedOneSpelling}
 use Rattle.kept_state.proofs.SameStates.{one_spelling}
 
 -- a prefix of a star is of a star

@@ -6,7 +6,7 @@
 -- - What stands after the first item of a prefix of a star is a prefix of a star too, and what stands behind an item
 --   of a value is a list. Of another thing there is nothing in the bytes. What is a prefix, or a value, of some type
 --   is of this shape, and so is what a tree of the program stands for.
-use Rattle.std.specs.Prelude.{ℕ, ℤ, ◌<◌, ◌^◌, ⊤, List, [], ◌∷◌, length, FitsSigned}
+use Rattle.std.specs.Prelude.{ℕ, ℤ, ◌<◌, ◌^◌, ⊤, List, length, FitsSigned}
 use Rattle.std.specs.Int.{w64}
 use Rattle.std.specs.List.{AllByRecursion}
 use Rattle.stream_prefix.specs.StreamPrefix.{StreamPrefix, eps_emp, one_emp, one_full, int_emp, int_full, par_both, cat_fst, cat_both, sum_emp, in_left, in_right, star_emp, star_done, star_first, star_rest}
