@@ -35,7 +35,7 @@ fills_form kind byte fields bs e h = record {
 }
 
 -- no bytes at all are as nothing awaited
-skip_any : (rest : List Part) (n : ℕ) (more : List ℕ) → fault_from (any zero ∷ rest) n more ≡ fault_from rest n more
+pub skip_any : (rest : List Part) (n : ℕ) (more : List ℕ) → fault_from (any zero ∷ rest) n more ≡ fault_from rest n more
 skip_any rest n [] = refl
 skip_any rest n (b ∷ more) = refl
 
@@ -52,7 +52,7 @@ pub record FillItems (k : ℕ) (item : Item) (bs : List ℕ) : Type 0 where
   pub at : length bs ≤ most_bytes → (rest : List Part) (n : ℕ) (more : List ℕ) → fault_from (items k item ∷ rest) n (bs ++ more) ≡ fault_from rest (n + length bs) more
 
 -- no items at all are as nothing awaited
-skip_items : (item : Item) (rest : List Part) (n : ℕ) (more : List ℕ) → fault_from (items zero item ∷ rest) n more ≡ fault_from rest n more
+pub skip_items : (item : Item) (rest : List Part) (n : ℕ) (more : List ℕ) → fault_from (items zero item ∷ rest) n more ≡ fault_from rest n more
 skip_items item rest n [] = refl
 skip_items item rest n (b ∷ more) = refl
 
@@ -69,7 +69,7 @@ item_settled held_item rest = refl
 item_settled argument_item rest = refl
 
 -- so a list of one item or more is as its first item's parts, and the others behind them
-open_items : (item : Item) (k : ℕ) (rest : List Part) (n : ℕ) (more : List ℕ) → fault_from (items (suc k) item ∷ rest) n more ≡ fault_from (item_parts item ++ items k item ∷ rest) n more
+pub open_items : (item : Item) (k : ℕ) (rest : List Part) (n : ℕ) (more : List ℕ) → fault_from (items (suc k) item ∷ rest) n more ≡ fault_from (item_parts item ++ items k item ∷ rest) n more
 open_items item k rest n [] = ap (λ ps. if is_whole ps then None else Some n) (sym (item_settled item (items k item ∷ rest)))
 open_items item k rest n (b ∷ more) = ap (λ ps. go_on (after_byte ps b) n (λ next. fault_from next (suc n) more)) (sym (item_settled item (items k item ∷ rest)))
 
@@ -95,7 +95,7 @@ count_made : (n : ℕ) → n < 2 ^ 32 → (((0 * 256 + byte_at 3 n) * 256 + byte
 count_made n h = omega (arith, from_be_bytes-to_be_bytes_4 n h)
 
 -- after a count so many items are awaited
-counted : (k : ℕ) (item : Item) (rest : List Part) (n : ℕ) (more : List ℕ) → fault_from (count zero k item ∷ rest) n more ≡ fault_from (items k item ∷ rest) n more
+pub counted : (k : ℕ) (item : Item) (rest : List Part) (n : ℕ) (more : List ℕ) → fault_from (count zero k item ∷ rest) n more ≡ fault_from (items k item ∷ rest) n more
 counted zero item rest n [] = refl
 counted zero item rest n (b ∷ more) = refl
 counted (suc k) item rest n [] = refl

@@ -1,0 +1,4 @@
+-- What the contracts cite.
+pub mod KeptView
+pub mod Written
+pub mod Saving
