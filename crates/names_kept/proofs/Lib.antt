@@ -1,0 +1,6 @@
+-- The lemmas.
+pub mod NameCounts
+pub mod NoWorseStates
+pub mod NoWorseArguments
+pub mod SimplerNames
+mod Examples
