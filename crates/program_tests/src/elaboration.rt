@@ -149,10 +149,16 @@ fn an_if_is_a_case_on_its_test(rt: HostRuntime) -> Result<(), Fail> {
 
 #[test]
 fn unknown_names_are_told_with_their_places(rt: HostRuntime) -> Result<(), Fail> {
-    let rows: [(&[u8], &str, u32); 3] = [
+    let rows: [(&[u8], &str, u32); 4] = [
         (b"main(x : Int) : Int = y", "Unbound", 22),
         (b"main(x : Int) : Int = y(x)", "NoFunction", 22),
         (b"main(x : y) : Int = x", "NoType", 9),
+        // A type of which a part isn't known has no height.
+        (
+            b"main(x : y****************************************************************) : Int = x",
+            "NoType",
+            9,
+        ),
     ];
     for (text, name, at) in rows {
         assert!(rt; fault_of(rt.alloc(), text)? == (name, 1, at));
@@ -162,9 +168,11 @@ fn unknown_names_are_told_with_their_places(rt: HostRuntime) -> Result<(), Fail>
 
 #[test]
 fn names_are_looked_for_in_waits_and_in_histories(rt: HostRuntime) -> Result<(), Fail> {
-    let rows: [(&[u8], u32); 2] = [
+    let rows: [(&[u8], u32); 3] = [
         (b"main(x : Int) : Int = wait y in x", 22),
         (b"main(x : Int) : Int = {y}", 23),
+        // An expression in brackets stands inside them.
+        (b"main(x : Int) : Int = {(y)}", 24),
     ];
     for (text, at) in rows {
         assert!(rt; fault_of(rt.alloc(), text)? == ("Unbound", 1, at));
