@@ -84,7 +84,7 @@ fn writes_fail_in_turn(rt: HostRuntime) -> Result<(), Fail> {
 // A command, and what it must write and answer.
 type Row = (Given<'static>, Answer<'static>);
 
-// The shelf's first call fails, and for a derivation then the second.
+// The shelf's first call fails.
 const WITHOUT_FILES: Given<'static> = Given {
     fail_calls: &[0],
     ..GIVEN
