@@ -64,7 +64,8 @@ fn is_underived(alloc: Global, proof: &[u8], name: &str, line: u64) -> Result<bo
 
 // Whether so many bytes of the derivation are refused: for the line that isn't ended, or for those that lack.
 fn is_cut_refused(alloc: Global, count: usize) -> Result<bool, Fail> {
-    let proof = &STEPS[..count.min(STEPS.len())];
+    let steps = STEPS;
+    let proof = &steps[..count.min(steps.len())];
     let is_ended = proof.is_empty() || proof.ends_with(b"\n");
     let name = if is_ended { "Short" } else { "BadLine" };
     is_underived(alloc, proof, name, lines_in(proof))
@@ -72,8 +73,9 @@ fn is_cut_refused(alloc: Global, count: usize) -> Result<bool, Fail> {
 
 // Whether the derivation is refused for the line of a byte that is FF.
 fn is_change_refused(alloc: Global, place: usize) -> Result<bool, Fail> {
-    let proof = changed(alloc, STEPS, place)?;
-    let line = lines_in(&STEPS[..place.min(STEPS.len())]);
+    let steps = STEPS;
+    let proof = changed(alloc, steps, place)?;
+    let line = lines_in(&steps[..place.min(steps.len())]);
     is_underived(alloc, &proof, "BadLine", line)
 }
 
