@@ -53,6 +53,15 @@ const NEST: &str =
     "fun nest{n : Int}(x : Int) : Int = if n < 1 then x else let y = nest{n - 1}(x) in y
 main(x : Int) : Int = nest{200}(x)";
 
+// As many levels as there may be, and one more.
+const DEEPEST: &str =
+    "fun nest{n : Int}(x : Int) : Int = if n < 1 then x else let y = nest{n - 1}(x) in y
+main(x : Int) : Int = nest{1000}(x)";
+
+const TOO_DEEP: &str =
+    "fun nest{n : Int}(x : Int) : Int = if n < 1 then x else let y = nest{n - 1}(x) in y
+main(x : Int) : Int = nest{1001}(x)";
+
 const AFTER_NOTHING: &str = "main(x : eps; y : Int) : Int = y";
 
 const THREE: &str = "item\nF int 3\ncut\nend\n";
@@ -324,6 +333,65 @@ const BUDGETS: &[Row] = &[
 #[test]
 fn budgets_are_renewed(rt: HostRuntime) -> Result<(), Fail> {
     assert_eq!(rt; first_wrong(rt.alloc(), BUDGETS)?, None);
+    Ok(())
+}
+
+// The number of rows before the first that doesn't hold on the compiled machine, or none. The plain one goes deeper at
+// each call, and these make many.
+fn first_wrong_of_compiled(alloc: Global, rows: &[Row]) -> Result<Option<usize>, Fail> {
+    for k in 0..rows.len() {
+        if !holds_on::<Coded>(alloc, &rows[k], 4096)? {
+            return Ok(Some(k));
+        }
+    }
+    Ok(None)
+}
+
+const MANY_CALLS: &[Row] = &[
+    Row {
+        text: DOWN,
+        input: "int 100000\n",
+        ..ROW
+    },
+    Row {
+        words: "run program --budget 100001",
+        text: DOWN,
+        input: "int 100000\n",
+        ..ROW
+    },
+    Row {
+        words: "run program --budget 100000",
+        text: DOWN,
+        input: "int 100000\n",
+        note: "delta: stopped: Budget at 4\n",
+        ..STOPPED
+    },
+];
+
+#[test]
+fn many_calls_at_one_level_are_one_event(rt: HostRuntime) -> Result<(), Fail> {
+    assert_eq!(rt; first_wrong_of_compiled(rt.alloc(), MANY_CALLS)?, None);
+    Ok(())
+}
+
+const NESTS: &[Row] = &[
+    Row {
+        text: DEEPEST,
+        input: "int 4\n",
+        output: Some("int 4\n"),
+        ..ROW
+    },
+    Row {
+        text: TOO_DEEP,
+        input: "int 4\n",
+        note: "delta: stopped: Deep at 0\n",
+        ..STOPPED
+    },
+];
+
+#[test]
+fn a_nest_has_a_thousand_levels(rt: HostRuntime) -> Result<(), Fail> {
+    assert_eq!(rt; first_wrong_of_compiled(rt.alloc(), NESTS)?, None);
     Ok(())
 }
 
@@ -645,5 +713,6 @@ fn reads_nothing(alloc: Global, line: &str, text: &str) -> Result<bool, Fail> {
 fn a_stop_before_any_event_reads_nothing(rt: HostRuntime) -> Result<(), Fail> {
     assert!(rt; reads_nothing(rt.alloc(), "run program --budget 3", LOOP)?);
     assert!(rt; reads_nothing(rt.alloc(), "run program --budget 0", DOUBLE)?);
+    assert!(rt; reads_nothing(rt.alloc(), "run program", TOO_DEEP)?);
     Ok(())
 }

@@ -132,6 +132,7 @@ run a --budget=
 run a --budget=+1
 run a --budget 5 --budget 6
 run a --budget 1000001
+run a --budget 1000000000001
 run a --budget 00000000000001
 run -- a --budget 5
 run a --fra

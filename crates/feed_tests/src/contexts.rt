@@ -53,6 +53,15 @@ fn sample_order(alloc: Global) -> Result<Order, Memory> {
     Order::of_bunch(alloc, &sample)
 }
 
+// Whether of the names of the sample 1 stands before 2 in an order, and no other before another.
+fn has_sample_facts(order: &Order) -> bool {
+    let mut all = true;
+    for (x, y) in [(0, 1), (0, 2), (1, 0), (2, 0), (2, 1)] {
+        all = all && !order.before(Name(x), Name(y));
+    }
+    all && order.before(Name(1), Name(2))
+}
+
 // Whether the name 3 can be placed like 1, and then stands before 2.
 fn takes_a_name(order: &mut Order) -> Result<bool, Memory> {
     if order.has(Name(3)) {
@@ -99,7 +108,7 @@ fn is_copied(order: &Order) -> Result<bool, Memory> {
 // Whether the order of the sample takes each of these, and has them when copied.
 fn takes_names_and_facts(alloc: Global) -> Result<bool, Memory> {
     let mut order = sample_order(alloc)?;
-    let begins = order.before(Name(1), Name(2)) && !order.before(Name(0), Name(1));
+    let begins = has_sample_facts(&order) && has_sample_facts(&order.copy()?);
     let takes = takes_a_name(&mut order)? && takes_a_fact(&mut order) && takes_a_let(&mut order)?;
     Ok(begins && takes && is_copied(&order)?)
 }

@@ -2,7 +2,8 @@
 
 use crate::outside::{Answer, Given, breaks_off, holds};
 use crate::tables::{
-    CHECK, COMMANDS, Command, GEN, GIVEN, LINES, PRINT, PRINTED, SIX, SUMMARY, THREE,
+    BOUND, CHECK, COMMANDS, Command, DERIVE, GEN, GIVEN, LINES, ONE_EVENT, PRINT, PRINTED, SIX,
+    SUMMARY, THREE,
 };
 use std::alloc::Global;
 use std::test::Fail;
@@ -76,6 +77,7 @@ fn writes_fail_in_turn(rt: HostRuntime) -> Result<(), Fail> {
     }
     assert!(rt; answers_failing_writes(rt.alloc(), &PRINT, PRINTED)?);
     assert!(rt; answers_failing_writes(rt.alloc(), &GEN, SUMMARY)?);
+    assert!(rt; answers_failing_writes(rt.alloc(), &BOUND, ONE_EVENT)?);
     Ok(())
 }
 
@@ -112,6 +114,43 @@ const CALLS: &[Row] = &[
             ..WITHOUT_FILES
         },
         NO_FILE,
+    ),
+    (
+        Given {
+            words: "bound program",
+            ..WITHOUT_FILES
+        },
+        NO_FILE,
+    ),
+    (
+        Given {
+            words: "derive program proof",
+            ..WITHOUT_FILES
+        },
+        NO_FILE,
+    ),
+    (
+        Given {
+            fail_calls: &[1],
+            ..DERIVE
+        },
+        NO_FILE,
+    ),
+    (
+        Given {
+            words: "derive program gone",
+            ..GIVEN
+        },
+        NO_FILE,
+    ),
+    // The derivation of what is no program isn't read.
+    (
+        Given {
+            text: b"\xff",
+            fail_calls: &[1],
+            ..DERIVE
+        },
+        (b"", 3, "delta: program refused: BadUtf8 at 0\n"),
     ),
     (
         Given {
@@ -152,6 +191,21 @@ const CALLS: &[Row] = &[
     ),
     (
         Given {
+            fail_reads: &[0],
+            ..BOUND
+        },
+        (ONE_EVENT, 0, ""),
+    ),
+    (
+        Given {
+            fail_reads: &[0],
+            fail_writes: &[0],
+            ..DERIVE
+        },
+        (b"", 0, ""),
+    ),
+    (
+        Given {
             fail_calls: &[0],
             fail_reads: &[0],
             ..GEN
@@ -180,6 +234,9 @@ const SILENT: Given<'static> = Given {
     fail_notes: &[0],
     ..GIVEN
 };
+
+// A program that holds a whole feed, so that it has no bound.
+const TOTAL: &[u8] = b"main(xs : Int*) : Int = wait xs in {fold xs from 0 with a, y . a + y}";
 
 // Where there is no note status 6 is 7, and each other one stays.
 const SILENCED: &[Row] = &[
@@ -266,6 +323,30 @@ const SILENCED: &[Row] = &[
         },
         (b"", 3, ""),
     ),
+    (
+        Given {
+            words: "bound program",
+            text: TOTAL,
+            ..SILENT
+        },
+        (b"", 12, ""),
+    ),
+    (
+        Given {
+            words: "derive program proof",
+            proof: b"",
+            ..SILENT
+        },
+        (b"", 11, ""),
+    ),
+    (
+        Given {
+            words: "gen 996 3",
+            fail_writes: &[0],
+            ..SILENT
+        },
+        (b"", 7, ""),
+    ),
 ];
 
 #[test]
@@ -326,6 +407,20 @@ const NOTED: &[Row] = &[
             ..CHECK
         },
         (b"", 3, "delta: program refused: BadUtf8 at 0\n"),
+    ),
+    (
+        Given {
+            text: TOTAL,
+            ..BOUND
+        },
+        (b"", 12, "delta: no bound: Unbounded at 24\n"),
+    ),
+    (
+        Given {
+            proof: b"",
+            ..DERIVE
+        },
+        (b"", 11, "delta: derivation refused: Short at 0\n"),
     ),
 ];
 

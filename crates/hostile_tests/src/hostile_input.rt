@@ -1,6 +1,6 @@
 //! The feed cut off behind each byte, and with each byte changed.
 
-use crate::outside::{Given, holds};
+use crate::outside::{Given, changed, holds};
 use crate::tables::{COMMANDS, Command};
 use std::alloc::Global;
 use std::test::Fail;
@@ -29,15 +29,6 @@ fn feed_is_cut_off(rt: HostRuntime) -> Result<(), Fail> {
         );
     }
     Ok(())
-}
-
-// The bytes with the one at a place set to FF.
-fn changed(alloc: Global, bytes: &[u8], place: usize) -> Result<Vec<u8>, Fail> {
-    let mut bytes = bytes.to_vec(alloc)?;
-    if place < bytes.len() {
-        bytes[place] = 0xff;
-    }
-    Ok(bytes)
 }
 
 // Whether a command answers as it must where a byte is set to FF, for each of them.

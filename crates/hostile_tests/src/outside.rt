@@ -14,8 +14,9 @@ type Running = Coded;
 pub struct Given<'a> {
     /// The words, parted by spaces.
     pub words: &'a str,
-    /// The text of the file `program`.
+    /// The texts of the files `program` and `proof`.
     pub text: &'a [u8],
+    pub proof: &'a [u8],
     /// The input, and the size of its pieces.
     pub input: &'a [u8],
     pub piece: usize,
@@ -40,11 +41,12 @@ fn words(alloc: Global, line: &str) -> Result<Vec<String>, Fail> {
     Ok(words)
 }
 
-// A shelf that holds the text as the file `program`.
+// A shelf that holds the two texts as the files `program` and `proof`.
 fn shelf_of(alloc: Global, given: &Given<'_>) -> Result<MemShelf, Fail> {
-    let name = String::from_str(alloc, "program")?;
     let mut files = Vec::new(alloc);
-    files.push((name, given.text.to_vec(alloc)?))?;
+    for (name, text) in [("program", given.text), ("proof", given.proof)] {
+        files.push((String::from_str(alloc, name)?, text.to_vec(alloc)?))?;
+    }
     Ok(MemShelf::new(alloc, files, given.fail_calls.to_vec(alloc)?))
 }
 
@@ -108,4 +110,13 @@ pub fn breaks_off(
     } else {
         Ok(None)
     }
+}
+
+/// These bytes with the one at a place set to FF.
+pub fn changed(alloc: Global, bytes: &[u8], place: usize) -> Result<Vec<u8>, Fail> {
+    let mut bytes = bytes.to_vec(alloc)?;
+    if place < bytes.len() {
+        bytes[place] = 0xff;
+    }
+    Ok(bytes)
 }

@@ -15,6 +15,9 @@ pub const PRINTED: &[u8] =
 main (xs : Int*) : Int* = twice (xs)
 ";
 
+/// A derivation of it.
+pub const STEPS: &[u8] = b"rule\nrule\nrule\ndrop l\nunit .\nrule\nrule\nrule\nrule\nrule\nrule\n";
+
 /// The frames of `item`, `F int 3`, `cut` and `end`; those of the events begin at 4, 6, 17 and 19.
 pub const THREE: &[u8] = b"DEV1\0\x15\x01\x03\x11\0\0\0\0\0\0\0\x03\0\x14\0\x16";
 
@@ -50,6 +53,7 @@ pub struct Command {
 pub const GIVEN: Given<'static> = Given {
     words: "run program",
     text: DOUBLE,
+    proof: STEPS,
     input: THREE,
     piece: 4096,
     most: 4096,
@@ -398,6 +402,21 @@ pub const PRINT: Given<'static> = Given {
 /// `check`, which reads no input and writes nothing.
 pub const CHECK: Given<'static> = Given {
     words: "check program",
+    ..GIVEN
+};
+
+/// `bound`, which reads no input.
+pub const BOUND: Given<'static> = Given {
+    words: "bound program",
+    ..GIVEN
+};
+
+/// The line that it writes.
+pub const ONE_EVENT: &[u8] = b"bound 1\n";
+
+/// `derive`, which reads no input and writes nothing.
+pub const DERIVE: Given<'static> = Given {
+    words: "derive program proof",
     ..GIVEN
 };
 

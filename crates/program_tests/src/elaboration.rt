@@ -162,9 +162,11 @@ fn unknown_names_are_told_with_their_places(rt: HostRuntime) -> Result<(), Fail>
 
 #[test]
 fn names_are_looked_for_in_waits_and_in_histories(rt: HostRuntime) -> Result<(), Fail> {
-    let rows: [(&[u8], u32); 2] = [
+    let rows: [(&[u8], u32); 3] = [
         (b"main(x : Int) : Int = wait y in x", 22),
         (b"main(x : Int) : Int = {y}", 23),
+        // An expression in brackets stands inside them.
+        (b"main(x : Int) : Int = {(y)}", 24),
     ];
     for (text, at) in rows {
         assert!(rt; fault_of(rt.alloc(), text)? == ("Unbound", 1, at));
@@ -202,8 +204,8 @@ fn a_type_with_too_many_nodes_is_too_wide(rt: HostRuntime) -> Result<(), Fail> {
     Ok(())
 }
 
-// `type A = Int*..` with 40 stars, and `main() : A*.. = nil` with so many more.
-fn starred(alloc: Global, count: u32) -> Result<String, Fail> {
+// `type A = Int*..` with 40 stars, and `main() : A*..` with so many more, and then the rest.
+fn starred(alloc: Global, count: u32, rest: &str) -> Result<String, Fail> {
     let mut text = String::from_str(alloc, "type A = Int")?;
     for _ in 0..40 {
         text.push('*')?;
@@ -212,20 +214,27 @@ fn starred(alloc: Global, count: u32) -> Result<String, Fail> {
     for _ in 0..count {
         text.push('*')?;
     }
-    text.push_str(" = nil")?;
+    text.push_str(rest)?;
     Ok(text)
 }
 
 // What is wrong first with that text.
-fn fault_of_starred(alloc: Global, count: u32) -> Result<(&'static str, u32, u32), Fail> {
-    let text = starred(alloc, count)?;
+fn fault_of_starred(
+    alloc: Global,
+    count: u32,
+    rest: &str,
+) -> Result<(&'static str, u32, u32), Fail> {
+    let text = starred(alloc, count, rest)?;
     fault_of(alloc, text.as_bytes())
 }
 
 #[test]
 fn a_type_above_the_limit_is_too_tall(rt: HostRuntime) -> Result<(), Fail> {
-    assert!(rt; fault_of_starred(rt.alloc(), 23)? == ("none", 0, 0));
-    assert!(rt; fault_of_starred(rt.alloc(), 24)? == ("TooTall", 0, 62));
+    assert!(rt; fault_of_starred(rt.alloc(), 23, " = nil")? == ("none", 0, 0));
+    assert!(rt; fault_of_starred(rt.alloc(), 24, " = nil")? == ("TooTall", 0, 62));
+    // A type of which a part isn't known has no height.
+    let part = fault_of_starred(rt.alloc(), 24, " || y = nil")?;
+    assert!(rt; part == ("NoType", 1, 91));
     Ok(())
 }
 

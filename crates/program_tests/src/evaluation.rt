@@ -21,6 +21,10 @@ const NESTING: &[u8] =
     b"fun f(x : Int*) : 1 = case x of { nil => () | y :: ys => let n = f(ys) in n }
 main(x : Int*) : 1 = f(x)";
 
+// Calls behind a let of a number and a mark beside each other.
+const BEHIND: &[u8] = b"fun f(u : 1) : 1 = u
+main(x : Int) : 1 = let y = ((x, ()) : Int || 1) in f(())";
+
 // The numbers, and then the end.
 fn numbers(alloc: Global, numbers: &[i64]) -> Result<Prefix, Memory> {
     let mut items = Vec::new(alloc);
@@ -67,6 +71,32 @@ fn are_doubled(alloc: Global) -> Result<bool, Fail> {
     Ok(counted && has_items(&doubled.output, 2))
 }
 
+// Whether a prefix is a feed of the one number 6 that has ended.
+fn is_six(p: &Prefix) -> bool {
+    match p {
+        Prefix::Star(items, StarEnd::Done) => matches!(items.as_slice(), [Prefix::IntFull(6)]),
+        _ => false,
+    }
+}
+
+// Whether the doubled number 3 is 6, where two calls may be made.
+fn three_is_doubled(alloc: Global) -> Result<bool, Fail> {
+    let input = numbers(alloc, &[3])?;
+    let program = program_of(alloc, DOUBLING)?;
+    match &eval(alloc, &program, &input, 2) {
+        Ok(output) => Ok(is_six(output)),
+        Err(_) => Ok(false),
+    }
+}
+
+#[test]
+fn a_number_is_doubled_by_two_calls(rt: HostRuntime) -> Result<(), Fail> {
+    assert!(rt; three_is_doubled(rt.alloc())?);
+    let one = refused(rt.alloc(), DOUBLING, &[3], 1)?;
+    assert!(rt; one == Some(EvalRefusal::Budget(1)));
+    Ok(())
+}
+
 #[test]
 fn calls_are_counted_up_to_the_budget(rt: HostRuntime) -> Result<(), Fail> {
     assert!(rt; are_doubled(rt.alloc())?);
@@ -87,5 +117,22 @@ fn counted(alloc: Global, text: &[u8]) -> Result<(u64, u64), Fail> {
 fn a_loop_stays_and_a_nest_goes_down(rt: HostRuntime) -> Result<(), Fail> {
     assert!(rt; counted(rt.alloc(), LOOPING)? == (21, 1));
     assert!(rt; counted(rt.alloc(), NESTING)? == (21, 21));
+    Ok(())
+}
+
+// The level of the calls of a text's program where this came.
+fn level_on(alloc: Global, text: &[u8], input: &Prefix) -> Result<u64, Fail> {
+    let program = program_of(alloc, text)?;
+    let found = run(alloc, &program, input, 1000);
+    drop(program);
+    let found = found?;
+    Ok(found.level)
+}
+
+// So the level may fall as more comes.
+#[test]
+fn a_call_stands_deeper_behind_what_is_not_whole(rt: HostRuntime) -> Result<(), Fail> {
+    assert!(rt; level_on(rt.alloc(), BEHIND, &Prefix::IntEmp)? == 2);
+    assert!(rt; level_on(rt.alloc(), BEHIND, &Prefix::IntFull(4))? == 1);
     Ok(())
 }

@@ -52,6 +52,18 @@ fn is_typed(alloc: Global, text: &[u8]) -> Result<bool, Fail> {
 fn parallel_names_are_in_no_order(rt: HostRuntime) -> Result<(), Fail> {
     let text = b"main(x : Int, y : Int) : Int . Int = (x; y)";
     assert!(rt; is_wrong(rt.alloc(), text, (0, 37, ("OutOfOrder", 0, 1)))?);
+    let text = b"main(x : Int; y : Int) : Int . Int = (x; y)";
+    assert!(rt; is_typed(rt.alloc(), text)?);
+    Ok(())
+}
+
+// A name that a wait made a value stands before no other, and an item in brackets stands at its bracket.
+#[test]
+fn values_are_in_no_order(rt: HostRuntime) -> Result<(), Fail> {
+    let text = b"main(x : Int; y : Int) : Int . Int = wait x in (x; y)";
+    assert!(rt; is_wrong(rt.alloc(), text, (1, 47, ("OutOfOrder", 0, 1)))?);
+    let text = b"main(x : 1, y : 1*) : 1* = (x) :: y";
+    assert!(rt; is_wrong(rt.alloc(), text, (0, 27, ("OutOfOrder", 0, 1)))?);
     Ok(())
 }
 

@@ -10,6 +10,10 @@ const IN_TURN: &str = "main(x : Int; y : Int) : Int . Int = (x; y)";
 
 const LOOP: &str = "fun loop(x : Int) : Int = loop(x)\nmain(x : Int) : Int = loop(x)";
 
+const NEST: &str =
+    "fun nest{n : Int}(x : Int) : Int = if n < 1 then x else let y = nest{n - 1}(x) in y
+main(x : Int) : Int = nest{1001}(x)";
+
 // Types of which each is twice the one before it.
 const DOUBLED_TYPES: &str = "type A1 = Int || Int
 type A2 = A1 || A1
@@ -305,6 +309,11 @@ const INPUTS: &[Input] = &[
         words: "run program --budget 3",
         text: LOOP,
         note: "delta: stopped: Budget at 0\n",
+        ..FRAMES
+    },
+    Input {
+        text: NEST,
+        note: "delta: stopped: Deep at 0\n",
         ..FRAMES
     },
     Input {

@@ -1,4 +1,4 @@
-//! What the machine that the command runs tells of its state and its place.
+//! What machines say first, and what the one that the command runs tells of its state and its place.
 
 ghost use Rattle.std.specs.Prelude.{IsTrue};
 ghost use Rattle.core_term.specs.CoreTerm.{core_of, fits_of};
@@ -7,9 +7,46 @@ use core_term::{Checked, fits};
 use delta_accept::accept;
 use delta_code::Coded;
 use delta_state::{Machine, Place, State};
+use delta_step::Tree;
 use std::alloc::Global;
 use std::test::Fail;
+use stream_prefix::Prefix;
 use stream_type::Ty;
+
+const IN_TURN: &[u8] = b"main(x : Int; y : Int) : Int . Int = (x; y)";
+
+// Whether a first number is awaited.
+fn is_awaited(p: &Prefix) -> bool {
+    match p {
+        Prefix::CatFst(p) => matches!(**p, Prefix::IntEmp),
+        _ => false,
+    }
+}
+
+// Whether a machine says so of a program before any event.
+fn says_awaited<M: Machine>(alloc: Global, checked: &Checked) -> Result<bool, Fail>
+    requires { IsTrue (fits_of (core_of checked.now)) }
+{
+    let (machine, first) = M::start(alloc, checked, 0)?;
+    drop(machine);
+    Ok(is_awaited(&first))
+}
+
+// Whether both machines say so of a pair in turn.
+fn pair_is_awaited(alloc: Global) -> Result<bool, Fail> {
+    let accepted = accept(alloc, IN_TURN)?;
+    let checked = &accepted.checked;
+    if !fits(checked.core()) {
+        return Ok(false);
+    }
+    Ok(says_awaited::<Coded>(alloc, checked)? && says_awaited::<Tree>(alloc, checked)?)
+}
+
+#[test]
+fn the_first_of_a_pair_is_awaited(rt: HostRuntime) -> Result<(), Fail> {
+    assert!(rt; pair_is_awaited(rt.alloc())?);
+    Ok(())
+}
 
 // The state and the place of a program before any event.
 fn first_state(alloc: Global, checked: &Checked) -> Result<(State, Place), Fail>
@@ -28,7 +65,7 @@ fn awaits_two(state: &State, place: &Place) -> bool {
 
 // Whether it is so for a pair in turn.
 fn begins_in_turn(alloc: Global) -> Result<bool, Fail> {
-    let accepted = accept(alloc, b"main(x : Int; y : Int) : Int . Int = (x; y)")?;
+    let accepted = accept(alloc, IN_TURN)?;
     let checked = &accepted.checked;
     if !fits(checked.core()) {
         return Ok(false);

@@ -5,6 +5,7 @@ use core_term::fits;
 use delta_accept::accept;
 use delta_code::Coded;
 use delta_session::{Cause, FeedRefusal, OpenRefusal};
+use delta_state::Machine;
 use delta_step::Tree;
 use event_word::EventFault;
 use std::alloc::Global;
@@ -126,14 +127,37 @@ const CLOSED: &[Talk] = &[
     },
 ];
 
-// Whether a talk goes so on both machines.
-fn goes_on_both(alloc: Global, talk: &Talk) -> Result<bool, Fail> {
+// A nest of calls with as many levels as there may be, and one with a level more, of which no session is opened.
+const NESTS: &[Talk] = &[
+    Talk {
+        text: "fun nest{n : Int}(x : Int) : Int = if n < 1 then x else let y = nest{n - 1}(x) in y
+main(x : Int) : Int = nest{1000}(x)",
+        turns: &[("int 4", Ok("int 4\n"))],
+        events: 1,
+        is_whole: true,
+        ..TALK
+    },
+    Talk {
+        text: "fun nest{n : Int}(x : Int) : Int = if n < 1 then x else let y = nest{n - 1}(x) in y
+main(x : Int) : Int = nest{1001}(x)",
+        opening: Err(OpenRefusal::Deep(1001)),
+        ..TALK
+    },
+];
+
+// Whether a talk goes so on a machine.
+fn goes_on<M: Machine>(alloc: Global, talk: &Talk) -> Result<bool, Fail> {
     let accepted = accept(alloc, talk.text.as_bytes())?;
     let checked = &accepted.checked;
     if !fits(checked.core()) {
         return Ok(false);
     }
-    Ok(goes::<Coded>(alloc, checked, talk)? && goes::<Tree>(alloc, checked, talk)?)
+    goes::<M>(alloc, checked, talk)
+}
+
+// Whether it goes so on both machines.
+fn goes_on_both(alloc: Global, talk: &Talk) -> Result<bool, Fail> {
+    Ok(goes_on::<Coded>(alloc, talk)? && goes_on::<Tree>(alloc, talk)?)
 }
 
 // The number of talks before the first that goes otherwise, or none.
@@ -155,5 +179,14 @@ fn sessions_answer_events(rt: HostRuntime) -> Result<(), Fail> {
 #[test]
 fn too_many_calls_close_a_session(rt: HostRuntime) -> Result<(), Fail> {
     assert_eq!(rt; first_other(rt.alloc(), CLOSED)?, None);
+    Ok(())
+}
+
+// The plain machine goes deeper at each call, so these are talks with the other one.
+#[test]
+fn nests_have_a_thousand_levels(rt: HostRuntime) -> Result<(), Fail> {
+    for talk in NESTS {
+        assert!(rt; goes_on::<Coded>(rt.alloc(), talk)?, "{}", talk.text);
+    }
     Ok(())
 }

@@ -59,6 +59,24 @@ fn stars(alloc: Global) -> Result<Ty, Memory> {
     star(alloc, star(alloc, cat(alloc, Ty::Int, Ty::Int)?)?)
 }
 
+// A number and then marks.
+fn number_first(alloc: Global) -> Result<Ty, Memory> {
+    cat(alloc, Ty::Int, star(alloc, Ty::One)?)
+}
+
+// A mark or two numbers beside each other.
+fn mark_or_numbers(alloc: Global) -> Result<Ty, Memory> {
+    sum(alloc, Ty::One, par(alloc, Ty::Int, Ty::Int)?)
+}
+
+#[test]
+fn shows_no_brackets_where_none_are_needed(rt: HostRuntime) -> Result<(), Fail> {
+    let alloc = rt.alloc();
+    assert!(rt; is_shown(alloc, number_first(alloc)?, "Int . 1*")?);
+    assert!(rt; is_shown(alloc, mark_or_numbers(alloc)?, "1 + Int || Int")?);
+    Ok(())
+}
+
 #[test]
 fn shows_brackets_where_they_are_needed(rt: HostRuntime) -> Result<(), Fail> {
     let alloc = rt.alloc();

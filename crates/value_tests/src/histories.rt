@@ -8,7 +8,7 @@ use hist_value::{
 };
 use std::alloc::Global;
 use stream_prefix::{Prefix, StarEnd};
-use stream_type::{Memory, Ty, star};
+use stream_type::{Memory, Ty, cat, star};
 
 fn is_unit(t: &HTy) -> bool {
     matches!(t, HTy::Unit)
@@ -22,16 +22,24 @@ fn is_units(t: &HTy) -> bool {
     }
 }
 
-// Whether the past of marks is a list of units.
-fn past_is_units(alloc: Global) -> Result<bool, Memory> {
-    let marks = star(alloc, Ty::One)?;
-    let found = past(alloc, &marks)?;
-    Ok(is_units(&found))
+// Whether a type is that of pairs of a number and a list of units.
+fn is_number_with_units(t: &HTy) -> bool {
+    match t {
+        HTy::Pair(number, list) => matches!(**number, HTy::Int) && is_units(list),
+        _ => false,
+    }
+}
+
+// Whether the past of a number and then marks is such a pair.
+fn past_is_pair(alloc: Global) -> Result<bool, Memory> {
+    let t = cat(alloc, Ty::Int, star(alloc, Ty::One)?)?;
+    let found = past(alloc, &t)?;
+    Ok(is_number_with_units(&found))
 }
 
 #[test]
-fn the_past_of_marks(rt: HostRuntime) {
-    assert!(rt; matches!(past_is_units(rt.alloc()), Ok(true)), "a list");
+fn the_past_of_a_number_and_marks(rt: HostRuntime) {
+    assert!(rt; matches!(past_is_pair(rt.alloc()), Ok(true)), "a pair");
 }
 
 fn is_number(v: &Value, n: i64) -> bool {
