@@ -66,6 +66,16 @@ gathers_next old new P word x now admits rest all =
       all = all ∙ ap (λ (w : List StreamEvent). w ++ x ∷ []) now.all;
     }
 
+-- one with the same type left and the same events has gathered the same
+pub gathers_same : (old new : Gathering) (P : Meaning) (word : List StreamEvent) → new.rest ≡ old.rest → new.word.items ≡ old.word.items → Gathers new P word → Gathers old P word
+gathers_same old new P word rest all now = record {
+  input = now.input;
+  means = now.means;
+  comes = now.comes;
+  rest = ap type_of (sym rest) ∙ now.rest;
+  all = sym all ∙ now.all;
+}
+
 pub faults_here : (now : Gathering) (P : Meaning) (word : List StreamEvent) (x : StreamEvent) → Gathers now P word → P.fault word x ≡ fault_of x (type_of now.rest)
 faults_here now P word x is = ap (λ (Q : Meaning). Q.fault word x) is.means ∙ ap (fault_of x) (sym is.rest)
 

@@ -6,7 +6,7 @@ ghost use Rattle.delta_end.specs.declared.end.End.{End};
 ghost use Rattle.delta_loop.specs.Answer.{Adds, AtReturn, IsComplete, ReadsWell};
 ghost use Rattle.delta_end.specs.Status.{AnswerOf, IsStatus, IsStill};
 ghost use Rattle.delta_end.specs.End.{IsOfLoop, ReadCause, WriteCause};
-ghost use Rattle.delta_loop.specs.Loop.{RanTo};
+ghost use Rattle.delta_loop.specs.Loop.{RanTo, IsFresh};
 ghost use Rattle.delta_loop.specs.Meaning.{Meaning, Begun, HasBegun};
 ghost use Rattle.delta_end.specs.Note.{note_of, Says};
 ghost use Rattle.delta_loop.specs.Output.{due};
@@ -22,6 +22,30 @@ use std::alloc::Global;
 
 /// The most bytes that a reader of a run keeps: those of a part of a frame, and a piece.
 const ROOM: u64 = 4137;
+
+// Writes what comes before the first read, and runs the program to its end. It asks for a reader with room for all that
+// a run keeps: so nothing is written before that room is there, and no piece that is read later can be refused.
+fn run_with<M: Stepper, L: Link>(
+    alloc: Global,
+    machine: &mut M,
+    reader: &mut Reader,
+    version: Option<Version>,
+    first: &[u8],
+    link: &mut L,
+) -> End
+    requires live { Begun M.stands machine.old }
+    requires room { IsFresh reader.old }
+    ensures ran { (P : Meaning) → HasBegun M.stands P machine.old version first.now → RanTo M.stands P (L.log link.old) (L.log link.new) (L.left link.old) (L.left link.new) machine.new result }
+    ensures end { IsOfLoop result }
+    ensures read { ReadCause result (L.read_faults link.old) (L.read_faults link.new) }
+    ensures write { WriteCause result (L.write_faults link.old) (L.write_faults link.new) }
+{
+    match open(link, version, first) {
+        Ok(()) => serve(alloc, machine, reader, link),
+        Err(IoFault::Memory) => End::Memory,
+        Err(IoFault::Failed) => End::WriteFailed,
+    }
+}
 
 /// Runs a program over a link, up to its end. The machine stands for the program before any event, and
 /// `first` are the bytes that come before the first read, behind a header of the version, if there is one.
@@ -42,13 +66,8 @@ pub fn run_machine<M: Stepper, L: Link>(
 {
     let mut reader = Reader::new(alloc);
     match reader.reserve(ROOM) {
-        Ok(()) => {}
-        Err(_) => return End::Memory,
-    }
-    match open(link, version, first) {
-        Ok(()) => serve(alloc, machine, &mut reader, link),
-        Err(IoFault::Memory) => End::Memory,
-        Err(IoFault::Failed) => End::WriteFailed,
+        Ok(()) => run_with(alloc, machine, &mut reader, version, first, link),
+        Err(_) => End::Memory,
     }
 }
 

@@ -1,6 +1,6 @@
 //! A program that runs event by event, as the loop sees it.
 
-ghost use Rattle.std.specs.Prelude.{◌≡◌, ◌++◌, [], ◌∷◌, List, ℕ, None, Some, true, IfOk, IsErrOf};
+ghost use Rattle.std.specs.Prelude.{◌≡◌, ◌++◌, [], ◌∷◌, List, ℕ, None, Some, true, IfOk, OnErr, IsErrOf};
 ghost use Rattle.event_word.specs.StreamEvent.{StreamEvent};
 ghost use Rattle.delta_loop.specs.declared.stepper.StepFault.TheVariants.{Memory as OutOfMemory};
 ghost use Rattle.delta_loop.specs.Meaning.{Meaning, Stands, IsCostly, IsDeep};
@@ -35,14 +35,18 @@ pub trait Stepper: Sized + Drop {
     /// It stands for a program of this meaning after this word.
     ghost stands: { Self → Meaning → List StreamEvent → Type 0 };
 
-    /// Takes an event, and answers the bytes that answer it. After a fault the program doesn't go on.
-    /// Fewer than 2^42 events have come.
+    /// Takes an event, and answers the bytes that answer it. After a fault it has taken nothing: after
+    /// `Refused` it stands for what it stood for, and after want of memory and each other fault for that or
+    /// for nothing. Fewer than 2^42 events have come.
     fn step(&mut self, alloc: Global, event: Event) -> Result<Vec<u8>, StepFault>
         requires { Stands stands self.old }
         ensures ok { IfOk result (λ bytes. (P : Meaning) (word : List StreamEvent) → stands self.old P word
             → (P.fault word event ≡ None) × stands self.new P (word ++ event ∷ []) × (bytes.items ≡ P.answer word event)) }
         ensures refused { (fault : EventFault) → IsErrOf result (StepFault.Refused fault) → (P : Meaning) (word : List StreamEvent) → stands self.old P word
             → P.fault word event ≡ Some fault }
+        ensures kept { (fault : EventFault) → IsErrOf result (StepFault.Refused fault) → (P : Meaning) (word : List StreamEvent) → stands self.old P word
+            → stands self.new P word }
+        ensures untaken { OnErr result ((P : Meaning) (word : List StreamEvent) → stands self.new P word → stands self.old P word) }
         ensures costly { IsErrOf result StepFault.Budget → (P : Meaning) (word : List StreamEvent) → stands self.old P word
             → (P.fault word event ≡ None) × IsCostly P word event }
         ensures deep { IsErrOf result StepFault.Deep → (P : Meaning) (word : List StreamEvent) → stands self.old P word

@@ -1,6 +1,6 @@
 //! A reader of lines, a byte at a time.
 
-ghost use Rattle.std.specs.Prelude.{◌≡◌, ◌+◌, ◌<◌, ◌≤◌, ◌^◌, [], ◌∷◌, List, ℕ, length, IfOk, IfErr, IfSome, Some, None};
+ghost use Rattle.std.specs.Prelude.{◌≡◌, ◌+◌, ◌<◌, ◌≤◌, ◌^◌, [], ◌∷◌, List, ℕ, length, IfOk, IfErr, IfSome, OnErr, Some, None};
 ghost use Rattle.event_frame.specs.declared.version.Version.{Version};
 ghost use Rattle.event_frame.specs.Frames.{longest};
 ghost use Rattle.delta_text.specs.Reading.{event_of, taken_from, first_line};
@@ -68,11 +68,13 @@ impl LineReader {
         }
     }
 
-    /// Reads one byte more, and answers the event of the line that it ends.
+    /// Reads one byte more, and answers the event of the line that it ends. After `Memory` and `Refused` all is
+    /// unchanged.
     pub fn push(&mut self, version: Version, byte: u8) -> Result<Option<Event>, ReadStop>
         requires { self.old.place + length self.old.line < 2 ^ 63 }
         ensures read { IfOk result (λ found. (more : List ℕ) → taken_from version self.old (byte ∷ more) ≡ goes_on version found self.new more) }
         ensures refused { IfErr result (λ stop. (more : List ℕ) → Ends stop self.old.place (taken_from version self.old (byte ∷ more))) }
+        ensures kept { OnErr result (self.new ≡ self.old) }
         ensures fits { IfOk result (λ found. IfSome found (λ x. length x.path ≤ longest version)) }
         ensures count { IfOk result (λ _. self.new.place + length self.new.line ≡ self.old.place + length self.old.line + 1) }
     {

@@ -16,6 +16,7 @@ const LEAF: usize = 25;
 pub fn write_line(x: &Event, out: &mut String) -> Result<(), Memory>
     ensures ok { OnOk result (string_bytes out.new ≡ string_bytes out.old ++ line_of x.now ++ 10 ∷ []) }
     ensures err { OnErr result (string_bytes out.new ≡ string_bytes out.old) }
+    ensures room { OnErr result (string_capacity out.new ≡ string_capacity out.old) }
 {
     // The room is taken first, so that nothing after it can be refused.
     out.reserve(2 * x.path().len() + LEAF)?;

@@ -2,7 +2,7 @@
 use Rattle.std.proofs.Common.{◌≡◌, Some, ◌∙◌, ap, sym, refl}
 use Rattle.stream_type.specs.StreamType.{type_of}
 use Rattle.event_word.proofs.Walks.{no_fault_is_admitted}
-use Rattle.delta_eval.proofs.Gathered.{gathers_next, faults_here, answers_nothing}
+use Rattle.delta_eval.proofs.Gathered.{gathers_next, gathers_same, faults_here, answers_nothing}
 use Rattle.delta_eval.proofs.gathering.GatheringStepper.step.Goals as goal
 
 pub returns-in-Ok-push-clause-ok : goal.returns-in-Ok-push-clause-ok
@@ -18,3 +18,7 @@ pub returns-in-Err-clause-refused : goal.returns-in-Err-clause-refused
 returns-in-Err-clause-refused c fault is P word now =
     let same : c.in-Err.fault ≡ fault = cc in
     faults_here c.args.self.now P word c.args.event now ∙ (c.in-Err.ensures.fault c.in-Err.fault).0 refl ∙ ap Some same
+
+-- where there is no room for it, all is as it was
+pub returns-in-Err-push-clause-untaken : goal.returns-in-Err-push-clause-untaken
+returns-in-Err-push-clause-untaken c P word after = gathers_same c.args.self.now _ P word refl (rw c.in-Err-push.is at c.push.ensures.items) after
