@@ -30,10 +30,16 @@ late = record {
 }
 
 -- w comes, the mark after it, the side of x, and what is there
-abbrev w_comes mark side x_comes : StreamEvent
+abbrev w_comes : StreamEvent
 w_comes = under First (leaf_of One)
+
+abbrev mark : StreamEvent
 mark = leaf_of Cut
+
+abbrev side : StreamEvent
 side = leaf_of Inr
+
+abbrev x_comes : StreamEvent
 x_comes = leaf_of One
 
 abbrev all : List StreamEvent

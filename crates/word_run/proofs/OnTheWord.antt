@@ -38,9 +38,14 @@ module _ (c : CoreProgram) (can : CanRun c) where
       record { is_word = canon_is_word c.main.result (mean c (input_of c [])) first; means = pre-canon c.main.result (mean c (input_of c [])) first }
 
   module _ (word : List StreamEvent) (x : StreamEvent) (comes_on : IsWord (input_type c) (word ++ x ∷ [])) where
-    abbrev given more now : StreamPrefix
+    -- what is said before the event, what is said after it, and what is said to it
+    abbrev given : StreamPrefix
     given = mean c (input_of c word)
+
+    abbrev more : StreamPrefix
     more = mean c (input_of c (word ++ x ∷ []))
+
+    abbrev now : StreamPrefix
     now = answer_to c word x
 
     comes : IsWord (input_type c) word
