@@ -46,7 +46,7 @@ abbrev all : List StreamEvent
 all = w_comes ∷ mark ∷ side ∷ x_comes ∷ []
 
 all_is_word : IsWord (input_type late) all
-all_is_word = (tt, refl, tt, tt, tt)
+all_is_word = (tt, (refl, (tt, (tt, tt))))
 
 -- the call is made once the side is told
 no_call : calls_of late (input_of late []) ≡ 0

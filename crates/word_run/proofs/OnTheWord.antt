@@ -1,5 +1,5 @@
 -- A session on a word, and what was said to it, from before an event to after it.
-use Rattle.std.proofs.Common.{◌≡◌, ℕ, ◌+◌, ◌<◌, ◌≤◌, ◌^◌, List, [], ◌∷◌, ◌++◌, None, IsTrue, true, length, take, drop, get_or, ap, sym, subst, ◌∙◌, append_assoc, arith}
+use Rattle.std.proofs.Common.{◌≡◌, ℕ, ◌+◌, ◌<◌, List, [], ◌∷◌, ◌++◌, None, IsTrue, true, length, take, drop, get_or, ap, sym, subst, ◌∙◌, append_assoc, arith}
 use Rattle.std.proofs.lemmas.List.{take_more, take-append-drop, length-take-le}
 use Rattle.stream_type.specs.StreamType.{StreamType, type_of, null_of}
 use Rattle.stream_prefix.specs.StreamPrefix.{StreamPrefix, IsPrefix, IsPart, is_maximal, der, join}
@@ -20,7 +20,7 @@ use Rattle.core_term.proofs.TypedRuns.{mean_grows}
 use Rattle.delta_state.specs.MachineView.{MachineView, StandsAfter, input_of, answer_to}
 use Rattle.delta_state.specs.Stands.{input_type}
 use Rattle.delta_session.specs.declared.session.Session.{Session}
-use Rattle.delta_session.specs.Standing.{CanRun, Stands, IsOpen}
+use Rattle.delta_session.specs.Standing.{CanRun, Stands}
 use Rattle.delta_session.proofs.Growth.{said_is_prefix, answer_is_prefix}
 use Rattle.delta_session.proofs.WholeOutput.{whole_at_end}
 use Rattle.word_run.specs.Stopping.{IsMetAt}
@@ -101,12 +101,6 @@ module _ (word : List StreamEvent) (at : ℕ) (x : StreamEvent) (within : at < l
 
   module _ {M : Type 0} (seen : M → MachineView) (stands : M → List StreamEvent → Type 0) (session : Session M) (c : CoreProgram) (budget : ℕ)
       (standing : Stands seen stands session c budget (take at word)) where
-    pub open_here : IsOpen seen stands session
-    open_here = record { program = c; budget = budget; word = take at word; standing = standing }
-
-    pub room_here : length word ≤ 2 ^ 42 → session.events < 2 ^ 42
-    room_here few = let count = standing.count in let taken = length-take-le at word (omega (arith, within)) in omega (arith, count, taken, within, few)
-
     module _ (comes : IsWord (input_type c) word) where
       -- the event goes on with a word of the input's type
       comes_on : IsWord (input_type c) (take at word ++ x ∷ [])
@@ -128,10 +122,10 @@ module _ (word : List StreamEvent) (at : ℕ) (x : StreamEvent) (within : at < l
 -- where the whole of the input has come, what was said is whole
 pub said_whole : {M : Type 0} (seen : M → MachineView) (stands : M → List StreamEvent → Type 0) → ((m : M) (w : List StreamEvent) → stands m w → StandsAfter (seen m) w)
     → (session : Session M) (c : CoreProgram) (budget : ℕ) (word : List StreamEvent) → Stands seen stands session c budget word
-    → IsTrue (is_maximal (input_of c word)) → IsTrue (is_maximal (mean c (input_of c word)))
-said_whole seen stands law session c budget word standing ended =
+    → (p : StreamPrefix) → p ≡ mean c (input_of c word) → IsTrue (is_maximal (input_of c word)) → IsTrue (is_maximal p)
+said_whole seen stands law session c budget word standing p is ended =
     let at = standing.at in
     let comes = is_prefix (word_derives (input_type c) word at.comes) in
     let left : null_of (type_of session.rest) ≡ true =
     ap null_of (at.rest_is ∙ after_word-pre (input_type c) word at.comes) ∙ maximal_leaves_null (input_type c) (input_of c word) comes ∙ ended in
-    whole_at_end seen stands law standing.machine (type_of session.rest) (type_of session.output) c budget word at left
+    ap is_maximal is ∙ whole_at_end seen stands law standing.machine (type_of session.rest) (type_of session.output) c budget word at left

@@ -7,6 +7,6 @@ use Rattle.word_run.proofs.running.run_word.Given as goal
 
 abbrev pub invariant-loop-at : goal.invariant-loop-at
 invariant-loop-at g l = record {
-  stands : Stands g.M.Machine.seen g.M.Machine.stands l.session (core_of l.checked) l.budget (take l.at-counter l.word);
-  says : Says (core_of l.checked) (take l.at-counter l.word) l.said.items;
+  stands : Stands g.M.Machine.seen g.M.Machine.stands l.session (core_of l.checked) l.budget (take l.at l.word);
+  says : Says (core_of l.checked) (take l.at l.word) l.said.items;
 }
