@@ -21,3 +21,6 @@ pub returns-in-Err-Deep-clause-deep : goal.returns-in-Err-Deep-clause-deep
 returns-in-Err-Deep-clause-deep g c n is =
     let same : n ≡ c.args.at = cc in
     (same, λ p budget word s. (c.feed.ensures.deep c.in-Err-Deep.field-0-0 (c.in-Err-Deep.is ∙ ap Err c.in-Err-Deep.field-0-is) p budget word s).1)
+
+pub returns-in-Err-Deep-clause-costly : goal.returns-in-Err-Deep-clause-costly
+returns-in-Err-Deep-clause-costly g c n is = cc

@@ -62,12 +62,19 @@ loop-at-preserved g c =
           (c.in_ok-feed_one.ensures.said core c.args.budget before here.stands);
     }
 
+pub returns-clause-means : goal.returns-clause-means
+returns-clause-means g c =
+    let core = core_of c.args.checked.now in
+    let word = c.args.word.now in
+    let all : take c.loop-at.at word ≡ word = take_all c.loop-at.at word c.loop-at-test.false in
+    let says = subst (λ (w : List StreamEvent). Says core w c.loop-at.said.items) all c.loop-at.invariant.says in
+    let read : pre (type_of c.output.result.now) c.deref.result.now ≡ mean core (input_of core word) = ap₂ pre c.output.ensures c.deref.ensures.value ∙ says.means in
+    c.in_ok-prefix_of.ensures.value ∙ read
+
 pub returns-clause-whole : goal.returns-clause-whole
 returns-clause-whole g c ended =
     let core = core_of c.args.checked.now in
     let word = c.args.word.now in
     let all : take c.loop-at.at word ≡ word = take_all c.loop-at.at word c.loop-at-test.false in
     let standing = subst (λ (w : List StreamEvent). Stands g.M.Machine.seen g.M.Machine.stands c.loop-at.session core c.args.budget w) all c.loop-at.invariant.stands in
-    let says = subst (λ (w : List StreamEvent). Says core w c.loop-at.said.items) all c.loop-at.invariant.says in
-    let read : pre (type_of c.output.result.now) c.deref.result.now ≡ mean core (input_of core word) = ap₂ pre c.output.ensures c.deref.ensures.value ∙ says.means in
-    said_whole g.M.Machine.seen g.M.Machine.stands g.met.M.Machine.stands_after c.loop-at.session core c.args.budget word standing _ (c.in_ok-prefix_of.ensures.value ∙ read) ended
+    said_whole g.M.Machine.seen g.M.Machine.stands g.met.M.Machine.stands_after c.loop-at.session core c.args.budget word standing _ (returns-clause-means g c) ended
