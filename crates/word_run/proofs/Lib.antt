@@ -1,0 +1,2 @@
+pub mod OnTheWord
+mod Examples
