@@ -4,3 +4,6 @@ use Rattle.delta_session.proofs.session.spell.Goals as goal
 
 pub returns-clause-word : goal.returns-clause-word
 returns-clause-word c = search rules
+
+pub returns-clause-left : goal.returns-clause-left
+returns-clause-left c = search rules
