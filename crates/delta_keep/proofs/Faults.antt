@@ -68,19 +68,17 @@ all_spelled bytes a (b ∷ rest) h e = absurd (omega (arith, e))
 -- or something stands behind it,
 pub ends_behind : (bytes rest : List ℕ) → walk kept_parts bytes ≡ passed rest → 0 < length rest → (length rest ≤ length bytes) × (fault_from kept_parts 0 bytes ≡ Some (length bytes - length rest))
 ends_behind bytes [] h more = absurd (omega (arith, more))
-ends_behind bytes (b ∷ rest) h more =
-    (
-      subst (λ w. left_of w ≤ length bytes) h (left_within kept_parts bytes),
-      fault_is kept_parts 0 bytes ∙ (ap (place_of 0 (length bytes)) h ∙ ap Some (let e : 0 + (length bytes - suc (length rest)) ≡ length bytes - suc (length rest) = omega arith in e))
-    )
+ends_behind bytes (b ∷ rest) h more = (
+  subst (λ w. left_of w ≤ length bytes) h (left_within kept_parts bytes),
+  fault_is kept_parts 0 bytes ∙ (ap (place_of 0 (length bytes)) h ∙ ap Some (let e : 0 + (length bytes - suc (length rest)) ≡ length bytes - suc (length rest) = omega arith in e)),
+)
 
 -- or it stopped
 pub ends_stopped : (bytes : List ℕ) (left : ℕ) → walk kept_parts bytes ≡ stuck left → (left ≤ length bytes) × (fault_from kept_parts 0 bytes ≡ Some (length bytes - left))
-ends_stopped bytes left h =
-    (
-      subst (λ w. left_of w ≤ length bytes) h (left_within kept_parts bytes),
-      fault_is kept_parts 0 bytes ∙ (ap (place_of 0 (length bytes)) h ∙ ap Some (let e : 0 + (length bytes - left) ≡ length bytes - left = omega arith in e))
-    )
+ends_stopped bytes left h = (
+  subst (λ w. left_of w ≤ length bytes) h (left_within kept_parts bytes),
+  fault_is kept_parts 0 bytes ∙ (ap (place_of 0 (length bytes)) h ∙ ap Some (let e : 0 + (length bytes - left) ≡ length bytes - left = omega arith in e)),
+)
 
 -- a comparison by its outcome
 not_below : (n : ℕ) → n ≤ most_bytes → nat_lt most_bytes n ≡ false

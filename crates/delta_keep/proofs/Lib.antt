@@ -5,4 +5,5 @@ pub mod Trees
 pub mod PlacedBytes
 pub mod Walks
 pub mod ReadLists
+pub mod ReadCases
 pub mod Faults

@@ -51,8 +51,8 @@ list_stuck item f g many bytes start n xs rest left small e h l w =
     ∙ (next_item item (many - (n + 1)) rest ∙ ap (λ v. v >>= λ r. walk (settle (items (many - (n + 1)) item ∷ [])) r) w)))
 
 -- so it does whatever stopped it
-pub list_halts : {A B V W : Type 0} (item : Item) (f : B → List ℕ) (g : A → B) (many : ℕ) (bytes start : List ℕ) (n : ℕ) (xs : List A) (rest : List ℕ) (e : Halt) {r : V → List ℕ} {s : W → List ℕ} → many < 2 ^ 32 → bytes ≡ short_bytes many ++ start → ReadSome item f g many start n xs rest → n < many
-    → Walks r (Err e) (walk (item_parts item) rest) → Walks s (Err e) (walk (list_part item ∷ []) bytes)
+pub list_halts : {A B : Type 0} (item : Item) (f : B → List ℕ) (g : A → B) (many : ℕ) (bytes start : List ℕ) (n : ℕ) (xs : List A) (rest : List ℕ) (e : Halt) → many < 2 ^ 32 → bytes ≡ short_bytes many ++ start → ReadSome item f g many start n xs rest → n < many
+    → Walks {V = List ℕ} (λ x. x) (Err e) (walk (item_parts item) rest) → Walks {V = List ℕ} (λ x. x) (Err e) (walk (list_part item ∷ []) bytes)
 list_halts item f g many bytes start n xs rest Memory small h k l w = tt
 list_halts item f g many bytes start n xs rest (At left) small h k l w = list_stuck item f g many bytes start n xs rest left small h k l w
 

@@ -8,7 +8,6 @@ use Rattle.kept_state.specs.KeptForm.{Kind, type_kind, prefix_kind, end_kind, va
 use Rattle.delta_keep.specs.Walking.{Walk, passed, stuck, walk_on, walk}
 
 infixl 10 ◌>>=◌
-
 -- what comes behind bytes that were passed
 abbrev pub ◌>>=◌ : Walk → (List ℕ → Walk) → Walk
 (passed rest) >>= f = f rest

@@ -83,10 +83,7 @@ pub(crate) fn read_expr<'a>(alloc: Global, bytes: &'a [u8]) -> Result<(Box<Expr>
 
 #[cycle(read_exprs)]
 #[tactic(auto, using(crate::proofs::Joined::joined, crate::proofs::Walks::two_walk))]
-fn two_exprs<'a>(
-    alloc: Global,
-    bytes: &'a [u8],
-) -> Result<(Box<Expr>, Box<Expr>, &'a [u8]), Halt>
+fn two_exprs<'a>(alloc: Global, bytes: &'a [u8]) -> Result<(Box<Expr>, Box<Expr>, &'a [u8]), Halt>
     ensures spelled { IfOk result (λ x. bytes.now ≡ (expr_bytes (expr_of x.0.value) ++ expr_bytes (expr_of x.1.value)) ++ x.2.now) }
     ensures walked { Walks (λ x. x.2.now) result (walk (form expr_kind ∷ form expr_kind ∷ []) bytes.now) }
     ensures shorter { IfOk result (λ x. length x.2.now < length bytes.now) }

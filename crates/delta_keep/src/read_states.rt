@@ -210,10 +210,7 @@ fn read_frame<'a>(alloc: Global, bytes: &'a [u8]) -> Result<(Box<KeptState>, &'a
 
 // The arguments of a called body.
 #[cycle(read_states)]
-fn read_arguments<'a>(
-    alloc: Global,
-    bytes: &'a [u8],
-) -> Result<(Vec<Argument>, &'a [u8]), Halt>
+fn read_arguments<'a>(alloc: Global, bytes: &'a [u8]) -> Result<(Vec<Argument>, &'a [u8]), Halt>
     ensures spelled { IfOk result (λ x. bytes.now ≡ list_bytes written_argument x.0.items ++ x.1.now) }
     ensures walked { Walks (λ x. x.1.now) result (walk (list_part argument_item ∷ []) bytes.now) }
     ensures shorter { IfOk result (λ x. length x.1.now < length bytes.now) }

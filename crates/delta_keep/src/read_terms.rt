@@ -29,11 +29,7 @@ pub(crate) fn read_node<'a>(alloc: Global, bytes: &'a [u8]) -> Result<(Box<Node>
 // The node here, whose term stands next.
 #[cycle(read_nodes)]
 #[tactic(auto, using(crate::proofs::Joined::joined, crate::proofs::Walks::no_form))]
-fn read_term<'a>(
-    alloc: Global,
-    at: u32,
-    bytes: &'a [u8],
-) -> Result<(Box<Node>, &'a [u8]), Halt>
+fn read_term<'a>(alloc: Global, at: u32, bytes: &'a [u8]) -> Result<(Box<Node>, &'a [u8]), Halt>
     ensures spelled { IfOk result (λ x. short_bytes at ++ bytes.now ≡ written_node x.0.value ++ x.1.now) }
     ensures walked { Walks (λ x. x.1.now) result (walk (form term_kind ∷ []) bytes.now) }
     ensures shorter { IfOk result (λ x. length x.1.now < length bytes.now) }
@@ -42,40 +38,139 @@ fn read_term<'a>(
     match form {
         0 => {
             let (x, rest) = read_name(rest)?;
-            Ok((Box::new(alloc, Node { at, term: Term::Var(x) })?, rest))
+            Ok((
+                Box::new(
+                    alloc,
+                    Node {
+                        at,
+                        term: Term::Var(x),
+                    },
+                )?,
+                rest,
+            ))
         }
-        1 => Ok((Box::new(alloc, Node { at, term: Term::Eps })?, rest)),
-        2 => Ok((Box::new(alloc, Node { at, term: Term::Unit })?, rest)),
+        1 => Ok((
+            Box::new(
+                alloc,
+                Node {
+                    at,
+                    term: Term::Eps,
+                },
+            )?,
+            rest,
+        )),
+        2 => Ok((
+            Box::new(
+                alloc,
+                Node {
+                    at,
+                    term: Term::Unit,
+                },
+            )?,
+            rest,
+        )),
         3 => read_history(alloc, at, rest),
         4 => {
             let (a, b, rest) = two_nodes(alloc, rest)?;
-            Ok((Box::new(alloc, Node { at, term: Term::Par(a, b) })?, rest))
+            Ok((
+                Box::new(
+                    alloc,
+                    Node {
+                        at,
+                        term: Term::Par(a, b),
+                    },
+                )?,
+                rest,
+            ))
         }
         5 => {
             let (a, b, rest) = two_nodes(alloc, rest)?;
-            Ok((Box::new(alloc, Node { at, term: Term::Cat(a, b) })?, rest))
+            Ok((
+                Box::new(
+                    alloc,
+                    Node {
+                        at,
+                        term: Term::Cat(a, b),
+                    },
+                )?,
+                rest,
+            ))
         }
         6 => {
             let (a, rest) = read_node(alloc, rest)?;
-            Ok((Box::new(alloc, Node { at, term: Term::Inl(a) })?, rest))
+            Ok((
+                Box::new(
+                    alloc,
+                    Node {
+                        at,
+                        term: Term::Inl(a),
+                    },
+                )?,
+                rest,
+            ))
         }
         7 => {
             let (a, rest) = read_node(alloc, rest)?;
-            Ok((Box::new(alloc, Node { at, term: Term::Inr(a) })?, rest))
+            Ok((
+                Box::new(
+                    alloc,
+                    Node {
+                        at,
+                        term: Term::Inr(a),
+                    },
+                )?,
+                rest,
+            ))
         }
-        8 => Ok((Box::new(alloc, Node { at, term: Term::Nil })?, rest)),
+        8 => Ok((
+            Box::new(
+                alloc,
+                Node {
+                    at,
+                    term: Term::Nil,
+                },
+            )?,
+            rest,
+        )),
         9 => {
             let (a, b, rest) = two_nodes(alloc, rest)?;
-            Ok((Box::new(alloc, Node { at, term: Term::Cons(a, b) })?, rest))
+            Ok((
+                Box::new(
+                    alloc,
+                    Node {
+                        at,
+                        term: Term::Cons(a, b),
+                    },
+                )?,
+                rest,
+            ))
         }
         10 => read_let(alloc, at, rest),
         11 => {
             let (x, y, z, a, rest) = names_and_node(alloc, rest)?;
-            Ok((Box::new(alloc, Node { at, term: Term::LetPar(x, y, z, a) })?, rest))
+            Ok((
+                Box::new(
+                    alloc,
+                    Node {
+                        at,
+                        term: Term::LetPar(x, y, z, a),
+                    },
+                )?,
+                rest,
+            ))
         }
         12 => {
             let (x, y, z, a, rest) = names_and_node(alloc, rest)?;
-            Ok((Box::new(alloc, Node { at, term: Term::LetCat(x, y, z, a) })?, rest))
+            Ok((
+                Box::new(
+                    alloc,
+                    Node {
+                        at,
+                        term: Term::LetCat(x, y, z, a),
+                    },
+                )?,
+                rest,
+            ))
         }
         13 => read_case_sum(alloc, at, rest),
         14 => read_case_star(alloc, at, rest),
@@ -87,10 +182,7 @@ fn read_term<'a>(
 
 #[cycle(read_nodes)]
 #[tactic(auto, using(crate::proofs::Joined::joined, crate::proofs::Walks::two_nodes_walk))]
-fn two_nodes<'a>(
-    alloc: Global,
-    bytes: &'a [u8],
-) -> Result<(Box<Node>, Box<Node>, &'a [u8]), Halt>
+fn two_nodes<'a>(alloc: Global, bytes: &'a [u8]) -> Result<(Box<Node>, Box<Node>, &'a [u8]), Halt>
     ensures spelled { IfOk result (λ x. bytes.now ≡ (written_node x.0.value ++ written_node x.1.value) ++ x.2.now) }
     ensures walked { Walks (λ x. x.2.now) result (walk (node_parts ++ node_parts) bytes.now) }
     ensures shorter { IfOk result (λ x. length x.2.now < length bytes.now) }
@@ -102,11 +194,7 @@ fn two_nodes<'a>(
 
 // A historical expression as a term, behind its form.
 #[tactic(auto, using(crate::proofs::Joined::joined))]
-fn read_history<'a>(
-    alloc: Global,
-    at: u32,
-    bytes: &'a [u8],
-) -> Result<(Box<Node>, &'a [u8]), Halt>
+fn read_history<'a>(alloc: Global, at: u32, bytes: &'a [u8]) -> Result<(Box<Node>, &'a [u8]), Halt>
     ensures spelled { IfOk result (λ x. short_bytes at ++ (3 ∷ bytes.now) ≡ written_node x.0.value ++ x.1.now) }
     ensures walked { Walks (λ x. x.1.now) result (walk (form term_kind ∷ []) (3 ∷ bytes.now)) }
     ensures shorter { IfOk result (λ x. length x.1.now < length bytes.now) }
@@ -119,11 +207,7 @@ fn read_history<'a>(
 // A let, behind its form.
 #[cycle(read_nodes)]
 #[tactic(auto, using(crate::proofs::Joined::joined, crate::proofs::Walks::let_walk))]
-fn read_let<'a>(
-    alloc: Global,
-    at: u32,
-    bytes: &'a [u8],
-) -> Result<(Box<Node>, &'a [u8]), Halt>
+fn read_let<'a>(alloc: Global, at: u32, bytes: &'a [u8]) -> Result<(Box<Node>, &'a [u8]), Halt>
     ensures spelled { IfOk result (λ x. short_bytes at ++ (10 ∷ bytes.now) ≡ written_node x.0.value ++ x.1.now) }
     ensures walked { Walks (λ x. x.1.now) result (walk (form term_kind ∷ []) (10 ∷ bytes.now)) }
     ensures shorter { IfOk result (λ x. length x.1.now < length bytes.now) }
@@ -153,11 +237,7 @@ fn names_and_node<'a>(
 // A case on a sum, behind its form.
 #[cycle(read_nodes)]
 #[tactic(auto, using(crate::proofs::Joined::joined, crate::proofs::Walks::case_sum_walk))]
-fn read_case_sum<'a>(
-    alloc: Global,
-    at: u32,
-    bytes: &'a [u8],
-) -> Result<(Box<Node>, &'a [u8]), Halt>
+fn read_case_sum<'a>(alloc: Global, at: u32, bytes: &'a [u8]) -> Result<(Box<Node>, &'a [u8]), Halt>
     ensures spelled { IfOk result (λ x. short_bytes at ++ (13 ∷ bytes.now) ≡ written_node x.0.value ++ x.1.now) }
     ensures walked { Walks (λ x. x.1.now) result (walk (form term_kind ∷ []) (13 ∷ bytes.now)) }
     ensures shorter { IfOk result (λ x. length x.1.now < length bytes.now) }
@@ -195,11 +275,7 @@ fn read_case_star<'a>(
 // A wait, behind its form.
 #[cycle(read_nodes)]
 #[tactic(auto, using(crate::proofs::Joined::joined, crate::proofs::Walks::wait_walk))]
-fn read_wait<'a>(
-    alloc: Global,
-    at: u32,
-    bytes: &'a [u8],
-) -> Result<(Box<Node>, &'a [u8]), Halt>
+fn read_wait<'a>(alloc: Global, at: u32, bytes: &'a [u8]) -> Result<(Box<Node>, &'a [u8]), Halt>
     ensures spelled { IfOk result (λ x. short_bytes at ++ (15 ∷ bytes.now) ≡ written_node x.0.value ++ x.1.now) }
     ensures walked { Walks (λ x. x.1.now) result (walk (form term_kind ∷ []) (15 ∷ bytes.now)) }
     ensures shorter { IfOk result (λ x. length x.1.now < length bytes.now) }
@@ -213,11 +289,7 @@ fn read_wait<'a>(
 // A call, behind its form.
 #[cycle(read_nodes)]
 #[tactic(auto, using(crate::proofs::Joined::joined, crate::proofs::Walks::call_walk))]
-fn read_call<'a>(
-    alloc: Global,
-    at: u32,
-    bytes: &'a [u8],
-) -> Result<(Box<Node>, &'a [u8]), Halt>
+fn read_call<'a>(alloc: Global, at: u32, bytes: &'a [u8]) -> Result<(Box<Node>, &'a [u8]), Halt>
     ensures spelled { IfOk result (λ x. short_bytes at ++ (16 ∷ bytes.now) ≡ written_node x.0.value ++ x.1.now) }
     ensures walked { Walks (λ x. x.1.now) result (walk (form term_kind ∷ []) (16 ∷ bytes.now)) }
     ensures shorter { IfOk result (λ x. length x.1.now < length bytes.now) }

@@ -47,10 +47,7 @@ pub(crate) fn read_type<'a>(alloc: Global, bytes: &'a [u8]) -> Result<(Box<Ty>, 
 
 #[cycle(read_types)]
 #[tactic(auto, using(crate::proofs::Joined::joined, crate::proofs::Walks::two_walk))]
-fn two_types<'a>(
-    alloc: Global,
-    bytes: &'a [u8],
-) -> Result<(Box<Ty>, Box<Ty>, &'a [u8]), Halt>
+fn two_types<'a>(alloc: Global, bytes: &'a [u8]) -> Result<(Box<Ty>, Box<Ty>, &'a [u8]), Halt>
     ensures spelled { IfOk result (λ x. bytes.now ≡ (type_bytes (type_of x.0.value) ++ type_bytes (type_of x.1.value)) ++ x.2.now) }
     ensures walked { Walks (λ x. x.2.now) result (walk (form type_kind ∷ form type_kind ∷ []) bytes.now) }
     ensures shorter { IfOk result (λ x. length x.2.now < length bytes.now) }

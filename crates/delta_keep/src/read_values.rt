@@ -17,10 +17,7 @@ use std::alloc::Global;
 /// A value.
 #[cycle(read_values)]
 #[tactic(auto, using(crate::proofs::Joined::joined, crate::proofs::Walks::no_form))]
-pub(crate) fn read_value<'a>(
-    alloc: Global,
-    bytes: &'a [u8],
-) -> Result<(Box<Value>, &'a [u8]), Halt>
+pub(crate) fn read_value<'a>(alloc: Global, bytes: &'a [u8]) -> Result<(Box<Value>, &'a [u8]), Halt>
     ensures spelled { IfOk result (λ x. bytes.now ≡ value_bytes (hist_value_of x.0.value) ++ x.1.now) }
     ensures walked { Walks (λ x. x.1.now) result (walk (form value_kind ∷ []) bytes.now) }
     ensures shorter { IfOk result (λ x. length x.1.now < length bytes.now) }

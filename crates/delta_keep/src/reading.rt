@@ -55,10 +55,10 @@ fn read_whole(alloc: Global, bytes: &[u8]) -> Result<Kept, Halt>
     ensures ended { Ends bytes.now result (fault_from kept_parts 0 bytes.now) }
 {
     let (k, rest) = read_parts(alloc, bytes)?;
-    if !rest.is_empty() {
-        return Err(Halt::At(rest.len()));
+    match rest.len() {
+        0 => Ok(k),
+        left => Err(Halt::At(left)),
     }
-    Ok(k)
 }
 
 // The letters and the version.

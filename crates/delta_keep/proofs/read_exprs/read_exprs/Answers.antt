@@ -1,4 +1,5 @@
 use Rattle.std.proofs.Common.{◌<◌, ◌≤◌, ◌^◌, arith}
+use Rattle.std.proofs.lemmas.Result.{err_from_is_err_and}
 use Rattle.hist_value.specs.HistExpr.{expr_of}
 use Rattle.kept_state.specs.KeptBytes.{expr_bytes}
 use Rattle.kept_state.specs.KeptForm.{expr_item}
@@ -17,7 +18,8 @@ pub returns-in_err-m-clause-walked : goal.returns-in_err-m-clause-walked
 returns-in_err-m-clause-walked c =
     let lt : c.items.counter < c.in_ok-count.count = omega arith in
     let small : c.in_ok-count.count < 2 ^ 32 = omega arith in
-    list_halts expr_item expr_bytes expr_of c.in_ok-count.count c.args.bytes.now c.in_ok-count.rest.now c.items.counter c.items.items.items c.items.rest.now _ small c.in_ok-count.ensures.spelled c.items.invariant lt c.in_err-m.ensures.walked
+    let exit = err_from_is_err_and c.from_residual-in_err-m.result c.from_residual-in_err-m.ensures.1 in
+    rw (exit.1, exit.2) (list_halts expr_item expr_bytes expr_of c.in_ok-count.count c.args.bytes.now c.in_ok-count.rest.now c.items.counter c.items.items.items c.items.rest.now c.in_err-m.field-0.0 small c.in_ok-count.ensures.spelled c.items.invariant lt c.in_err-m.ensures.walked)
 
 -- and when all are
 pub returns-clause-walked : goal.returns-clause-walked

@@ -1,4 +1,5 @@
 use Rattle.std.proofs.Common.{◌<◌, ◌≤◌, ◌^◌, arith}
+use Rattle.std.proofs.lemmas.Result.{err_from_is_err_and}
 use Rattle.stream_prefix.specs.Tree.{prefix_of}
 use Rattle.kept_state.specs.KeptBytes.{prefix_bytes}
 use Rattle.kept_state.specs.KeptForm.{prefix_item}
@@ -18,7 +19,8 @@ pub read_items-returns-in_err-item-clause-walked : goal.read_items-returns-in_er
 read_items-returns-in_err-item-clause-walked t c =
     let lt : c.items.counter < c.in_ok-count.count = omega arith in
     let small : c.in_ok-count.count < 2 ^ 32 = omega arith in
-    list_halts prefix_item prefix_bytes prefix_of c.in_ok-count.count c.args.bytes.now c.in_ok-count.rest.now c.items.counter c.items.items.items c.items.rest.now _ small c.in_ok-count.ensures.spelled c.items.invariant lt c.in_err-item.ensures.walked
+    let exit = err_from_is_err_and c.from_residual-in_err-item.result c.from_residual-in_err-item.ensures.1 in
+    rw (exit.1, exit.2) (list_halts prefix_item prefix_bytes prefix_of c.in_ok-count.count c.args.bytes.now c.in_ok-count.rest.now c.items.counter c.items.items.items c.items.rest.now c.in_err-item.field-0.0 small c.in_ok-count.ensures.spelled c.items.invariant lt c.in_err-item.ensures.walked)
 
 -- and when all are
 pub read_items-returns-clause-walked : goal.read_items-returns-clause-walked

@@ -1,4 +1,5 @@
 use Rattle.std.proofs.Common.{◌<◌, ◌≤◌, ◌^◌, refl, arith}
+use Rattle.std.proofs.lemmas.Result.{err_from_is_err_and}
 use Rattle.delta_keep.specs.Written.{written_argument}
 use Rattle.kept_state.specs.KeptForm.{argument_item}
 use Rattle.delta_keep.proofs.Trees.{read_frame_is}
@@ -17,7 +18,8 @@ pub read_arguments-returns-in_err-arg-clause-walked : goal.read_arguments-return
 read_arguments-returns-in_err-arg-clause-walked t c =
     let lt : c.items.counter < c.in_ok-count.count = omega arith in
     let small : c.in_ok-count.count < 2 ^ 32 = omega arith in
-    list_halts argument_item written_argument (λ a. a) c.in_ok-count.count c.args.bytes.now c.in_ok-count.rest.now c.items.counter c.items.items.items c.items.rest.now _ small c.in_ok-count.ensures.spelled c.items.invariant lt c.in_err-arg.ensures.walked
+    let exit = err_from_is_err_and c.from_residual-in_err-arg.result c.from_residual-in_err-arg.ensures.1 in
+    rw (exit.1, exit.2) (list_halts argument_item written_argument (λ a. a) c.in_ok-count.count c.args.bytes.now c.in_ok-count.rest.now c.items.counter c.items.items.items c.items.rest.now c.in_err-arg.field-0.0 small c.in_ok-count.ensures.spelled c.items.invariant lt c.in_err-arg.ensures.walked)
 
 -- and when all are
 pub read_arguments-returns-clause-walked : goal.read_arguments-returns-clause-walked
