@@ -19,16 +19,7 @@ pub record ReadSome {A B : Type 0} (item : Item) (f : B → List ℕ) (g : A →
   pub counted : length xs ≡ n
   pub walked : walk (settle (items many item ∷ [])) start ≡ walk (settle (items (many - n) item ∷ [])) rest
 
--- none at first
-pub read_none_yet : {A B : Type 0} (item : Item) (f : B → List ℕ) (g : A → B) (many : ℕ) (start : List ℕ) (xs : List A) → xs ≡ [] → ReadSome item f g many start 0 xs start
-read_none_yet item f g many start xs e = record {
-  spelled = ap (λ ys. items_bytes f g ys ++ start) (sym e);
-  within = omega arith;
-  counted = ap length e;
-  walked = ap (λ m. walk (settle (items m item ∷ [])) start) (let k : many ≡ many - 0 = omega arith in k);
-}
-
--- then one more
+-- with one more
 pub read_one_more : {A B : Type 0} (item : Item) (f : B → List ℕ) (g : A → B) (many : ℕ) (start : List ℕ) (n : ℕ) (xs next : List A) (x y : A) (rest behind : List ℕ) → ReadSome item f g many start n xs rest → n < many → next ≡ xs ++ x ∷ [] → x ≡ y
     → rest ≡ f (g y) ++ behind → length behind < length rest → walk (item_parts item) rest ≡ passed behind → ReadSome item f g many start (n + 1) next behind
 read_one_more item f g many start n xs next x y rest behind h l p q e s w = record {

@@ -38,139 +38,57 @@ fn read_term<'a>(alloc: Global, at: u32, bytes: &'a [u8]) -> Result<(Box<Node>, 
     match form {
         0 => {
             let (x, rest) = read_name(rest)?;
-            Ok((
-                Box::new(
-                    alloc,
-                    Node {
-                        at,
-                        term: Term::Var(x),
-                    },
-                )?,
-                rest,
-            ))
+            let term = Term::Var(x);
+            Ok((Box::new(alloc, Node { at, term })?, rest))
         }
-        1 => Ok((
-            Box::new(
-                alloc,
-                Node {
-                    at,
-                    term: Term::Eps,
-                },
-            )?,
-            rest,
-        )),
-        2 => Ok((
-            Box::new(
-                alloc,
-                Node {
-                    at,
-                    term: Term::Unit,
-                },
-            )?,
-            rest,
-        )),
+        1 => {
+            let term = Term::Eps;
+            Ok((Box::new(alloc, Node { at, term })?, rest))
+        }
+        2 => {
+            let term = Term::Unit;
+            Ok((Box::new(alloc, Node { at, term })?, rest))
+        }
         3 => read_history(alloc, at, rest),
         4 => {
             let (a, b, rest) = two_nodes(alloc, rest)?;
-            Ok((
-                Box::new(
-                    alloc,
-                    Node {
-                        at,
-                        term: Term::Par(a, b),
-                    },
-                )?,
-                rest,
-            ))
+            let term = Term::Par(a, b);
+            Ok((Box::new(alloc, Node { at, term })?, rest))
         }
         5 => {
             let (a, b, rest) = two_nodes(alloc, rest)?;
-            Ok((
-                Box::new(
-                    alloc,
-                    Node {
-                        at,
-                        term: Term::Cat(a, b),
-                    },
-                )?,
-                rest,
-            ))
+            let term = Term::Cat(a, b);
+            Ok((Box::new(alloc, Node { at, term })?, rest))
         }
         6 => {
             let (a, rest) = read_node(alloc, rest)?;
-            Ok((
-                Box::new(
-                    alloc,
-                    Node {
-                        at,
-                        term: Term::Inl(a),
-                    },
-                )?,
-                rest,
-            ))
+            let term = Term::Inl(a);
+            Ok((Box::new(alloc, Node { at, term })?, rest))
         }
         7 => {
             let (a, rest) = read_node(alloc, rest)?;
-            Ok((
-                Box::new(
-                    alloc,
-                    Node {
-                        at,
-                        term: Term::Inr(a),
-                    },
-                )?,
-                rest,
-            ))
+            let term = Term::Inr(a);
+            Ok((Box::new(alloc, Node { at, term })?, rest))
         }
-        8 => Ok((
-            Box::new(
-                alloc,
-                Node {
-                    at,
-                    term: Term::Nil,
-                },
-            )?,
-            rest,
-        )),
+        8 => {
+            let term = Term::Nil;
+            Ok((Box::new(alloc, Node { at, term })?, rest))
+        }
         9 => {
             let (a, b, rest) = two_nodes(alloc, rest)?;
-            Ok((
-                Box::new(
-                    alloc,
-                    Node {
-                        at,
-                        term: Term::Cons(a, b),
-                    },
-                )?,
-                rest,
-            ))
+            let term = Term::Cons(a, b);
+            Ok((Box::new(alloc, Node { at, term })?, rest))
         }
         10 => read_let(alloc, at, rest),
         11 => {
             let (x, y, z, a, rest) = names_and_node(alloc, rest)?;
-            Ok((
-                Box::new(
-                    alloc,
-                    Node {
-                        at,
-                        term: Term::LetPar(x, y, z, a),
-                    },
-                )?,
-                rest,
-            ))
+            let term = Term::LetPar(x, y, z, a);
+            Ok((Box::new(alloc, Node { at, term })?, rest))
         }
         12 => {
             let (x, y, z, a, rest) = names_and_node(alloc, rest)?;
-            Ok((
-                Box::new(
-                    alloc,
-                    Node {
-                        at,
-                        term: Term::LetCat(x, y, z, a),
-                    },
-                )?,
-                rest,
-            ))
+            let term = Term::LetCat(x, y, z, a);
+            Ok((Box::new(alloc, Node { at, term })?, rest))
         }
         13 => read_case_sum(alloc, at, rest),
         14 => read_case_star(alloc, at, rest),
