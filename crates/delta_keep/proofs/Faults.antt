@@ -1,10 +1,9 @@
 -- Where going over bytes ends is where their fault of form is.
-use Rattle.std.proofs.Common.{◌≡◌, ◌∙◌, ◌<◌, ◌≤◌, ◌+◌, ◌-◌, ℕ, zero, suc, Bool, true, false, List, [], ◌∷◌, ◌++◌, length, ap, refl, sym, subst, arith}
+use Rattle.std.proofs.Common.{◌≡◌, ◌∙◌, ◌<◌, ◌≤◌, ◌+◌, ◌-◌, ℕ, suc, Bool, true, false, List, [], ◌∷◌, length, ap, refl, subst, arith}
 use Rattle.std.specs.Prelude.{Option, Some, None, nat_lt, if◌then◌else◌, option_map}
 use Rattle.std.proofs.lemmas.Bool.{ltb-true, ltb-false}
-use Rattle.std.proofs.lemmas.List.{append-nil}
 use Rattle.kept_state.specs.KeptBytes.{most_bytes}
-use Rattle.kept_state.specs.KeptForm.{Part, settle, after_byte, is_whole, go_on, fault_from, kept_parts, FormFault, bad_form, bad_version, version_fault, or_else, form_fault}
+use Rattle.kept_state.specs.KeptForm.{Part, settle, after_byte, is_whole, go_on, fault_from, kept_parts, bad_form, bad_version, version_fault, or_else, form_fault}
 use Rattle.delta_keep.specs.Walking.{Walk, passed, stuck, walk_on, walk}
 
 -- how many bytes are left
@@ -60,10 +59,6 @@ fault_is parts at (b ∷ bs) = goes_on_settled (settle parts) at b bs (λ f. fau
 pub ends_whole : (bytes rest : List ℕ) → walk kept_parts bytes ≡ passed rest → length rest ≡ 0 → fault_from kept_parts 0 bytes ≡ None
 ends_whole bytes [] h e = fault_is kept_parts 0 bytes ∙ ap (place_of 0 (length bytes)) h
 ends_whole bytes (b ∷ rest) h e = absurd (omega (arith, e))
-
-pub all_spelled : (bytes a rest : List ℕ) → bytes ≡ a ++ rest → length rest ≡ 0 → bytes ≡ a
-all_spelled bytes a [] h e = h ∙ append-nil a
-all_spelled bytes a (b ∷ rest) h e = absurd (omega (arith, e))
 
 -- or something stands behind it,
 pub ends_behind : (bytes rest : List ℕ) → walk kept_parts bytes ≡ passed rest → 0 < length rest → (length rest ≤ length bytes) × (fault_from kept_parts 0 bytes ≡ Some (length bytes - length rest))

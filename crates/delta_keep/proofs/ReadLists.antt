@@ -1,15 +1,15 @@
 -- Lists read item by item, and a node read with its term.
-use Rattle.std.proofs.Common.{◌≡◌, ◌∙◌, ◌<◌, ◌≤◌, ◌^◌, ◌+◌, ◌-◌, ℕ, zero, suc, List, [], ◌∷◌, ◌++◌, map, length, ap, sym, arith, append_assoc}
+use Rattle.std.proofs.Common.{◌≡◌, ◌∙◌, ◌<◌, ◌≤◌, ◌^◌, ◌+◌, ◌-◌, ℕ, suc, List, [], ◌∷◌, ◌++◌, length, ap, sym, arith, append_assoc}
 use Rattle.core_term.specs.declared.term.Node.{Node}
 use Rattle.core_term.specs.declared.term.Term.{Term}
-use Rattle.kept_state.specs.KeptBytes.{short_bytes, list_bytes}
+use Rattle.kept_state.specs.KeptBytes.{short_bytes}
 use Rattle.kept_state.specs.KeptForm.{Item, items, list_part, item_parts, settle}
-use Rattle.std.specs.Prelude.{Result, Err}
+use Rattle.std.specs.Prelude.{Err}
 use Rattle.delta_keep.specs.declared.halt.Halt.{Halt}
 use Rattle.delta_keep.specs.declared.halt.Halt.TheVariants.{Memory, At}
 use Rattle.delta_keep.specs.Written.{written_term, written_node}
 use Rattle.delta_keep.specs.Walking.{walk, passed, stuck, Walks}
-use Rattle.delta_keep.proofs.Lists.{items_bytes, read_next, read_all, count_next}
+use Rattle.delta_keep.proofs.Lists.{items_bytes, read_next, count_next}
 use Rattle.delta_keep.proofs.Walks.{◌>>=◌, next_item, listed}
 
 -- of a list of so many items, whose bytes begin here, these n are read, and these bytes are left
@@ -52,9 +52,6 @@ pub list_walked : {A B : Type 0} (item : Item) (f : B → List ℕ) (g : A → B
     → walk (list_part item ∷ []) bytes ≡ passed rest
 list_walked item f g many bytes start n xs rest small e h l =
     listed item many bytes start small e ∙ (h.walked ∙ ap (λ m. walk (settle (items m item ∷ [])) rest) (let k : many - n ≡ 0 = omega (arith, l) in k))
-
-pub list_spelled : {A B : Type 0} (item : Item) (f : B → List ℕ) (g : A → B) (many : ℕ) (bytes start : List ℕ) (n : ℕ) (xs : List A) (rest : List ℕ) → bytes ≡ short_bytes many ++ start → ReadSome item f g many start n xs rest → n ≡ many → bytes ≡ list_bytes f (map g xs) ++ rest
-list_spelled item f g many bytes start n xs rest e h l = read_all f g xs many bytes start rest e h.spelled (h.counted ∙ l)
 
 -- a node that has a term which was read
 pub read_node_is : (at : ℕ) (n : Node) (t : Term) (bytes rest : List ℕ) → n ≡ record { at = at; term = t } → bytes ≡ written_term t ++ rest → short_bytes at ++ bytes ≡ written_node n ++ rest

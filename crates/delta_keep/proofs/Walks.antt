@@ -4,7 +4,7 @@ use Rattle.std.specs.Prelude.{Option, Some, None, ◌==◌, if◌then◌else◌,
 use Rattle.std.specs.Int.{byte_at}
 use Rattle.std.proofs.lemmas.Nat.{from_be_bytes-to_be_bytes_4}
 use Rattle.kept_state.specs.KeptBytes.{short_bytes}
-use Rattle.kept_state.specs.KeptForm.{Kind, type_kind, prefix_kind, end_kind, value_kind, op_kind, expr_kind, term_kind, state_kind, Item, bool_item, type_item, prefix_item, value_item, expr_item, node_item, known_item, held_item, argument_item, Part, exactly, any, form, count, items, list_part, node_parts, later_parts, item_parts, forms_of, form_at, settle, after_byte, kept_parts}
+use Rattle.kept_state.specs.KeptForm.{Kind, type_kind, end_kind, op_kind, expr_kind, term_kind, state_kind, Item, bool_item, type_item, prefix_item, value_item, expr_item, node_item, known_item, held_item, argument_item, Part, exactly, any, form, count, items, list_part, node_parts, later_parts, item_parts, forms_of, form_at, settle, after_byte, kept_parts}
 use Rattle.delta_keep.specs.Walking.{Walk, passed, stuck, walk_on, walk}
 
 infixl 10 ◌>>=◌
@@ -107,14 +107,6 @@ pub no_form : (fs : List (List Part)) (n : ℕ) → length fs ≤ n → form_at 
 no_form [] n h = refl
 no_form (f ∷ fs) zero h = absurd (omega (arith, h))
 no_form (f ∷ fs) (suc n) h = no_form fs n (omega (arith, h))
-
--- a list whose count isn't whole
-pub no_count : (item : Item) (bytes : List ℕ) (left : ℕ) → walk (any 4 ∷ []) bytes ≡ stuck left → walk (list_part item ∷ []) bytes ≡ stuck left
-no_count item [] left h = h
-no_count item (a ∷ []) left h = h
-no_count item (a ∷ b ∷ []) left h = h
-no_count item (a ∷ b ∷ c ∷ []) left h = h
-no_count item (a ∷ b ∷ c ∷ d ∷ bytes) left h = absurd (cc)
 
 -- a list behind its count
 counted : (n : ℕ) (item : Item) → settle (count zero n item ∷ []) ≡ settle (items n item ∷ [])
