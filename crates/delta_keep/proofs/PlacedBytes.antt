@@ -1,12 +1,11 @@
 -- The bytes of the program's trees are those of what the trees stand for, where each node stands at its place.
-use Rattle.std.proofs.Common.{◌≡◌, ◌∙◌, ◌+◌, ℕ, suc, List, [], ◌∷◌, ◌++◌, map, length, drop, get_or, ap, ap₂, refl, sym, arith, append_assoc, length-append}
+use Rattle.std.proofs.Common.{◌≡◌, ◌∙◌, ◌+◌, ℕ, suc, List, [], ◌∷◌, ◌++◌, map, length, drop, ap, ap₂, refl, sym, arith, append_assoc, length-append}
 use Rattle.std.proofs.lemmas.List.{append-nil}
 use Rattle.stream_type.specs.StreamType.{type_of}
 use Rattle.hist_value.specs.HistExpr.{expr_of}
-use Rattle.core_term.specs.declared.term.Node.{Node}
 use Rattle.core_term.specs.declared.term.Term.{Term, Row_of-Node, end_of-Node, more_of-Node}
 use Rattle.core_term.specs.declared.term.Term.TheVariants.{Var, Eps, Unit as IsUnit, Past, Par', Cat', Inl', Inr', Nil, Cons', Let', LetPar', LetCat', CaseSum', CaseStar', Wait', Call'}
-use Rattle.core_term.specs.CoreTerm.{CoreTerm, term_in, terms_of, term_count, places_in, places_among, node_count, node_counts}
+use Rattle.core_term.specs.CoreTerm.{term_in, terms_of, term_count, places_in, places_among, node_count, node_counts}
 use Rattle.delta_state.specs.StateTree.{argument_names}
 use Rattle.kept_state.specs.KeptBytes.{short_bytes, long_bytes, list_bytes, bool_bytes, type_bytes, expr_bytes, known_bytes, held_name_bytes, behind, inside, node_bytes, term_bytes, terms_bytes, later_bytes, nodes_in_state, nodes_in_arguments, state_bytes, arguments_bytes, kept_bytes}
 use Rattle.delta_keep.specs.declared.kept.Waiting.{Waiting}
@@ -14,7 +13,7 @@ use Rattle.delta_keep.specs.declared.kept.Kept.{Kept}
 use Rattle.delta_keep.specs.declared.kept.KeptState.{KeptState, Row_of-Argument, end_of-Argument, more_of-Argument}
 use Rattle.delta_keep.specs.declared.kept.KeptState.TheVariants.{Sink, Var as NameState, Par' as ParState', Cat' as CatState', Let' as LetState', LetPar' as LetParState', LetCat' as LetCatState', CaseSum as SumState, CaseStar as StarState, Wait as WaitState, Frame'}
 use Rattle.delta_keep.specs.KeptView.{known_of, held_of, later_of, places_of_later, state_of, arguments_of, places_in_state, places_in_arguments, kept_of, places_kept}
-use Rattle.delta_keep.specs.Written.{written_term, written_nodes, nodes_of, written_node, written_later, written_state, written_arguments, arguments_in, written_kept}
+use Rattle.delta_keep.specs.Written.{written_term, written_nodes, nodes_of, written_later, written_state, written_arguments, arguments_in, written_kept}
 
 -- what is left behind the first part
 drop_first : (n : ℕ) (xs ys : List ℕ) → n ≡ length xs → drop n (xs ++ ys) ≡ ys

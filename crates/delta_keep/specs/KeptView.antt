@@ -1,5 +1,5 @@
 -- What the program's trees of kept states stand for.
-use Rattle.std.specs.Prelude.{ℕ, List, [], ◌∷◌, ◌++◌, map}
+use Rattle.std.specs.Prelude.{ℕ, List, [], ◌++◌, map}
 use Rattle.stream_type.specs.StreamType.{type_of}
 use Rattle.stream_prefix.specs.Tree.{prefix_of}
 use Rattle.hist_value.specs.HistValue.{hist_value_of}

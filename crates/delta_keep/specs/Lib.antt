@@ -1,4 +1,6 @@
 -- What the contracts cite.
 pub mod KeptView
 pub mod Written
+pub mod Walking
 pub mod Saving
+pub mod Reading

@@ -2,8 +2,7 @@
 --
 -- They are those of what the trees stand for (`written_kept_is` in `proofs/PlacedBytes.antt`). There the places of all
 -- nodes are given beside; here they are at the nodes, as code has them when it writes and reads.
-use Rattle.std.specs.Prelude.{ℕ, suc, List, [], ◌∷◌, ◌++◌, map, length}
-use Rattle.std.specs.List.{concat}
+use Rattle.std.specs.Prelude.{ℕ, suc, List, [], ◌∷◌, ◌++◌, map}
 use Rattle.stream_type.specs.StreamType.{type_of}
 use Rattle.hist_value.specs.HistExpr.{expr_of}
 use Rattle.core_term.specs.declared.term.Node.{Node}

@@ -1,5 +1,5 @@
 -- What is put out so far are the items seen so far.
-use Rattle.std.proofs.Common.{◌≡◌, ◌+◌, ◌*◌, ◌++◌, max, take, length}
+use Rattle.std.proofs.Common.{◌≡◌, ◌+◌, ◌*◌, ◌++◌, max, take}
 use Rattle.stream_prefix.specs.declared.prefix.Prefix.{size-Prefix}
 use Rattle.stream_prefix.specs.declared.prefix.StarEnd.{size-StarEnd}
 use Rattle.stream_prefix.specs.Tree.{prefix_of}

@@ -1,5 +1,5 @@
 -- What is put out so far are the items seen so far.
-use Rattle.std.proofs.Common.{◌≡◌, ◌+◌, ◌*◌, ◌++◌, max, take, length}
+use Rattle.std.proofs.Common.{◌≡◌, ◌+◌, ◌*◌, ◌++◌, take}
 use Rattle.hist_value.specs.declared.history.Value.{size-Value}
 use Rattle.hist_value.specs.HistValue.{hist_value_of}
 use Rattle.kept_state.specs.KeptBytes.{value_bytes}

@@ -1,5 +1,5 @@
 -- What is put out so far are the items seen so far.
-use Rattle.std.proofs.Common.{◌≡◌, ◌+◌, ◌*◌, ◌++◌, max, take, length}
+use Rattle.std.proofs.Common.{◌≡◌, ◌++◌, take}
 use Rattle.hist_value.specs.HistExpr.{expr_of}
 use Rattle.kept_state.specs.KeptBytes.{expr_bytes}
 use Rattle.delta_keep.proofs.Lists.{items_bytes}

@@ -1,5 +1,5 @@
 -- What is put out so far are the items seen so far.
-use Rattle.std.proofs.Common.{◌≡◌, ◌+◌, ◌*◌, ◌++◌, max, take, length}
+use Rattle.std.proofs.Common.{◌≡◌, ◌++◌, take}
 use Rattle.kept_state.specs.KeptBytes.{bool_bytes}
 use Rattle.delta_keep.proofs.Lists.{items_bytes}
 use Rattle.delta_keep.proofs.put_parts.put_marks.Given as goal

@@ -1,5 +1,5 @@
 -- What is put out so far are the items seen so far.
-use Rattle.std.proofs.Common.{◌≡◌, ◌+◌, ◌*◌, ◌++◌, max, take, length}
+use Rattle.std.proofs.Common.{◌≡◌, ◌++◌, take}
 use Rattle.kept_state.specs.KeptBytes.{known_bytes}
 use Rattle.delta_keep.specs.KeptView.{known_of}
 use Rattle.delta_keep.proofs.Lists.{items_bytes}

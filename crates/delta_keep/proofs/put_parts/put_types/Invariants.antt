@@ -1,5 +1,5 @@
 -- What is put out so far are the items seen so far.
-use Rattle.std.proofs.Common.{◌≡◌, ◌+◌, ◌*◌, ◌++◌, max, take, length}
+use Rattle.std.proofs.Common.{◌≡◌, ◌++◌, take}
 use Rattle.stream_type.specs.StreamType.{type_of}
 use Rattle.kept_state.specs.KeptBytes.{type_bytes}
 use Rattle.delta_keep.proofs.Lists.{items_bytes}

@@ -1,5 +1,5 @@
 -- What is put out so far are the items seen so far.
-use Rattle.std.proofs.Common.{◌≡◌, ◌+◌, ◌*◌, ◌++◌, max, take, length}
+use Rattle.std.proofs.Common.{◌≡◌, ◌+◌, ◌*◌, ◌++◌, take}
 use Rattle.delta_keep.specs.declared.kept.KeptState.{size-KeptState}
 use Rattle.delta_keep.specs.declared.kept.Argument.{size-Argument}
 use Rattle.delta_keep.specs.Written.{written_argument}

@@ -1,5 +1,5 @@
 -- What is put out so far are the items seen so far.
-use Rattle.std.proofs.Common.{◌≡◌, ◌+◌, ◌*◌, ◌++◌, max, take, length}
+use Rattle.std.proofs.Common.{◌≡◌, ◌+◌, ◌*◌, ◌++◌, max, take}
 use Rattle.core_term.specs.declared.term.Node.{size-Node}
 use Rattle.core_term.specs.declared.term.Term.{size-Term}
 use Rattle.delta_keep.specs.Written.{written_node}

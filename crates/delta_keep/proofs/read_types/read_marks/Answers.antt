@@ -1,0 +1,28 @@
+use Rattle.std.proofs.Common.{◌<◌, ◌≤◌, ◌^◌, refl, arith}
+use Rattle.std.proofs.lemmas.Result.{err_from_is_err_and}
+use Rattle.kept_state.specs.KeptBytes.{bool_bytes}
+use Rattle.kept_state.specs.KeptForm.{bool_item}
+use Rattle.delta_keep.proofs.ReadLists.{read_one_more, list_walked, list_halts}
+use Rattle.delta_keep.proofs.read_types.read_marks.Goals as goal
+
+-- with the next item,
+pub items-preserved : goal.items-preserved
+items-preserved c =
+    let lt : c.items.counter < c.in_ok-count.count = omega arith in
+    read_one_more bool_item bool_bytes (λ b. b) c.in_ok-count.count c.in_ok-count.rest.now c.items.counter c.items.items.items c.push.new.self.items c.in_ok-mark.mark c.in_ok-mark.mark c.items.rest.now c.in_ok-mark.behind.now c.items.invariant lt c.in_ok-push.ensures.items refl
+    c.in_ok-mark.ensures.spelled c.in_ok-mark.ensures.shorter c.in_ok-mark.ensures.walked
+
+-- where it isn't read,
+pub returns-in_err-mark-clause-walked : goal.returns-in_err-mark-clause-walked
+returns-in_err-mark-clause-walked c =
+    let lt : c.items.counter < c.in_ok-count.count = omega arith in
+    let small : c.in_ok-count.count < 2 ^ 32 = omega arith in
+    let exit = err_from_is_err_and c.from_residual-in_err-mark.result c.from_residual-in_err-mark.ensures.1 in
+    rw (exit.1, exit.2) (list_halts bool_item bool_bytes (λ b. b) c.in_ok-count.count c.args.bytes.now c.in_ok-count.rest.now c.items.counter c.items.items.items c.items.rest.now c.in_err-mark.field-0.0 small c.in_ok-count.ensures.spelled c.items.invariant lt c.in_err-mark.ensures.walked)
+
+-- and when all are
+pub returns-clause-walked : goal.returns-clause-walked
+returns-clause-walked c =
+    let le : c.in_ok-count.count ≤ c.items.counter = omega arith in
+    let small : c.in_ok-count.count < 2 ^ 32 = omega arith in
+    list_walked bool_item bool_bytes (λ b. b) c.in_ok-count.count c.args.bytes.now c.in_ok-count.rest.now c.items.counter c.items.items.items c.items.rest.now small c.in_ok-count.ensures.spelled c.items.invariant le

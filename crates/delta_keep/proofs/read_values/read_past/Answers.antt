@@ -1,0 +1,29 @@
+use Rattle.std.proofs.Common.{◌<◌, ◌≤◌, ◌^◌, refl, arith}
+use Rattle.std.proofs.lemmas.Result.{err_from_is_err_and}
+use Rattle.delta_keep.specs.KeptView.{known_of}
+use Rattle.kept_state.specs.KeptBytes.{known_bytes}
+use Rattle.kept_state.specs.KeptForm.{known_item}
+use Rattle.delta_keep.proofs.ReadLists.{read_one_more, list_walked, list_halts}
+use Rattle.delta_keep.proofs.read_values.read_past.Goals as goal
+
+-- with the next item,
+pub items-preserved : goal.items-preserved
+items-preserved c =
+    let lt : c.items.counter < c.in_ok-count.count = omega arith in
+    read_one_more known_item known_bytes known_of c.in_ok-count.count c.in_ok-count.rest.now c.items.counter c.items.items.items c.push.new.self.items c.in_ok-known.known c.in_ok-known.known c.items.rest.now c.in_ok-known.behind.now c.items.invariant lt c.in_ok-push.ensures.items refl
+    c.in_ok-known.ensures.spelled c.in_ok-known.ensures.shorter c.in_ok-known.ensures.walked
+
+-- where it isn't read,
+pub returns-in_err-known-clause-walked : goal.returns-in_err-known-clause-walked
+returns-in_err-known-clause-walked c =
+    let lt : c.items.counter < c.in_ok-count.count = omega arith in
+    let small : c.in_ok-count.count < 2 ^ 32 = omega arith in
+    let exit = err_from_is_err_and c.from_residual-in_err-known.result c.from_residual-in_err-known.ensures.1 in
+    rw (exit.1, exit.2) (list_halts known_item known_bytes known_of c.in_ok-count.count c.args.bytes.now c.in_ok-count.rest.now c.items.counter c.items.items.items c.items.rest.now c.in_err-known.field-0.0 small c.in_ok-count.ensures.spelled c.items.invariant lt c.in_err-known.ensures.walked)
+
+-- and when all are
+pub returns-clause-walked : goal.returns-clause-walked
+returns-clause-walked c =
+    let le : c.in_ok-count.count ≤ c.items.counter = omega arith in
+    let small : c.in_ok-count.count < 2 ^ 32 = omega arith in
+    list_walked known_item known_bytes known_of c.in_ok-count.count c.args.bytes.now c.in_ok-count.rest.now c.items.counter c.items.items.items c.items.rest.now small c.in_ok-count.ensures.spelled c.items.invariant le

@@ -1,0 +1,98 @@
+//! A kept state read from bytes.
+
+ghost use Rattle.std.specs.Prelude.{◌≡◌, [], ◌∷◌, ◌++◌, Some, None, IfOk, IfSome, IfNone};
+ghost use Rattle.kept_state.specs.KeptBytes.{kept_bytes};
+ghost use Rattle.kept_state.specs.KeptForm.{exactly, kept_parts, fault_from, version_fault, form_fault, bad_version};
+ghost use Rattle.delta_keep.specs.KeptView.{kept_of, places_kept};
+ghost use Rattle.delta_keep.specs.Reading.{Ends, TellsFault};
+ghost use Rattle.delta_keep.specs.Walking.{walk, Walks};
+ghost use Rattle.delta_keep.specs.Written.{written_kept};
+
+use crate::fault::ReadFault;
+use crate::halt::Halt;
+use crate::kept::Kept;
+use crate::read_numbers::{read_exactly, read_long};
+use crate::read_states::read_state;
+use crate::read_types::{read_marks, read_type, read_types};
+use crate::saving::MOST_BYTES;
+use std::alloc::Global;
+
+/// The kept state with these bytes. They are refused where their form is wrong, and for that alone: nothing
+/// is asked of types.
+#[tactic(auto, using(crate::proofs::PlacedBytes::written_kept_is, crate::proofs::Faults::many_told, crate::proofs::Faults::version_told, crate::proofs::Faults::fault_told))]
+pub fn read_kept(alloc: Global, bytes: &[u8]) -> Result<Kept, ReadFault>
+    ensures bytes { IfOk result (λ k. bytes.now ≡ kept_bytes (kept_of k) (places_kept k)) }
+    ensures fault { TellsFault (form_fault bytes.now) result }
+{
+    if bytes.len() > MOST_BYTES {
+        return Err(ReadFault::Form(MOST_BYTES as u64));
+    }
+    if let Some(version) = other_version(bytes) {
+        return Err(ReadFault::Version(version));
+    }
+    match read_whole(alloc, bytes) {
+        Ok(k) => Ok(k),
+        Err(Halt::At(left)) => Err(ReadFault::Form((bytes.len() - left) as u64)),
+        Err(Halt::Memory) => Err(ReadFault::Memory),
+    }
+}
+
+// The version behind the right letters, where it isn't 1.
+fn other_version(bytes: &[u8]) -> Option<u8>
+    ensures none { IfNone result (version_fault bytes.now ≡ None) }
+    ensures some { IfSome result (λ n. version_fault bytes.now ≡ Some (bad_version n)) }
+{
+    match bytes {
+        [0x44, 0x53, 0x54, version, ..] if *version != 1 => Some(*version),
+        _ => None,
+    }
+}
+
+// The kept state that all of these bytes spell.
+#[tactic(auto, using(crate::proofs::Faults::ends_whole, crate::proofs::Faults::ends_behind, crate::proofs::Faults::ends_stopped))]
+fn read_whole(alloc: Global, bytes: &[u8]) -> Result<Kept, Halt>
+    ensures spelled { IfOk result (λ k. bytes.now ≡ written_kept k) }
+    ensures ended { Ends bytes.now result (fault_from kept_parts 0 bytes.now) }
+{
+    let (k, rest) = read_parts(alloc, bytes)?;
+    match rest.len() {
+        0 => Ok(k),
+        left => Err(Halt::At(left)),
+    }
+}
+
+// The letters and the version.
+#[tactic(auto, using(crate::proofs::Walks::head_walk))]
+fn read_head(bytes: &[u8]) -> Result<&[u8], Halt>
+    ensures spelled { IfOk result (λ rest. bytes.now ≡ 0x44 ∷ 0x53 ∷ 0x54 ∷ 0x01 ∷ rest.now) }
+    ensures walked { Walks (λ rest. rest.now) result (walk (exactly 0x44 ∷ exactly 0x53 ∷ exactly 0x54 ∷ exactly 0x01 ∷ []) bytes.now) }
+{
+    let rest = read_exactly(0x44, bytes)?;
+    let rest = read_exactly(0x53, rest)?;
+    let rest = read_exactly(0x54, rest)?;
+    read_exactly(0x01, rest)
+}
+
+// A kept state, and the bytes behind it.
+#[tactic(auto, using(crate::proofs::Joined::joined, crate::proofs::Walks::kept_walk))]
+fn read_parts<'a>(alloc: Global, bytes: &'a [u8]) -> Result<(Kept, &'a [u8]), Halt>
+    ensures spelled { IfOk result (λ x. bytes.now ≡ written_kept x.0 ++ x.1.now) }
+    ensures walked { Walks (λ x. x.1.now) result (walk kept_parts bytes.now) }
+{
+    let rest = read_head(bytes)?;
+    let (events, rest) = read_long(rest)?;
+    let (ins, rest) = read_types(alloc, rest)?;
+    let (cuts, rest) = read_marks(alloc, rest)?;
+    let (out, rest) = read_type(alloc, rest)?;
+    let (state, rest) = read_state(alloc, rest)?;
+    Ok((
+        Kept {
+            events,
+            ins,
+            cuts,
+            out,
+            state,
+        },
+        rest,
+    ))
+}
