@@ -91,8 +91,8 @@ fn fault(alloc: Global, bytes: &[u8]) -> Option<ReadFault> {
     comes_back(alloc, bytes).err()
 }
 
-// The first bytes of those of a name, with one of them set to a value.
-fn changed(length: usize, at: usize, value: u8) -> ([u8; 28], usize) {
+// The bytes of a name with one more behind them, of which one is set to a value.
+fn changed(at: usize, value: u8) -> [u8; 28] {
     let mut bytes = [0; 28];
     for (byte, one) in bytes.iter_mut().zip(ONE) {
         *byte = *one;
@@ -100,13 +100,13 @@ fn changed(length: usize, at: usize, value: u8) -> ([u8; 28], usize) {
     if at < bytes.len() {
         bytes[at] = value;
     }
-    (bytes, length.min(bytes.len()))
+    bytes
 }
 
-// What is wrong with these.
+// What is wrong with so many of these.
 fn fault_changed(alloc: Global, length: usize, at: usize, value: u8) -> Option<ReadFault> {
-    let (bytes, length) = changed(length, at, value);
-    fault(alloc, &bytes[..length])
+    let bytes = changed(at, value);
+    fault(alloc, &bytes[..length.min(28)])
 }
 
 #[test]
