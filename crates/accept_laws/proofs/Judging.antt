@@ -24,9 +24,9 @@ use Rattle.accept_laws.proofs.NameCounts.{program_names, function_count}
 use Rattle.delta_meaning.proofs.Counts.{each_node_has_place}
 use Rattle.delta_end.specs.declared.refusal.Refusal.{Refusal}
 use Rattle.delta_end.specs.declared.refusal.RefusalName.TheVariants.{WideOutput}
-use Rattle.delta_front.specs.ProgramText.{IsTextOf, IsRefusedFor}
-use Rattle.delta_accept.specs.Naming.{refusal, refusal_of, name_of_rule}
-use Rattle.delta_accept.specs.Acceptance.{IsAcceptedAs, IsRefusedAs, IsWritable, IsRefusedToWrite}
+use Rattle.program_text.specs.ProgramText.{IsTextOf, IsRefusedFor}
+use Rattle.checked_program.specs.Naming.{refusal, refusal_of, name_of_rule}
+use Rattle.checked_program.specs.Acceptance.{IsAcceptedAs, IsRefusedAs, IsWritable, IsRefusedToWrite}
 use Rattle.text_laws.proofs.Judging.{texts_are_judged as text_judged}
 use Rattle.accept_laws.specs.Laws.{TextsAreJudged, WritingsAreJudged, CoresAreSmall, NamesAreFew, ElaboratedIsCore, AcceptedIsTyped}
 use Rattle.accept_laws.proofs.NodeNumbers.{nodes, nodes_of_declarations, counted_program}

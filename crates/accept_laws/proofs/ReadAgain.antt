@@ -6,7 +6,7 @@ use Rattle.delta_tree.specs.SyntaxTree.{ProgramTree}
 use Rattle.delta_print.specs.Canonical.{canonical_text}
 use Rattle.delta_print.specs.ReadingBack.{IsReadAs}
 use Rattle.delta_print.proofs.ParsedTrees.{parsed_is_read}
-use Rattle.delta_front.specs.ProgramText.{IsTextOf}
+use Rattle.program_text.specs.ProgramText.{IsTextOf}
 use Rattle.text_laws.proofs.NamesOfTrees.{trees_are_named}
 use Rattle.accept_laws.specs.Laws.{CanonicalIsNamed, CanonicalIsAccepted}
 use Rattle.accept_laws.proofs.KeptNames.{IsNamedTree, names_are_kept}

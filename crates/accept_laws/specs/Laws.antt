@@ -9,8 +9,8 @@ use Rattle.delta_print.specs.Canonical.{canonical_text}
 use Rattle.delta_meaning.specs.Elaborated.{elaborate}
 use Rattle.delta_elab.specs.Accepted.{IsAccepted}
 use Rattle.delta_end.specs.declared.refusal.Refusal.{Refusal}
-use Rattle.delta_front.specs.ProgramText.{IsTextOf}
-use Rattle.delta_accept.specs.Acceptance.{IsAcceptedAs, IsRefusedAs, IsWritable, IsRefusedToWrite}
+use Rattle.program_text.specs.ProgramText.{IsTextOf}
+use Rattle.checked_program.specs.Acceptance.{IsAcceptedAs, IsRefusedAs, IsWritable, IsRefusedToWrite}
 use Rattle.accept_laws.specs.ReadAgain.{IsReadWell}
 
 -- each text is accepted as a program with its core, or is refused for something at some place

@@ -5,8 +5,8 @@ use Rattle.delta_tree.specs.SyntaxTree.{ProgramTree}
 use Rattle.delta_meaning.specs.NodePlaces.{program_places}
 use Rattle.delta_end.specs.declared.objection.BoundName.{BoundName}
 use Rattle.delta_end.specs.declared.objection.BoundName.TheVariants.{Unbounded, Cycle, Large}
-use Rattle.delta_accept.specs.Acceptance.{IsAcceptedAs}
-use Rattle.delta_accept.proofs.OneAnswer.{accepted_is_one}
+use Rattle.checked_program.specs.Acceptance.{IsAcceptedAs}
+use Rattle.checked_program.proofs.OneAnswer.{accepted_is_one}
 use Rattle.command_bound.specs.Bounding.{IsBound, HasNoBound, IsBounded, IsUnbounded}
 
 -- nothing isn't something

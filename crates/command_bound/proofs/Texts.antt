@@ -8,7 +8,7 @@ use Rattle.state_bounds.specs.ProgramBound.{first_cycle}
 use Rattle.delta_tree.specs.SyntaxTree.{ProgramTree}
 use Rattle.delta_meaning.specs.NodePlaces.{program_places}
 use Rattle.delta_end.specs.declared.objection.BoundName.TheVariants as name
-use Rattle.delta_accept.specs.Acceptance.{IsAcceptedAs}
+use Rattle.checked_program.specs.Acceptance.{IsAcceptedAs}
 use Rattle.delta_bound.specs.declared.refusal.BoundRefusal.TheVariants.{Unbounded, Cycle, Large}
 use Rattle.delta_bound.specs.Refusals.{HasBound, Refuses}
 use Rattle.delta_bound.specs.Unsized.{program_unsized}

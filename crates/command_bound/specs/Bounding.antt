@@ -10,7 +10,7 @@ use Rattle.delta_end.specs.declared.objection.BoundName.TheVariants.{Unbounded, 
 use Rattle.delta_end.specs.declared.objection.Objection.TheVariants.{Derivation, Bound}
 use Rattle.delta_end.specs.declared.end.End.{End}
 use Rattle.delta_end.specs.declared.end.End.TheVariants.{Done, Usage, Refused, Input, Budget, Deep, Open, FileFailed, ReadFailed, WriteFailed, Memory, Long, Objected}
-use Rattle.delta_accept.specs.Acceptance.{IsAcceptedAs, IsRefusedAs}
+use Rattle.checked_program.specs.Acceptance.{IsAcceptedAs, IsRefusedAs}
 use Rattle.delta_loop.specs.Return.{Begins}
 use Rattle.command_bound.specs.Unsized.{core_unsized, bodies_at}
 

@@ -7,18 +7,18 @@ ghost use Rattle.delta_tree.specs.SyntaxTree.{ProgramTree};
 ghost use Rattle.delta_meaning.specs.NodePlaces.{program_places};
 ghost use Rattle.delta_end.specs.declared.end.End.{End};
 ghost use Rattle.delta_end.specs.End.{WriteCause};
-ghost use Rattle.delta_accept.specs.Acceptance.{IsAcceptedAs};
+ghost use Rattle.checked_program.specs.Acceptance.{IsAcceptedAs};
 ghost use Rattle.delta_bound.specs.Refusals.{Refuses};
 ghost use Rattle.delta_loop.specs.History.{Writes};
 ghost use Rattle.command_bound.specs.Bounding.{line_of, Tells, TellsAll};
 
+use checked_program::accept;
 use core_term::Checked;
-use delta_accept::accept;
 use delta_bound::{BoundRefusal, bound};
 use delta_end::{BoundName, End, Objection};
-use delta_front::TextFault;
 use delta_loop::send;
 use port::{IoFault, Link};
+use program_text::TextFault;
 use std::alloc::Global;
 
 // The line that tells this bound.

@@ -7,7 +7,7 @@ use Rattle.delta_end.specs.declared.objection.DerivationName.TheVariants as name
 use Rattle.delta_end.specs.declared.objection.Objection.TheVariants.{Derivation}
 use Rattle.delta_end.specs.declared.end.End.{End}
 use Rattle.delta_end.specs.declared.end.End.TheVariants.{Done, Refused, Memory, Objected}
-use Rattle.delta_accept.specs.Acceptance.{IsElaboratedAs, IsUnelaborated}
+use Rattle.checked_program.specs.Acceptance.{IsElaboratedAs, IsUnelaborated}
 use Rattle.delta_derive.specs.declared.fault.DeriveFault.TheVariants as fault
 use Rattle.delta_derive.specs.FirstFault.{first_fault, IsValidText}
 

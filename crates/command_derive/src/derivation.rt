@@ -3,19 +3,19 @@
 ghost use Rattle.std.specs.Prelude.{◌≡◌, ◌≤◌, List, ℕ, length, IfOk, IfErr};
 ghost use Rattle.core_term.specs.CoreTerm.{CoreProgram, core_of};
 ghost use Rattle.core_term.specs.FreeNames.{IsCore};
-ghost use Rattle.delta_accept.specs.Acceptance.{IsElaboratedAs};
+ghost use Rattle.checked_program.specs.Acceptance.{IsElaboratedAs};
 ghost use Rattle.delta_derive.specs.FirstFault.{first_fault, IsValidText, TellsFirst, Denies};
 ghost use Rattle.command_derive.specs.Deriving.{longest, Derives, Refutes};
 
+use checked_program::elaborate_text;
 use core_term::Core;
-use delta_accept::elaborate_text;
 use delta_derive::{DeriveFault, derive};
 use delta_end::{DerivationName, End, Objection};
-use delta_front::TextFault;
+use program_text::TextFault;
 use std::alloc::Global;
 
 /// The core of the program that a text is, of which a derivation is to be checked; it isn't asked whether it is
-/// typed. Or how the command ends, whatever the derivation is. `IsElaboratedAs` of delta_accept says which text
+/// typed. Or how the command ends, whatever the derivation is. `IsElaboratedAs` of checked_program says which text
 /// has which core.
 pub fn core_of_text(alloc: Global, text: &[u8]) -> Result<Core, End>
     ensures elaborated { IfOk result (λ c. IsElaboratedAs text.now (core_of c)) }

@@ -11,7 +11,7 @@ use Rattle.delta_end.specs.declared.end.End.TheVariants.{Done, Usage, Refused, I
 use Rattle.delta_end.specs.End.{FileCause, WriteCause}
 use Rattle.delta_end.specs.Status.{AnswerOf, IsStill}
 use Rattle.delta_end.proofs.Statuses.{not_rose, answered, answered_eight, with_status}
-use Rattle.delta_accept.proofs.OneAnswer.{accepted_is_not_refused}
+use Rattle.checked_program.proofs.OneAnswer.{accepted_is_not_refused}
 use Rattle.delta_loop.specs.Answer.{Adds}
 use Rattle.delta_loop.proofs.Returning.{adds_none}
 use Rattle.command_bound.specs.Bounding.{IsBounded, line_of, Tells}

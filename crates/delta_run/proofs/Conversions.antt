@@ -12,8 +12,8 @@ use Rattle.delta_end.specs.Status.{AnswerOf, IsStill}
 use Rattle.delta_end.proofs.Statuses.{not_rose, answered, answered_eight, with_status}
 use Rattle.delta_loop.specs.Prompt.{has_ended}
 use Rattle.delta_loop.specs.Answer.{Adds, ReadsWell}
-use Rattle.delta_text.specs.Conversion.{Conversion, frames_of_lines, all_due, MayEnd, Ran}
-use Rattle.delta_text.proofs.Refusals.{no_bad_front}
+use Rattle.command_text.specs.Conversion.{Conversion, frames_of_lines, all_due, MayEnd, Ran}
+use Rattle.command_text.proofs.Refusals.{no_bad_front}
 use Rattle.delta_loop.proofs.Returning.{adds_none, reads_well, unread}
 use Rattle.delta_loop.proofs.Opening.{prompt_none}
 use Rattle.delta_loop.specs.History.{IsUntouched}

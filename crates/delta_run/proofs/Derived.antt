@@ -9,8 +9,8 @@ use Rattle.delta_end.specs.declared.end.End.TheVariants.{Done, Usage, Refused, I
 use Rattle.delta_end.specs.End.{FileCause, ReadCause, WriteCause}
 use Rattle.delta_end.specs.Status.{AnswerOf, IsStill}
 use Rattle.delta_end.proofs.Statuses.{not_rose, answered, answered_eight}
-use Rattle.delta_accept.specs.Acceptance.{IsElaboratedAs}
-use Rattle.delta_accept.proofs.OneAnswer.{core_is_judged}
+use Rattle.checked_program.specs.Acceptance.{IsElaboratedAs}
+use Rattle.checked_program.proofs.OneAnswer.{core_is_judged}
 use Rattle.command_derive.specs.Deriving.{IsDerivation, Derives}
 use Rattle.delta_run.specs.Derived.{DerivesText, PassesDerived, RefusesUnderived, RefusesUnelaborated}
 

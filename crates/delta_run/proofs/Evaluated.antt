@@ -14,15 +14,15 @@ use Rattle.delta_end.specs.declared.end.End.TheVariants.{Done, Usage, Refused, I
 use Rattle.delta_end.specs.End.{FileCause, ReadCause, WriteCause}
 use Rattle.delta_end.specs.Status.{AnswerOf, IsStill}
 use Rattle.delta_end.proofs.Statuses.{not_rose, answered, answered_eight, with_status}
-use Rattle.delta_accept.specs.Acceptance.{IsWritable}
-use Rattle.delta_accept.proofs.OneAnswer.{accepted_is_one, writing_is_judged}
+use Rattle.checked_program.specs.Acceptance.{IsWritable}
+use Rattle.checked_program.proofs.OneAnswer.{accepted_is_one, writing_is_judged}
 use Rattle.delta_loop.specs.Answer.{Adds, IsGood, ReadsWell}
 use Rattle.delta_loop.specs.Finding.{finding}
 use Rattle.delta_loop.specs.Prompt.{has_ended}
 use Rattle.delta_loop.proofs.Completeness.{whole_good, part_good}
 use Rattle.delta_loop.proofs.Returning.{adds_none, reads_well, unread}
-use Rattle.delta_eval.specs.Gathering.{gathering}
-use Rattle.delta_eval.specs.Evaluating.{input_of, calls_on, evaluation, MayEnd, Evaluates, EvaluatesIts, EvaluatesText}
+use Rattle.command_eval.specs.Gathering.{gathering}
+use Rattle.command_eval.specs.Evaluating.{input_of, calls_on, evaluation, MayEnd, Evaluates, EvaluatesIts, EvaluatesText}
 use Rattle.delta_run.specs.Evaluated.{EvaluatedText, EvaluatesMoves, EvalsText, RefusesUnwritable}
 
 module _ (text : List ℕ) (budget : ℕ) (v : Version) (old new : Option (List Move)) (left0 left1 : Option (List ℕ)) where

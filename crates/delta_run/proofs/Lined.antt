@@ -16,8 +16,8 @@ use Rattle.delta_loop.proofs.Returning.{adds_none, ran_may_end, reads_well, unre
 use Rattle.delta_loop.proofs.Opening.{prompt_none}
 use Rattle.delta_loop.proofs.Completeness.{EndsWell, is_done, is_open, is_wanting, good_end}
 use Rattle.delta_loop.proofs.Unstopped.{none_is_cheap}
-use Rattle.delta_text.specs.Lines.{lines_of_frames}
-use Rattle.delta_text.proofs.Lined.{output_is_lines}
+use Rattle.command_text.specs.Lines.{lines_of_frames}
+use Rattle.command_text.proofs.Lined.{output_is_lines}
 use Rattle.delta_loop.specs.History.{IsUntouched}
 use Rattle.delta_run.specs.Lined.{MakesLines, WroteLines, IsLined}
 

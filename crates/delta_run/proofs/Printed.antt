@@ -10,15 +10,15 @@ use Rattle.delta_end.specs.declared.end.End.TheVariants.{Done, Usage, Refused, I
 use Rattle.delta_end.specs.End.{FileCause, WriteCause}
 use Rattle.delta_end.specs.Status.{AnswerOf, IsStill}
 use Rattle.delta_end.proofs.Statuses.{not_rose, answered, answered_eight, with_status}
-use Rattle.delta_front.specs.ProgramText.{IsTextOf}
-use Rattle.delta_front.proofs.OneAnswer.{program_is_one, programs_are_not_refused}
+use Rattle.program_text.specs.ProgramText.{IsTextOf}
+use Rattle.program_text.proofs.OneAnswer.{program_is_one, programs_are_not_refused}
 use Rattle.delta_loop.specs.Answer.{Adds, ReadsWell}
 use Rattle.delta_loop.specs.History.{Writes}
 use Rattle.delta_loop.proofs.Opening.{fresh}
 use Rattle.delta_loop.proofs.Limits.{within_limit}
 use Rattle.delta_loop.proofs.Returning.{adds_none, reads_well}
 use Rattle.delta_print.specs.Canonical.{canonical_text}
-use Rattle.delta_source.specs.Printing.{Prints}
+use Rattle.command_print.specs.Printing.{Prints}
 use Rattle.delta_run.specs.Printed.{PrintedText, WritesText, PrintsText, PrintsWell, RefusesWell}
 
 -- what is only written reads nothing

@@ -7,12 +7,12 @@ use Rattle.delta_end.specs.declared.end.End.{End}
 use Rattle.delta_end.specs.declared.end.End.TheVariants.{Done, Usage, Refused, Input, Budget, Deep, Open, FileFailed, ReadFailed, WriteFailed, Memory, Long, Objected}
 use Rattle.delta_end.specs.End.{status_of}
 use Rattle.delta_end.specs.Status.{IsStatus}
-use Rattle.delta_accept.proofs.OneAnswer.{accepted_is_one}
+use Rattle.checked_program.proofs.OneAnswer.{accepted_is_one}
 use Rattle.delta_loop.specs.Meaning.{Meaning}
 use Rattle.delta_loop.specs.Loop.{Ran}
 use Rattle.delta_output.specs.OneShot.{meaning_of}
-use Rattle.delta_spoken.specs.TreeOneShot.{one_shot_of}
-use Rattle.delta_stream.specs.Running.{RanIts}
+use Rattle.output_laws.specs.TreeOneShot.{one_shot_of}
+use Rattle.command_run.specs.Running.{RanIts}
 use Rattle.delta_run.specs.Text.{RanText}
 use Rattle.delta_run.specs.Settled.{IsOverInput, SettlesWell}
 use Rattle.delta_run.proofs.Settling.{none_other, run_settles, over_by_end, any_budget}

@@ -11,16 +11,16 @@ use Rattle.delta_end.specs.declared.end.End.TheVariants.{Done, Usage, Refused, I
 use Rattle.delta_end.specs.End.{FileCause, ReadCause, WriteCause, IsOfLoop, status_of, status_without_note}
 use Rattle.delta_end.specs.Status.{AnswerOf, IsStatus, IsStill}
 use Rattle.delta_end.proofs.Statuses.{not_rose, answered, answered_eight, usage_is_two}
-use Rattle.delta_accept.specs.Acceptance.{IsWritable}
-use Rattle.delta_accept.proofs.OneAnswer.{accepted_is_one, writing_is_judged}
+use Rattle.checked_program.specs.Acceptance.{IsWritable}
+use Rattle.checked_program.proofs.OneAnswer.{accepted_is_one, writing_is_judged}
 use Rattle.delta_loop.specs.Meaning.{Meaning}
 use Rattle.delta_loop.specs.Loop.{Ran}
 use Rattle.delta_loop.specs.Answer.{Adds, ReadsWell}
 use Rattle.delta_loop.proofs.Returning.{adds_none, ran_prompt, ran_reads, returned, unread}
 use Rattle.delta_loop.proofs.Completeness.{good_end, good_status}
 use Rattle.delta_output.specs.OneShot.{meaning_of}
-use Rattle.delta_spoken.specs.TreeOneShot.{one_shot_of}
-use Rattle.delta_stream.specs.Running.{RanIts, RunsText}
+use Rattle.output_laws.specs.TreeOneShot.{one_shot_of}
+use Rattle.command_run.specs.Running.{RanIts, RunsText}
 use Rattle.delta_run.specs.Text.{RanText, RunsPromptly, RunsIts, RunsMoves, RunsWell}
 use Rattle.delta_run.specs.Evaluated.{RefusesUnwritable}
 

@@ -7,7 +7,7 @@ use Rattle.core_term.specs.CoreTerm.{CoreProgram}
 use Rattle.delta_end.specs.declared.end.End.{End}
 use Rattle.delta_end.specs.declared.end.End.TheVariants.{FileFailed}
 use Rattle.delta_end.specs.declared.objection.BoundName.{BoundName}
-use Rattle.delta_accept.specs.Acceptance.{IsAcceptedAs}
+use Rattle.checked_program.specs.Acceptance.{IsAcceptedAs}
 use Rattle.delta_loop.specs.Answer.{Adds}
 use Rattle.delta_loop.specs.History.{Writes}
 use Rattle.command_bound.specs.Bounding.{IsBounded, IsUnbounded, line_of, Tells}

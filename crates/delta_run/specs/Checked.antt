@@ -5,8 +5,8 @@ use Rattle.core_term.specs.CoreTerm.{CoreProgram}
 use Rattle.delta_end.specs.declared.end.End.{End}
 use Rattle.delta_end.specs.declared.end.End.TheVariants.{FileFailed}
 use Rattle.delta_end.specs.declared.refusal.Refusal.{Refusal}
-use Rattle.delta_accept.specs.Acceptance.{IsAcceptedAs, IsRefusedAs}
-use Rattle.delta_source.specs.Checking.{Checks}
+use Rattle.checked_program.specs.Acceptance.{IsAcceptedAs, IsRefusedAs}
+use Rattle.command_check.specs.Checking.{Checks}
 
 -- where the file has this text; nothing is said where the file failed
 abbrev pub ChecksText : List ℕ → End → Type 0

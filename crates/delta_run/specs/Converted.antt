@@ -5,7 +5,7 @@ use Rattle.port.specs.Moves.{bytes_read, bytes_written}
 use Rattle.delta_end.specs.declared.end.End.{End}
 use Rattle.delta_loop.specs.Prompt.{IsPrompt, has_ended}
 use Rattle.delta_loop.specs.Answer.{ReadsWell}
-use Rattle.delta_text.specs.Conversion.{Conversion, MayEnd}
+use Rattle.command_text.specs.Conversion.{Conversion, MayEnd}
 
 -- before each read all that was due was written, nothing was read after the input's end, no more was read than may be, and the moves end so
 pub record Converts (C : Conversion) (end : End) (moves : List Move) : Type 0 where

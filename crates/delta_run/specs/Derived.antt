@@ -4,7 +4,7 @@ use Rattle.delta_end.specs.declared.end.End.{End}
 use Rattle.delta_end.specs.declared.end.End.TheVariants.{FileFailed}
 use Rattle.delta_end.specs.declared.objection.DerivationName.{DerivationName}
 use Rattle.delta_end.specs.declared.refusal.Refusal.{Refusal}
-use Rattle.delta_accept.specs.Acceptance.{IsUnelaborated}
+use Rattle.checked_program.specs.Acceptance.{IsUnelaborated}
 use Rattle.command_derive.specs.Deriving.{IsDerived, IsUnderived, Derives}
 
 -- where the files have these texts; nothing is said where one of them failed

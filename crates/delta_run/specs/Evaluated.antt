@@ -11,9 +11,9 @@ use Rattle.delta_end.specs.declared.end.End.TheVariants.{Refused, FileFailed, Me
 use Rattle.delta_end.specs.declared.refusal.Refusal.{Refusal}
 use Rattle.delta_loop.specs.Answer.{Adds, IsGood}
 use Rattle.delta_loop.specs.Prompt.{IsPrompt, has_ended}
-use Rattle.delta_accept.specs.Acceptance.{IsWritable, IsRefusedToWrite}
-use Rattle.delta_eval.specs.Gathering.{gathering}
-use Rattle.delta_eval.specs.Evaluating.{input_of, calls_on, evaluation, MayEnd, EvaluatesText}
+use Rattle.checked_program.specs.Acceptance.{IsWritable, IsRefusedToWrite}
+use Rattle.command_eval.specs.Gathering.{gathering}
+use Rattle.command_eval.specs.Evaluating.{input_of, calls_on, evaluation, MayEnd, EvaluatesText}
 use Rattle.delta_loop.specs.History.{IsUntouched}
 
 -- to the log, where the file has this text

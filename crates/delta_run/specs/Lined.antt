@@ -9,7 +9,7 @@ use Rattle.delta_loop.specs.Output.{due}
 use Rattle.delta_loop.specs.Prompt.{IsPrompt, has_ended}
 use Rattle.delta_loop.specs.Return.{MayEnd}
 use Rattle.delta_loop.specs.Answer.{Adds, IsGood, ReadsWell}
-use Rattle.delta_text.specs.Lines.{lines, lines_of_frames}
+use Rattle.command_text.specs.Lines.{lines, lines_of_frames}
 
 -- before each read the lines of all whole frames were written, nothing was read after the input's end, no more was read than may be, and the moves end so
 pub record MakesLines (end : End) (moves : List Move) : Type 0 where

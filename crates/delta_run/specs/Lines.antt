@@ -5,7 +5,7 @@ use Rattle.event_frame.specs.declared.version.Version.{Version}
 use Rattle.delta_end.specs.declared.end.End.{End}
 use Rattle.delta_end.specs.Status.{IsStill}
 use Rattle.delta_loop.specs.Answer.{Adds}
-use Rattle.delta_text.specs.Conversion.{frames_of_lines, all_due}
+use Rattle.command_text.specs.Conversion.{frames_of_lines, all_due}
 use Rattle.delta_run.specs.Outside.{Outside}
 use Rattle.delta_run.specs.Converted.{Converts}
 use Rattle.delta_run.specs.Lined.{MakesLines, IsLined}

@@ -6,12 +6,12 @@ use Rattle.delta_tree.specs.SyntaxTree.{ProgramTree}
 use Rattle.delta_end.specs.declared.end.End.{End}
 use Rattle.delta_end.specs.declared.end.End.TheVariants.{FileFailed}
 use Rattle.delta_end.specs.declared.refusal.Refusal.{Refusal}
-use Rattle.delta_front.specs.ProgramText.{IsTextOf, IsRefusedFor}
+use Rattle.program_text.specs.ProgramText.{IsTextOf, IsRefusedFor}
 use Rattle.delta_loop.specs.Answer.{Adds}
 use Rattle.delta_loop.specs.History.{Writes}
 use Rattle.delta_loop.specs.Prompt.{has_ended}
 use Rattle.delta_print.specs.Canonical.{canonical_text}
-use Rattle.delta_source.specs.Printing.{Prints}
+use Rattle.command_print.specs.Printing.{Prints}
 
 -- to the log, where the file has this text
 abbrev pub PrintedText : List ℕ → Option (List Move) → Option (List Move) → End → Type 0

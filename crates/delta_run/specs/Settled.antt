@@ -7,13 +7,13 @@ use Rattle.event_frame.specs.Reading.{whole}
 use Rattle.delta_tree.specs.SyntaxTree.{ProgramTree}
 use Rattle.core_term.specs.CoreTerm.{CoreProgram}
 use Rattle.delta_end.specs.declared.end.InputFault.{InputFault}
-use Rattle.delta_accept.specs.Acceptance.{IsWritable}
+use Rattle.checked_program.specs.Acceptance.{IsWritable}
 use Rattle.delta_loop.specs.Meaning.{Meaning}
 use Rattle.delta_loop.specs.Finding.{finding}
 use Rattle.delta_loop.specs.Output.{accepted, due}
 use Rattle.delta_loop.specs.Answer.{Adds}
 use Rattle.delta_output.specs.OneShot.{meaning_of}
-use Rattle.delta_spoken.specs.TreeOneShot.{one_shot_of}
+use Rattle.output_laws.specs.TreeOneShot.{one_shot_of}
 
 -- the input was refused, or it ended where it may end, or where more is awaited, or it is too long
 abbrev pub IsOverInput : ℕ → Type 0

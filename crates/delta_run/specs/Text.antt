@@ -6,15 +6,15 @@ use Rattle.delta_tree.specs.SyntaxTree.{ProgramTree}
 use Rattle.core_term.specs.CoreTerm.{CoreProgram}
 use Rattle.delta_end.specs.declared.end.End.{End}
 use Rattle.delta_end.specs.declared.end.End.TheVariants.{Usage, Refused, FileFailed, Memory, Objected}
-use Rattle.delta_accept.specs.Acceptance.{IsWritable, IsRefusedToWrite}
+use Rattle.checked_program.specs.Acceptance.{IsWritable, IsRefusedToWrite}
 use Rattle.delta_loop.specs.Meaning.{Meaning}
 use Rattle.delta_loop.specs.History.{IsUntouched}
 use Rattle.delta_loop.specs.Output.{due}
 use Rattle.delta_loop.specs.Prompt.{IsPrompt}
 use Rattle.delta_loop.specs.Answer.{AtReturn, IsComplete}
 use Rattle.delta_output.specs.OneShot.{meaning_of}
-use Rattle.delta_spoken.specs.TreeOneShot.{one_shot_of}
-use Rattle.delta_stream.specs.Running.{IsMeant, RunsText}
+use Rattle.output_laws.specs.TreeOneShot.{one_shot_of}
+use Rattle.command_run.specs.Running.{IsMeant, RunsText}
 
 -- where the shelf tells, this holds of the text in the named file: of its first 1,048,577 bytes, more than a text may have
 abbrev pub OfFile : Option (List ℕ → List ℕ) → List ℕ → (List ℕ → Type 0) → Type 0

@@ -13,7 +13,7 @@ use Rattle.delta_parse.specs.Programs.{IsProgram, IsTreeOf}
 use Rattle.delta_parse.specs.Marks.{marks_before, IsShallow}
 use Rattle.delta_parse.specs.Bindings.{is_twice, is_many, AreNamed}
 use Rattle.delta_parse.proofs.Samples.{delta_checked}
-use Rattle.delta_front.specs.ProgramText.{IsTextOf}
+use Rattle.program_text.specs.ProgramText.{IsTextOf}
 use Rattle.load_program.specs.LoadText.{load_text, load_tree, over_written}
 use Rattle.load_program.proofs.Tokens.{load_tokens, load_plain, tokens_read, plain_is}
 use Rattle.load_program.proofs.Trees.{main_found, tree_read}

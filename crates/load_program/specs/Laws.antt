@@ -7,7 +7,7 @@ use Rattle.delta_state.specs.MachineView.{input_of}
 use Rattle.delta_state.specs.Stands.{input_type}
 use Rattle.delta_output.specs.Spoken.{spoken}
 use Rattle.delta_runner.specs.CoreOneShot.{one_shot}
-use Rattle.delta_accept.specs.Acceptance.{IsAcceptedAs}
+use Rattle.checked_program.specs.Acceptance.{IsAcceptedAs}
 use Rattle.delta_feed.specs.Load.{load_type, load}
 use Rattle.load_program.specs.LoadText.{load_text, load_tree}
 use Rattle.load_program.specs.LoadCore.{load_core}

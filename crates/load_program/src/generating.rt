@@ -9,11 +9,11 @@ ghost use Rattle.delta_load.specs.Counting.{totals_of};
 ghost use Rattle.delta_load.specs.Summary.{summary_of};
 ghost use Rattle.load_program.specs.LoadCore.{load_core};
 
+use checked_program::accept;
 use core_term::Checked;
-use delta_accept::accept;
-use delta_front::TextFault;
 use delta_load::{LoadFault, Totals, run_load, summary_line};
 use delta_state::Machine;
+use program_text::TextFault;
 use std::alloc::Global;
 use stream_type::Memory;
 

@@ -28,7 +28,7 @@ use Rattle.delta_parse.proofs.Programs.{program_found, stuck_before, no_main as 
 use Rattle.delta_end.specs.declared.refusal.Refusal.{Refusal}
 use Rattle.delta_end.specs.declared.refusal.RefusalName.{RefusalName}
 use Rattle.delta_end.specs.declared.refusal.RefusalName.TheVariants.{LongText, BadUtf8, BadChar, BigNumber, Deep, Expected, Twice as TwiceName, Many as ManyName, NoMain}
-use Rattle.delta_front.specs.ProgramText.{IsTextOf, IsRefusedFor}
+use Rattle.program_text.specs.ProgramText.{IsTextOf, IsRefusedFor}
 use Rattle.text_laws.specs.Laws.{TokensAreJudged, TextsAreJudged}
 use Rattle.text_laws.proofs.Enough.{Ends, reading_ends}
 use Rattle.text_laws.proofs.Firsts.{deep_first, unexpected_first, no_main_first}

@@ -10,7 +10,7 @@ use Rattle.delta_parse.specs.Marks.{IsShallow}
 use Rattle.delta_parse.specs.Bindings.{AreNamed}
 use Rattle.delta_parse.specs.Causes.{Belongs, IsCause}
 use Rattle.delta_end.specs.declared.refusal.Refusal.{Refusal}
-use Rattle.delta_front.specs.ProgramText.{IsTextOf, IsRefusedFor}
+use Rattle.program_text.specs.ProgramText.{IsTextOf, IsRefusedFor}
 use Rattle.text_laws.specs.TreeNames.{IsNamedProgram}
 
 -- any tokens belong to a program, or have a cause why they belong to none, that is no want of memory

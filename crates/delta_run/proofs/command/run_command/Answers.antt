@@ -12,7 +12,7 @@ use Rattle.delta_run.specs.Evaluated.{EvaluatedText}
 use Rattle.delta_end.specs.declared.end.End.TheVariants.{Usage, Memory}
 use Rattle.delta_loop.specs.Answer.{ReadsWell}
 use Rattle.delta_loop.proofs.Returning.{adds_none, ran_reads, unread}
-use Rattle.delta_text.specs.Lines.{lines_of_frames}
+use Rattle.command_text.specs.Lines.{lines_of_frames}
 use Rattle.delta_run.proofs.Budgets.{run_is_small, eval_is_small, load_is_small}
 use Rattle.delta_run.proofs.Conversions.{converted_reads}
 use Rattle.delta_run.proofs.Printed.{written_reads}

@@ -1,5 +1,5 @@
 use Rattle.delta_end.proofs.Statuses.{two_is_usage, status_is, status_rose, status_still, note_whole}
-use Rattle.delta_text.specs.Conversion.{frames_of_lines}
+use Rattle.command_text.specs.Conversion.{frames_of_lines}
 use Rattle.delta_run.specs.CommandLine.{frames_of}
 use Rattle.delta_run.proofs.TextRuns.{text_prompt, text_return, text_complete, text_refused, two_or_eight}
 use Rattle.delta_run.proofs.SettledTexts.{text_settled}

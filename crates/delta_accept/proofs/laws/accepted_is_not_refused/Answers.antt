@@ -1,6 +1,0 @@
--- The law, as its lemma states it.
-use Rattle.delta_accept.proofs.OneAnswer.{accepted_is_not_refused}
-use Rattle.delta_accept.proofs.laws.accepted_is_not_refused.Goals as goal
-
-pub returns : goal.returns
-returns c = accepted_is_not_refused

@@ -1,6 +1,0 @@
--- The law, as its lemma states it.
-use Rattle.delta_accept.proofs.OneAnswer.{writing_is_judged}
-use Rattle.delta_accept.proofs.laws.writing_is_judged.Goals as goal
-
-pub returns : goal.returns
-returns c = writing_is_judged

@@ -1,6 +1,0 @@
--- The law, as its lemma states it.
-use Rattle.delta_front.proofs.OneAnswer.{refusal_is_one}
-use Rattle.delta_front.proofs.laws.refusal_is_one.Goals as goal
-
-pub returns : goal.returns
-returns c = refusal_is_one

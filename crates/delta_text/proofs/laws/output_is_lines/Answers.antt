@@ -1,6 +1,0 @@
--- The law, as its lemma states it.
-use Rattle.delta_text.proofs.Lined.{output_is_lines}
-use Rattle.delta_text.proofs.laws.output_is_lines.Goals as goal
-
-pub returns : goal.returns
-returns c = output_is_lines

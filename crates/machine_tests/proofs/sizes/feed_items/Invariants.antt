@@ -1,6 +1,0 @@
--- The session stays one that can be fed.
-use Rattle.delta_session.specs.Standing.{IsKept}
-use Rattle.machine_tests.proofs.sizes.feed_items.Given as goal
-
-abbrev pub invariant-loop-i : goal.invariant-loop-i
-invariant-loop-i g l = IsKept g.M.Machine.seen g.M.Machine.stands l.session

@@ -1,5 +1,0 @@
-use Rattle.delta_session.specs.Standing.{IsKept}
-use Rattle.session_tests.proofs.growth.greatest.Given as goal
-
-abbrev pub invariant-loop-i : goal.invariant-loop-i
-invariant-loop-i g l = IsKept g.M.Machine.seen g.M.Machine.stands l.session

@@ -1,5 +1,0 @@
-use Rattle.delta_session.specs.Standing.{IsKept}
-use Rattle.session_tests.proofs.talking.feed_all.Given as goal
-
-abbrev pub invariant-loop-turn : goal.invariant-loop-turn
-invariant-loop-turn g l = IsKept g.M.Machine.seen g.M.Machine.stands l.session

@@ -1,8 +1,0 @@
-use Rattle.std.proofs.Common.{[]}
-use Rattle.core_term.specs.CoreTerm.{core_of}
-use Rattle.session_tests.proofs.Kept.{if_ok, kept}
-use Rattle.session_tests.proofs.talking.open.Goals as goal
-
-pub returns : goal.returns
-returns g c =
-    if_ok c.open.result c.open.ensures.stands (λ r. kept g.M.Machine.seen g.M.Machine.stands r.0 (core_of c.args.checked.now) _ [])

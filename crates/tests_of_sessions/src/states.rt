@@ -1,0 +1,81 @@
+//! What machines say first, and what the one that the command runs tells of its state and its place.
+
+ghost use Rattle.std.specs.Prelude.{IsTrue};
+ghost use Rattle.core_term.specs.CoreTerm.{core_of, fits_of};
+
+use checked_program::accept;
+use core_term::{Checked, fits};
+use delta_code::Coded;
+use delta_state::{Machine, Place, State};
+use delta_step::Tree;
+use std::alloc::Global;
+use std::test::Fail;
+use stream_prefix::Prefix;
+use stream_type::Ty;
+
+const IN_TURN: &[u8] = b"main(x : Int; y : Int) : Int . Int = (x; y)";
+
+// Whether a first number is awaited.
+fn is_awaited(p: &Prefix) -> bool {
+    match p {
+        Prefix::CatFst(p) => matches!(**p, Prefix::IntEmp),
+        _ => false,
+    }
+}
+
+// Whether a machine says so of a program before any event.
+fn says_awaited<M: Machine>(alloc: Global, checked: &Checked) -> Result<bool, Fail>
+    requires { IsTrue (fits_of (core_of checked.now)) }
+{
+    let (machine, first) = M::start(alloc, checked, 0)?;
+    drop(machine);
+    Ok(is_awaited(&first))
+}
+
+// Whether both machines say so of a pair in turn.
+fn pair_is_awaited(alloc: Global) -> Result<bool, Fail> {
+    let accepted = accept(alloc, IN_TURN)?;
+    let checked = &accepted.checked;
+    if !fits(checked.core()) {
+        return Ok(false);
+    }
+    Ok(says_awaited::<Coded>(alloc, checked)? && says_awaited::<Tree>(alloc, checked)?)
+}
+
+#[test]
+fn the_first_of_a_pair_is_awaited(rt: HostRuntime) -> Result<(), Fail> {
+    assert!(rt; pair_is_awaited(rt.alloc())?);
+    Ok(())
+}
+
+// The state and the place of a program before any event.
+fn first_state(alloc: Global, checked: &Checked) -> Result<(State, Place), Fail>
+    requires { IsTrue (fits_of (core_of checked.now)) }
+{
+    let (machine, _first) = Coded::start(alloc, checked, 0)?;
+    Ok(machine.to_state(alloc)?)
+}
+
+// Whether the first of two numbers is awaited at the top of the state, and no mark has come.
+fn awaits_two(state: &State, place: &Place) -> bool {
+    let in_turn = matches!(state, State::Cat(_, _));
+    let numbers = matches!(place.ins.as_slice(), [Ty::Int, Ty::Int]);
+    in_turn && numbers && place.cuts.as_slice() == [false].as_slice()
+}
+
+// Whether it is so for a pair in turn.
+fn begins_in_turn(alloc: Global) -> Result<bool, Fail> {
+    let accepted = accept(alloc, IN_TURN)?;
+    let checked = &accepted.checked;
+    if !fits(checked.core()) {
+        return Ok(false);
+    }
+    let (state, place) = first_state(alloc, checked)?;
+    Ok(awaits_two(&state, &place))
+}
+
+#[test]
+fn a_pair_in_turn_begins_with_its_first(rt: HostRuntime) -> Result<(), Fail> {
+    assert!(rt; begins_in_turn(rt.alloc())?);
+    Ok(())
+}

@@ -1,0 +1,192 @@
+//! Rows of talks with sessions, on the machine that the command runs and on the plain one.
+
+use crate::talking::{Talk, goes};
+use checked_program::accept;
+use core_term::fits;
+use delta_code::Coded;
+use delta_session::{Cause, FeedRefusal, OpenRefusal};
+use delta_state::Machine;
+use delta_step::Tree;
+use event_word::EventFault;
+use std::alloc::Global;
+use std::test::Fail;
+
+const DOUBLE: &str =
+    "fun twice(xs : Int*) : Int* = case xs of { nil => nil | y :: ys => wait y in ({y * 2} :: twice(ys)) }
+main(xs : Int*) : Int* = twice(xs)";
+
+const DOWN: &str = "fun down{n : Int}(u : 1) : Int = if n < 1 then {7} else down{n - 1}(u)
+main(x : Int) : Int = wait x in down{x}(())";
+
+const CHOICE: &str =
+    "main(z : 1 + 1, y : Int) : Int + Int = case z of { inl a => inl y | inr b => inr y }";
+
+// The program of one number, before it came.
+const TALK: Talk = Talk {
+    text: "main(x : Int) : Int = x",
+    budget: 1_000_000,
+    opening: Ok(""),
+    turns: &[],
+    events: 0,
+    held: 0,
+    is_whole: false,
+};
+
+const TALKS: &[Talk] = &[
+    Talk {
+        turns: &[
+            (
+                "L int 4",
+                Err(FeedRefusal::Refused(EventFault::WrongStep(0))),
+            ),
+            ("int 4", Ok("int 4\n")),
+            ("int 4", Err(FeedRefusal::Refused(EventFault::Ended(0)))),
+        ],
+        events: 1,
+        is_whole: true,
+        ..TALK
+    },
+    Talk {
+        text: "main(x : Int; y : Int) : Int . Int = (x; y)",
+        budget: 0,
+        turns: &[
+            ("cut", Err(FeedRefusal::Refused(EventFault::EarlyCut(0)))),
+            ("F int 1", Ok("F int 1\ncut\n")),
+            ("cut", Ok("")),
+            ("int 2", Ok("int 2\n")),
+        ],
+        events: 3,
+        is_whole: true,
+        ..TALK
+    },
+    Talk {
+        text: "main() : 1 = ()",
+        opening: Ok("one\n"),
+        is_whole: true,
+        ..TALK
+    },
+    Talk {
+        text: DOUBLE,
+        budget: 1,
+        turns: &[
+            ("item", Ok("")),
+            ("F int 3", Ok("item\nF int 6\ncut\n")),
+            ("cut", Ok("")),
+            ("end", Ok("end\n")),
+        ],
+        events: 4,
+        is_whole: true,
+        ..TALK
+    },
+    // A case holds what comes beside it until its tag is there.
+    Talk {
+        text: CHOICE,
+        turns: &[("R int 5", Ok(""))],
+        events: 1,
+        held: 1,
+        ..TALK
+    },
+    Talk {
+        text: CHOICE,
+        turns: &[
+            ("R int 5", Ok("")),
+            ("L inl", Ok("inl\nint 5\n")),
+            ("L one", Ok("")),
+        ],
+        events: 3,
+        is_whole: true,
+        ..TALK
+    },
+];
+
+// Programs that make too many calls: one at its only event, one before any.
+const CLOSED: &[Talk] = &[
+    Talk {
+        text: DOWN,
+        budget: 1,
+        turns: &[
+            ("int 100000", Err(FeedRefusal::Budget(1))),
+            ("int 1", Err(FeedRefusal::Closed(Cause::Budget(1)))),
+            ("L int 4", Err(FeedRefusal::Closed(Cause::Budget(1)))),
+        ],
+        ..TALK
+    },
+    Talk {
+        text: DOWN,
+        budget: 101,
+        turns: &[("int 100", Ok("int 7\n"))],
+        events: 1,
+        is_whole: true,
+        ..TALK
+    },
+    Talk {
+        text: "fun loop(x : Int) : Int = loop(x)\nmain(x : Int) : Int = loop(x)",
+        budget: 3,
+        opening: Err(OpenRefusal::Budget(3)),
+        ..TALK
+    },
+];
+
+// A nest of calls with as many levels as there may be, and one with a level more, of which no session is opened.
+const NESTS: &[Talk] = &[
+    Talk {
+        text: "fun nest{n : Int}(x : Int) : Int = if n < 1 then x else let y = nest{n - 1}(x) in y
+main(x : Int) : Int = nest{1000}(x)",
+        turns: &[("int 4", Ok("int 4\n"))],
+        events: 1,
+        is_whole: true,
+        ..TALK
+    },
+    Talk {
+        text: "fun nest{n : Int}(x : Int) : Int = if n < 1 then x else let y = nest{n - 1}(x) in y
+main(x : Int) : Int = nest{1001}(x)",
+        opening: Err(OpenRefusal::Deep(1001)),
+        ..TALK
+    },
+];
+
+// Whether a talk goes so on a machine.
+fn goes_on<M: Machine>(alloc: Global, talk: &Talk) -> Result<bool, Fail> {
+    let accepted = accept(alloc, talk.text.as_bytes())?;
+    let checked = &accepted.checked;
+    if !fits(checked.core()) {
+        return Ok(false);
+    }
+    goes::<M>(alloc, checked, talk)
+}
+
+// Whether it goes so on both machines.
+fn goes_on_both(alloc: Global, talk: &Talk) -> Result<bool, Fail> {
+    Ok(goes_on::<Coded>(alloc, talk)? && goes_on::<Tree>(alloc, talk)?)
+}
+
+// The number of talks before the first that goes otherwise, or none.
+fn first_other(alloc: Global, talks: &[Talk]) -> Result<Option<usize>, Fail> {
+    for k in 0..talks.len() {
+        if !goes_on_both(alloc, &talks[k])? {
+            return Ok(Some(k));
+        }
+    }
+    Ok(None)
+}
+
+#[test]
+fn sessions_answer_events(rt: HostRuntime) -> Result<(), Fail> {
+    assert_eq!(rt; first_other(rt.alloc(), TALKS)?, None);
+    Ok(())
+}
+
+#[test]
+fn too_many_calls_close_a_session(rt: HostRuntime) -> Result<(), Fail> {
+    assert_eq!(rt; first_other(rt.alloc(), CLOSED)?, None);
+    Ok(())
+}
+
+// The plain machine goes deeper at each call, so these are talks with the other one.
+#[test]
+fn nests_have_a_thousand_levels(rt: HostRuntime) -> Result<(), Fail> {
+    for talk in NESTS {
+        assert!(rt; goes_on::<Coded>(rt.alloc(), talk)?, "{}", talk.text);
+    }
+    Ok(())
+}
