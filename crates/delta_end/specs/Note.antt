@@ -13,8 +13,10 @@ use Rattle.delta_end.specs.declared.objection.DerivationName.{DerivationName}
 use Rattle.delta_end.specs.declared.objection.DerivationName.TheVariants as derivation
 use Rattle.delta_end.specs.declared.objection.BoundName.{BoundName}
 use Rattle.delta_end.specs.declared.objection.BoundName.TheVariants.{Unbounded, Cycle, Large}
+use Rattle.delta_end.specs.declared.objection.TableName.{TableName}
+use Rattle.delta_end.specs.declared.objection.TableName.TheVariants as table
 use Rattle.delta_end.specs.declared.objection.Objection.{Objection}
-use Rattle.delta_end.specs.declared.objection.Objection.TheVariants.{Derivation, Bound}
+use Rattle.delta_end.specs.declared.objection.Objection.TheVariants.{Derivation, Bound, Table}
 use Rattle.delta_end.specs.declared.end.InputFault.{InputFault}
 use Rattle.delta_end.specs.declared.end.InputFault.TheVariants.{Frame, Event, Line, LongLine}
 use Rattle.delta_end.specs.declared.end.End.{End}
@@ -101,14 +103,27 @@ bound_name Unbounded = codes "Unbounded"
 bound_name Cycle = codes "Cycle"
 bound_name Large = codes "Large"
 
+-- the name of why tables are refused
+abbrev pub table_name : TableName → List ℕ
+table_name table.Shape = codes "Shape"
+table_name table.Long = codes "Long"
+table_name table.Ragged = codes "Ragged"
+table_name table.BadNumber = codes "BadNumber"
+
 -- what is refused or stopped, by which name and at which place
 abbrev pub refusal_note : List ℕ → List ℕ → ℕ → List ℕ
 refusal_note what name at = (what ++ name) ++ (codes " at " ++ decimal at ++ 10 ∷ [])
+
+-- why tables are refused, by the numbers of the file and of the row
+abbrev pub table_note : List ℕ → ℕ → ℕ → List ℕ
+table_note name file row =
+    (codes "delta: table refused: " ++ name) ++ ((codes " in " ++ decimal file) ++ (codes " at " ++ decimal row ++ 10 ∷ []))
 
 -- what is said against a program
 abbrev pub objection_note : Objection → List ℕ
 objection_note (Derivation name at) = refusal_note (codes "delta: derivation refused: ") (derivation_name name) at
 objection_note (Bound name at) = refusal_note (codes "delta: no bound: ") (bound_name name) at
+objection_note (Table name file row) = table_note (table_name name) file row
 
 -- the line; none at the end of a command that did all it was to do
 abbrev pub note_of : End → List ℕ

@@ -71,6 +71,7 @@ impl End {
             End::Long => 9,
             End::Objected(Objection::Derivation(_, _)) => 11,
             End::Objected(Objection::Bound(_, _)) => 12,
+            End::Objected(Objection::Table(_, _, _)) => 13,
         }
     }
 }

@@ -10,6 +10,6 @@ mod telling;
 
 pub use answering::answer;
 pub use end::{End, InputFault};
-pub use objection::{BoundName, DerivationName, Objection};
+pub use objection::{BoundName, DerivationName, Objection, TableName};
 pub use refusal::{Refusal, RefusalName};
 pub use telling::note;

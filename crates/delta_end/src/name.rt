@@ -1,10 +1,10 @@
 //! The names of faults, as notes tell them.
 
 ghost use Rattle.std.specs.Prelude.{◌≡◌};
-ghost use Rattle.delta_end.specs.Note.{frame_name as name_of_frame, event_name as name_of_event, line_name as name_of_line, refusal_name as name_of_refusal, derivation_name as name_of_derivation, bound_name as name_of_bound, name_of as name_of_input};
+ghost use Rattle.delta_end.specs.Note.{frame_name as name_of_frame, event_name as name_of_event, line_name as name_of_line, refusal_name as name_of_refusal, derivation_name as name_of_derivation, bound_name as name_of_bound, table_name as name_of_table, name_of as name_of_input};
 
 use crate::end::InputFault;
-use crate::objection::{BoundName, DerivationName};
+use crate::objection::{BoundName, DerivationName, TableName};
 use crate::refusal::RefusalName;
 use event_frame::FrameFault;
 use event_text::LineFault;
@@ -112,5 +112,17 @@ pub fn bound_name(name: BoundName) -> &'static [u8]
         BoundName::Unbounded => b"Unbounded",
         BoundName::Cycle => b"Cycle",
         BoundName::Large => b"Large",
+    }
+}
+
+/// The name of why tables are refused.
+pub fn table_name(name: TableName) -> &'static [u8]
+    ensures { result.now ≡ name_of_table name }
+{
+    match name {
+        TableName::Shape => b"Shape",
+        TableName::Long => b"Long",
+        TableName::Ragged => b"Ragged",
+        TableName::BadNumber => b"BadNumber",
     }
 }
