@@ -57,7 +57,7 @@ few_after : (ts : List Tok) (n m : ℕ) → AreNamed ts n → is_many ts m ≡ t
 few_after ts n m a w = ⊎_elim (λ h. absurd (let k : is_many ts m ≡ false = a.few m h in cc)) (λ h. h) (below_or m n)
 
 -- a token that is too deep
-deep_first : (ts : List Tok) (n : ℕ) → IsFirstDeep ts n → AreNamed ts n → n < length ts → BeginsProgram (take n ts) → IsFirstWrong ts n too_deep
+pub deep_first : (ts : List Tok) (n : ℕ) → IsFirstDeep ts n → AreNamed ts n → n < length ts → BeginsProgram (take n ts) → IsFirstWrong ts n too_deep
 deep_first ts n d a h b = record { wrong = (h, d.deep h); first = others }
   where
     others : (m : ℕ) (v : Wrong) → IsWrong ts m v → (n < m) ⊎ ((n ≡ m) × (order_of too_deep ≤ order_of v))
@@ -68,7 +68,7 @@ deep_first ts n d a h b = record { wrong = (h, d.deep h); first = others }
     others m no_main w = later n m 1 5 (omega (arith, w.0)) (omega arith)
 
 -- a token that doesn't fit
-unexpected_first : (ts : List Tok) (n : ℕ) → IsUnexpected ts n → BeginsProgram (take n ts) → IsShallow ts n → (n < length ts → marks_before ts n ≤ 64) → AreNamed ts n → IsFirstWrong ts n unexpected
+pub unexpected_first : (ts : List Tok) (n : ℕ) → IsUnexpected ts n → BeginsProgram (take n ts) → IsShallow ts n → (n < length ts → marks_before ts n ≤ 64) → AreNamed ts n → IsFirstWrong ts n unexpected
 unexpected_first ts n u b s here a = record { wrong = u; first = others }
   where
     strictly : (m : ℕ) → n ≤ m → m < length ts → 64 < marks_before ts m → (n < m) ⊎ ((n ≡ m) × (2 ≤ 1))
@@ -106,7 +106,7 @@ many_first ts n d f h a b = record { wrong = (a.within, a.is.1); first = others 
     others m too_many w = later n m 4 4 (few_after ts n m a.before w.1) (omega arith)
     others m no_main w = inl (let l = a.within in omega (arith, w.0))
 
-no_main_first : (ts : List Tok) → AreDeclarations ts → BeginsProgram ts → IsShallow ts (length ts) → AreNamed ts (length ts) → IsFirstWrong ts (length ts) no_main
+pub no_main_first : (ts : List Tok) → AreDeclarations ts → BeginsProgram ts → IsShallow ts (length ts) → AreNamed ts (length ts) → IsFirstWrong ts (length ts) no_main
 no_main_first ts a b s c = record { wrong = (refl, a); first = others }
   where
     b' : BeginsProgram (take (length ts) ts)

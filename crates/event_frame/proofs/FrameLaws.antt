@@ -9,11 +9,11 @@ use Rattle.std.specs.Int.{w64, from_be_bytes, to_be_bytes, cast_signed, cast_uns
 use Rattle.event_word.specs.declared.event.Step.{Step}
 use Rattle.event_word.specs.declared.event.Leaf.{Leaf}
 use Rattle.event_word.specs.declared.event.Leaf.TheVariants.{One, Int, Inl, Inr, Cut, Item, End}
-use Rattle.event_word.specs.StreamEvent.{StreamEvent}
+use Rattle.event_word.specs.StreamEvent.{StreamEvent, FitsLeaf}
 use Rattle.event_frame.specs.declared.version.Version.{Version}
 use Rattle.event_frame.specs.declared.version.Version.TheVariants.{V1, V2}
 use Rattle.event_frame.specs.declared.fault.FrameFault.TheVariants.{LongPath, BadStep}
-use Rattle.event_frame.specs.Frames.{step_code, packed, path_bytes, leaf_bytes, frame, frames, header, longest, Fits, FitsLeaf, AllFit}
+use Rattle.event_frame.specs.Frames.{step_code, packed, path_bytes, leaf_bytes, frame, frames, header, longest, Fits, AllFit}
 use Rattle.event_frame.specs.Reading.{Between, AtSteps, AtLeaf, AtNumber, Taken, parts, steps_in, before, event, at_path, after_steps, Goes, Faults, Bad, Whole, go_on, Reading, stop, add, reading_from, reading, whole}
 use Rattle.event_frame.proofs.Codes.{first_then-code, code_below, parts_of}
 

@@ -6,12 +6,12 @@ use Rattle.std.specs.Int.{w64, from_be_bytes, cast_signed}
 use Rattle.event_word.specs.declared.event.Step.{Step}
 use Rattle.event_word.specs.declared.event.Leaf.{Leaf}
 use Rattle.event_word.specs.declared.event.Leaf.TheVariants.{Int}
-use Rattle.event_word.specs.StreamEvent.{StreamEvent}
+use Rattle.event_word.specs.StreamEvent.{StreamEvent, FitsLeaf}
 use Rattle.event_frame.specs.declared.version.Version.{Version}
 use Rattle.event_frame.specs.declared.version.Version.TheVariants.{V1, V2}
 use Rattle.event_frame.specs.declared.fault.FrameFault.{FrameFault}
 use Rattle.event_frame.specs.declared.front.Front.TheVariants.{Part, Fault}
-use Rattle.event_frame.specs.Frames.{step_code, path_bytes, leaf_bytes, FitsLeaf, AreBytes}
+use Rattle.event_frame.specs.Frames.{step_code, path_bytes, leaf_bytes, AreBytes}
 use Rattle.event_frame.specs.Reading.{AtLeaf, AtNumber, Taken, parts, steps_in, first_then, step_of, event, Inside, stop, reading_from, at_path}
 use Rattle.event_frame.specs.Front.{path_len, IsTail, IsAtPath, behind}
 use Rattle.event_frame.proofs.FrameLaws.{reading_from-steps}

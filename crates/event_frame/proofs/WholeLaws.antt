@@ -6,11 +6,11 @@ use Rattle.std.specs.Int.{w64, from_be_bytes, cast_signed}
 use Rattle.event_word.specs.declared.event.Step.{Step}
 use Rattle.event_word.specs.declared.event.Leaf.{Leaf}
 use Rattle.event_word.specs.declared.event.Leaf.TheVariants.{One, Int, Inl, Inr, Cut, Item, End}
-use Rattle.event_word.specs.StreamEvent.{StreamEvent}
+use Rattle.event_word.specs.StreamEvent.{StreamEvent, FitsLeaf}
 use Rattle.event_frame.specs.declared.version.Version.{Version}
 use Rattle.event_frame.specs.declared.version.Version.TheVariants.{V1, V2}
 use Rattle.event_frame.specs.declared.fault.FrameFault.TheVariants.{BadMagic, LongPath, BadLeaf}
-use Rattle.event_frame.specs.Frames.{path_bytes, leaf_bytes, frame, frames, header, longest, Fits, FitsLeaf, AllFit, AreBytes}
+use Rattle.event_frame.specs.Frames.{path_bytes, leaf_bytes, frame, frames, header, longest, Fits, AllFit, AreBytes}
 use Rattle.event_frame.specs.Front.{digit}
 use Rattle.event_frame.specs.Reading.{AtLetters, Between, AtLeaf, AtNumber, Taken, parts, steps_in, leaf_of, event, at_path, after_leaf, Goes, Faults, go_on, Reading, add, reading_from, whole}
 use Rattle.event_frame.proofs.FrameLaws.{reading_from-steps, reading_from-no_steps, reading-header}

@@ -1,12 +1,12 @@
 -- The bytes of frames: the grammar of both versions, apart from how they are read.
-use Rattle.std.specs.Prelude.{ℕ, ◌+◌, ◌*◌, ◌<◌, ◌≤◌, List, [], ◌∷◌, ◌++◌, length, map, ⊤, FitsSigned}
+use Rattle.std.specs.Prelude.{ℕ, ◌+◌, ◌*◌, ◌<◌, ◌≤◌, List, [], ◌∷◌, ◌++◌, length, map, ⊤}
 use Rattle.std.specs.List.{flat_map}
 use Rattle.std.specs.Int.{w64, to_be_bytes, cast_unsigned}
 use Rattle.event_word.specs.declared.event.Step.{Step}
 use Rattle.event_word.specs.declared.event.Step.TheVariants.{Left, Right, First}
 use Rattle.event_word.specs.declared.event.Leaf.{Leaf}
 use Rattle.event_word.specs.declared.event.Leaf.TheVariants.{One, Int, Inl, Inr, Cut, Item, End}
-use Rattle.event_word.specs.StreamEvent.{StreamEvent}
+use Rattle.event_word.specs.StreamEvent.{StreamEvent, FitsLeaf}
 use Rattle.event_frame.specs.declared.version.Version.{Version}
 use Rattle.event_frame.specs.declared.version.Version.TheVariants.{V1, V2}
 
@@ -56,11 +56,6 @@ frame v x = length x.path ∷ (path_bytes v x.path ++ leaf_bytes x.leaf)
 -- one frame after another
 abbrev pub frames : Version → List StreamEvent → List ℕ
 frames v word = flat_map (frame v) word
-
--- a number has 64 bits
-abbrev pub FitsLeaf : Leaf → Type 0
-FitsLeaf (Int n) = FitsSigned w64 n
-FitsLeaf _ = ⊤
 
 -- the version has a frame for the event
 pub record Fits (v : Version) (x : StreamEvent) : Type 0 where

@@ -1,13 +1,13 @@
 -- The words of the reader's private steps: a whole frame at the front of bytes, a part of one, or a byte that can't stand there.
 use Rattle.std.specs.Prelude.{◌≡◌, ◌≢◌, ℕ, ◌+◌, ◌/◌, ◌<◌, ◌≤◌, List, [], ◌∷◌, ◌++◌, Option, Some, None, Result, Ok, Err, length, drop}
 use Rattle.event_word.specs.declared.event.Step.{Step}
-use Rattle.event_word.specs.StreamEvent.{StreamEvent}
+use Rattle.event_word.specs.StreamEvent.{StreamEvent, FitsLeaf}
 use Rattle.event_frame.specs.declared.version.Version.{Version}
 use Rattle.event_frame.specs.declared.version.Version.TheVariants.{V1, V2}
 use Rattle.event_frame.specs.declared.fault.FrameFault.{FrameFault}
 use Rattle.event_frame.specs.declared.front.Front.{Front}
 use Rattle.event_frame.specs.declared.front.Front.TheVariants.{Frame, Part, Fault}
-use Rattle.event_frame.specs.Frames.{path_bytes, leaf_bytes, frame, Fits, FitsLeaf}
+use Rattle.event_frame.specs.Frames.{path_bytes, leaf_bytes, frame, Fits}
 use Rattle.event_frame.specs.Reading.{AtLetters, Between, at_path, event, Taken, Ending, Whole, Inside, Bad, stop, reading_from}
 
 -- how many bytes so many steps take

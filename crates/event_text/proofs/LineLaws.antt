@@ -13,10 +13,10 @@ use Rattle.event_word.specs.declared.event.Step.{Step}
 use Rattle.event_word.specs.declared.event.Step.TheVariants.{Left, Right, First}
 use Rattle.event_word.specs.declared.event.Leaf.{Leaf}
 use Rattle.event_word.specs.declared.event.Leaf.TheVariants.{One, Int, Inl, Inr, Cut, Item, End}
-use Rattle.event_word.specs.StreamEvent.{StreamEvent, leaf_of}
+use Rattle.event_word.specs.StreamEvent.{StreamEvent, leaf_of, FitsLeaf}
 use Rattle.event_text.specs.declared.fault.LineFault.{LineFault}
 use Rattle.event_text.specs.declared.fault.LineFault.TheVariants.{BadWord, BigNumber}
-use Rattle.event_text.specs.Lines.{step_word, path_words, leaf_words, line_of, FitsLeaf, Fits}
+use Rattle.event_text.specs.Lines.{step_word, path_words, leaf_words, line_of, Fits}
 use Rattle.event_text.specs.Spells.{SpellsDigits, SpellsNumber, SpellsLeaf, Spells}
 use Rattle.event_text.specs.Reading.{words, is_number, number_leaf, last_word, at_number, alone, with_step, at_words, read}
 use Rattle.event_text.proofs.Numbers.{own}

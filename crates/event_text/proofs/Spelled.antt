@@ -13,10 +13,10 @@ use Rattle.event_word.specs.declared.event.Step.{Step}
 use Rattle.event_word.specs.declared.event.Step.TheVariants.{Left, Right, First}
 use Rattle.event_word.specs.declared.event.Leaf.{Leaf}
 use Rattle.event_word.specs.declared.event.Leaf.TheVariants.{One, Int, Inl, Inr, Cut, Item, End}
-use Rattle.event_word.specs.StreamEvent.{StreamEvent, leaf_of, under}
+use Rattle.event_word.specs.StreamEvent.{StreamEvent, leaf_of, under, FitsLeaf}
 use Rattle.event_text.specs.declared.fault.LineFault.{LineFault}
 use Rattle.event_text.specs.declared.fault.LineFault.TheVariants.{BadWord, BigNumber, NoLeaf}
-use Rattle.event_text.specs.Lines.{step_word, path_words, leaf_words, FitsLeaf, Fits}
+use Rattle.event_text.specs.Lines.{step_word, path_words, leaf_words, Fits}
 use Rattle.event_text.specs.Spells.{SpellsNumber, SpellsLeaf, Spells}
 use Rattle.event_text.specs.Reading.{words, step_of, word_leaf, is_number, number_leaf, is_end, last_word, at_number, at_leaf, with_step, alone, step_or_leaf, at_words, read}
 use Rattle.event_text.proofs.Numbers.{own, some_digits}

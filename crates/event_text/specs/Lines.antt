@@ -1,13 +1,12 @@
 -- The lines of events: words with one space between them.
-use Rattle.std.specs.Prelude.{ℕ, List, ◌++◌, codes, ◌≤◌, length, ⊤, FitsSigned}
+use Rattle.std.specs.Prelude.{ℕ, List, ◌++◌, codes, ◌≤◌, length}
 use Rattle.std.specs.List.{flat_map}
-use Rattle.std.specs.Int.{w64}
 use Rattle.std.specs.Fmt.{signed_decimal}
 use Rattle.event_word.specs.declared.event.Step.{Step}
 use Rattle.event_word.specs.declared.event.Step.TheVariants.{Left, Right, First}
 use Rattle.event_word.specs.declared.event.Leaf.{Leaf}
 use Rattle.event_word.specs.declared.event.Leaf.TheVariants.{One, Int, Inl, Inr, Cut, Item, End}
-use Rattle.event_word.specs.StreamEvent.{StreamEvent}
+use Rattle.event_word.specs.StreamEvent.{StreamEvent, FitsLeaf}
 
 -- the word of a step
 abbrev pub step_word : Step → List ℕ
@@ -32,11 +31,6 @@ leaf_words End = codes "end"
 -- the line of an event, without its line feed
 abbrev pub line_of : StreamEvent → List ℕ
 line_of x = path_words x.path ++ leaf_words x.leaf
-
--- a number has 64 bits
-abbrev pub FitsLeaf : Leaf → Type 0
-FitsLeaf (Int n) = FitsSigned w64 n
-FitsLeaf _ = ⊤
 
 -- an event that is within the limits: at most 63 steps, and a number of 64 bits
 pub record Fits (x : StreamEvent) : Type 0 where

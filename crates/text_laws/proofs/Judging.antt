@@ -23,7 +23,7 @@ use Rattle.delta_parse.specs.Places.{place_at}
 use Rattle.delta_parse.specs.Causes.{Belongs, Wrong, too_deep, unexpected, bound_twice, too_many, no_main, IsFirstWrong, IsFirstAt, IsCause}
 use Rattle.delta_parse.proofs.Samples.{delta_checked}
 use Rattle.delta_parse.proofs.BindingSteps.{named_shorter}
-use Rattle.delta_parse.proofs.Firsts.{begins_shorter, begins_whole, name_first}
+use Rattle.delta_parse.proofs.Firsts.{begins_shorter, begins_whole, name_first, deep_first, unexpected_first, no_main_first}
 use Rattle.delta_parse.proofs.Programs.{program_found, stuck_before, no_main as only_declarations, stuck_in_main, more_behind_main}
 use Rattle.delta_end.specs.declared.refusal.Refusal.{Refusal}
 use Rattle.delta_end.specs.declared.refusal.RefusalName.{RefusalName}
@@ -31,7 +31,6 @@ use Rattle.delta_end.specs.declared.refusal.RefusalName.TheVariants.{LongText, B
 use Rattle.program_text.specs.ProgramText.{IsTextOf, IsRefusedFor}
 use Rattle.text_laws.specs.Laws.{TokensAreJudged, TextsAreJudged}
 use Rattle.text_laws.proofs.Enough.{Ends, reading_ends}
-use Rattle.text_laws.proofs.Firsts.{deep_first, unexpected_first, no_main_first}
 
 -- HOW FAR A PROGRAM BEGINS
 

@@ -1,6 +1,5 @@
 -- The lemmas.
 pub mod Enough
-pub mod Firsts
 pub mod Judging
 pub mod TokenKinds
 pub mod NameRuns
