@@ -4,8 +4,8 @@ use Rattle.std.specs.Prelude.{codes}
 use Rattle.std.proofs.lemmas.Fmt.{decimal_step, decimal_digit}
 use Rattle.event_word.specs.declared.fault.EventFault.TheVariants.{Ended}
 use Rattle.event_frame.specs.declared.fault.FrameFault.TheVariants.{Truncated}
-use Rattle.delta_end.specs.declared.refusal.RefusalName.TheVariants.{Expected}
-use Rattle.delta_end.specs.declared.refusal.Refusal.{Refusal}
+use Rattle.program_refusal.specs.declared.refusal.RefusalName.TheVariants.{Expected}
+use Rattle.program_refusal.specs.declared.refusal.Refusal.{Refusal}
 use Rattle.delta_end.specs.declared.objection.BoundName.TheVariants.{Cycle}
 use Rattle.delta_end.specs.declared.objection.TableName.TheVariants.{BadNumber}
 use Rattle.delta_end.specs.declared.objection.Objection.TheVariants.{Bound, Table}

@@ -1,14 +1,13 @@
 -- The line that tells how a command ended.
 use Rattle.std.specs.Prelude.{◌≡◌, ℕ, List, [], ◌∷◌, ◌++◌, Option, Some, None, codes, decimal}
 use Rattle.port.specs.Told.{Grows}
+use Rattle.program_refusal.specs.RefusalName.{refusal_name}
 use Rattle.event_word.specs.declared.fault.EventFault.{EventFault}
 use Rattle.event_word.specs.declared.fault.EventFault.TheVariants.{Ended, WrongStep, WrongLeaf, EarlyCut}
 use Rattle.event_frame.specs.declared.fault.FrameFault.{FrameFault}
 use Rattle.event_frame.specs.declared.fault.FrameFault.TheVariants.{BadMagic, LongPath, BadStep, BadLeaf, Truncated}
 use Rattle.event_text.specs.declared.fault.LineFault.{LineFault}
 use Rattle.event_text.specs.declared.fault.LineFault.TheVariants.{BadWord, BigNumber as BigNumberOfLine, LongPath as LongPathOfLine, NoLeaf, Extra}
-use Rattle.delta_end.specs.declared.refusal.RefusalName.{RefusalName}
-use Rattle.delta_end.specs.declared.refusal.RefusalName.TheVariants.{LongText, BadUtf8, BadChar, BigNumber, Deep as DeepMarks, Expected, Twice, Many, NoMain, Unbound, NoFunction, NoType, TooTall, TooWide, Mismatch, OutOfOrder, Jumpy, WaitNull, Arity, History, NotStream, WideOutput}
 use Rattle.delta_end.specs.declared.objection.DerivationName.{DerivationName}
 use Rattle.delta_end.specs.declared.objection.DerivationName.TheVariants as derivation
 use Rattle.delta_end.specs.declared.objection.BoundName.{BoundName}
@@ -62,31 +61,6 @@ place_of (Frame (Truncated at)) = at
 place_of (Event fault at) = at
 place_of (Line fault at) = at
 place_of (LongLine at) = at
-
--- the name of a fault of a program
-abbrev pub refusal_name : RefusalName → List ℕ
-refusal_name LongText = codes "LongText"
-refusal_name BadUtf8 = codes "BadUtf8"
-refusal_name BadChar = codes "BadChar"
-refusal_name BigNumber = codes "BigNumber"
-refusal_name DeepMarks = codes "Deep"
-refusal_name Expected = codes "Expected"
-refusal_name Twice = codes "Twice"
-refusal_name Many = codes "Many"
-refusal_name NoMain = codes "NoMain"
-refusal_name Unbound = codes "Unbound"
-refusal_name NoFunction = codes "NoFunction"
-refusal_name NoType = codes "NoType"
-refusal_name TooTall = codes "TooTall"
-refusal_name TooWide = codes "TooWide"
-refusal_name Mismatch = codes "Mismatch"
-refusal_name OutOfOrder = codes "OutOfOrder"
-refusal_name Jumpy = codes "Jumpy"
-refusal_name WaitNull = codes "WaitNull"
-refusal_name Arity = codes "Arity"
-refusal_name History = codes "History"
-refusal_name NotStream = codes "NotStream"
-refusal_name WideOutput = codes "WideOutput"
 
 -- the name of a derivation's fault
 abbrev pub derivation_name : DerivationName → List ℕ

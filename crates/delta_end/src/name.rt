@@ -1,11 +1,10 @@
 //! The names of faults, as notes tell them.
 
 ghost use Rattle.std.specs.Prelude.{◌≡◌};
-ghost use Rattle.delta_end.specs.Note.{frame_name as name_of_frame, event_name as name_of_event, line_name as name_of_line, refusal_name as name_of_refusal, derivation_name as name_of_derivation, bound_name as name_of_bound, table_name as name_of_table, name_of as name_of_input};
+ghost use Rattle.delta_end.specs.Note.{frame_name as name_of_frame, event_name as name_of_event, line_name as name_of_line, derivation_name as name_of_derivation, bound_name as name_of_bound, table_name as name_of_table, name_of as name_of_input};
 
 use crate::end::InputFault;
 use crate::objection::{BoundName, DerivationName, TableName};
-use crate::refusal::RefusalName;
 use event_frame::FrameFault;
 use event_text::LineFault;
 use event_word::EventFault;
@@ -57,36 +56,6 @@ pub fn input_name(fault: InputFault) -> &'static [u8]
         InputFault::Event(fault, _) => event_name(fault),
         InputFault::Line(fault, _) => line_name(fault),
         InputFault::LongLine(_) => b"LongLine",
-    }
-}
-
-/// The name of a program's fault.
-pub fn refusal_name(name: RefusalName) -> &'static [u8]
-    ensures { result.now ≡ name_of_refusal name }
-{
-    match name {
-        RefusalName::LongText => b"LongText",
-        RefusalName::BadUtf8 => b"BadUtf8",
-        RefusalName::BadChar => b"BadChar",
-        RefusalName::BigNumber => b"BigNumber",
-        RefusalName::Deep => b"Deep",
-        RefusalName::Expected => b"Expected",
-        RefusalName::Twice => b"Twice",
-        RefusalName::Many => b"Many",
-        RefusalName::NoMain => b"NoMain",
-        RefusalName::Unbound => b"Unbound",
-        RefusalName::NoFunction => b"NoFunction",
-        RefusalName::NoType => b"NoType",
-        RefusalName::TooTall => b"TooTall",
-        RefusalName::TooWide => b"TooWide",
-        RefusalName::Mismatch => b"Mismatch",
-        RefusalName::OutOfOrder => b"OutOfOrder",
-        RefusalName::Jumpy => b"Jumpy",
-        RefusalName::WaitNull => b"WaitNull",
-        RefusalName::Arity => b"Arity",
-        RefusalName::History => b"History",
-        RefusalName::NotStream => b"NotStream",
-        RefusalName::WideOutput => b"WideOutput",
     }
 }
 

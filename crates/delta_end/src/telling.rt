@@ -2,14 +2,15 @@
 
 ghost use Rattle.std.specs.Prelude.{◌≡◌, ◌++◌, [], ◌∷◌, List, IsOk, codes, decimal};
 ghost use Rattle.port.specs.Faults.{HasCause};
-ghost use Rattle.delta_end.specs.Note.{note_of, name_of, refusal_name as name_of_refusal, refusal_note, table_note, objection_note, place_of, Says};
+ghost use Rattle.program_refusal.specs.RefusalName.{refusal_name as name_of_refusal};
+ghost use Rattle.delta_end.specs.Note.{note_of, name_of, refusal_note, table_note, objection_note, place_of, Says};
 
 use crate::end::{End, InputFault};
-use crate::name::{bound_name, derivation_name, input_name, refusal_name, table_name};
+use crate::name::{bound_name, derivation_name, input_name, table_name};
 use crate::objection::Objection;
-use crate::refusal::Refusal;
 use event_frame::FrameFault;
 use port::{IoFault, Sink};
+use program_refusal::{Refusal, refusal_name};
 
 // Writes all of a text, or a part of it at an error.
 fn say<N: Sink>(sink: &mut N, text: &[u8]) -> Result<(), IoFault>

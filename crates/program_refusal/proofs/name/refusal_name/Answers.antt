@@ -1,5 +1,5 @@
 use Rattle.std.proofs.Common.{refl}
-use Rattle.delta_end.proofs.name.refusal_name.Goals as goal
+use Rattle.program_refusal.proofs.name.refusal_name.Goals as goal
 
 pub returns-in-LongText : goal.returns-in-LongText
 returns-in-LongText c = rw c.in-LongText.is refl
