@@ -87,7 +87,7 @@ Tells text schedule tables budget written Long = ⊥
 abbrev pub IsOfFeed : End → Type 0
 IsOfFeed Done = ⊤
 IsOfFeed (Refused why) = ⊤
-IsOfFeed (Objected what) = ⊤
+IsOfFeed (Objected (Table name file row)) = ⊤
 IsOfFeed (Budget at) = ⊤
 IsOfFeed (Deep at) = ⊤
 IsOfFeed FileFailed = ⊤
