@@ -29,7 +29,8 @@ abbrev pub leaf_app : Text → Takes → App
 leaf_app name takes =
     with_rule_if takes.frames (with_rule_if takes.v2 (with_rule_if takes.budget
     (with_rule_if (nat_lt 2 takes.operands) (with_rule_if (nat_lt 1 takes.operands) (with_rule_if (nat_lt 0 takes.operands) (new_app name)
-    (operand_rule (codes "FIRST"))) (operand_rule (codes "SECOND"))) (rest_rule (codes "REST"))) (budget_rule (codes "budget"))) (flag_rule (codes "v2"))) (flag_rule (codes "frames"))
+    (operand_rule (codes "FIRST"))) (operand_rule (codes "SECOND"))) (rest_rule (codes "REST"))) (budget_rule (codes "budget")))
+    (flag_rule (codes "v2"))) (flag_rule (codes "frames"))
 
 -- the command alone: the words begin with the subcommand, and there is no help and no version
 abbrev pub delta_top : App
@@ -50,5 +51,6 @@ with_command app name c = with_subcommand app (leaf_app name (takes_of c)).top
 -- the whole command
 abbrev pub delta_app : App
 delta_app = with_command (with_command (with_command (with_command (with_command (with_command (with_command (with_command (with_command delta_top
-    (codes "run") command.Run) (codes "eval") command.Eval) (codes "check") command.Check) (codes "print") command.Print) (codes "text") command.Text) (codes "gen") command.Gen) (codes "bound") command.Bound)
+    (codes "run") command.Run) (codes "eval") command.Eval) (codes "check") command.Check) (codes "print") command.Print) (codes "text")
+    command.Text) (codes "gen") command.Gen) (codes "bound") command.Bound)
     (codes "derive") command.Derive) (codes "feed") command.Feed
