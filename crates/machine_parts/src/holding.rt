@@ -81,10 +81,17 @@ pub fn hold(alloc: Global, held: &mut [Entry], scope: &Scope<'_>) -> Result<(), 
     ensures { OnOk result (map entry_in held.new ≡ held_more (map entry_in held.old) (streams_in scope.now)) }
 {
     for entry in held.iter_mut() {
-        let next = stream_at(scope, entry.name, &Prefix::EpsEmp);
-        join_behind(alloc, &mut entry.prefix, next)?;
+        hold_one(alloc, entry, &*scope)?;
     }
     Ok(())
+}
+
+// What comes on a held name, put behind what is held of it.
+fn hold_one(alloc: Global, entry: &mut Entry, scope: &Scope<'_>) -> Result<(), Memory>
+    ensures { OnOk result (entry_in entry.new ≡ record { name = entry.old.name.0; type = type_of entry.old.ty; prefix = join (prefix_of entry.old.prefix) (streams_in scope.now entry.old.name.0) }) }
+{
+    let next = stream_at(scope, entry.name, &Prefix::EpsEmp);
+    join_behind(alloc, &mut entry.prefix, next)
 }
 
 fn one_more(alloc: Global, entry: &Entry, scope: &Scope<'_>) -> Result<Entry, Memory>

@@ -7,4 +7,5 @@ use Rattle.machine_parts.proofs.holding.hold.Given as goal
 
 abbrev pub invariant-loop-entry : goal.invariant-loop-entry
 invariant-loop-entry l =
-    map entry_in l.held ≡ held_more (map entry_in (take l.entry-index l.initial.held)) (streams_in l.scope) ++ map entry_in (drop l.entry-index l.initial.held)
+    map entry_in l.held
+    ≡ held_more (take l.entry-index (map entry_in l.initial.held)) (streams_in l.scope) ++ drop l.entry-index (map entry_in l.initial.held)
