@@ -8,11 +8,10 @@ ghost use Rattle.machine_parts.specs.Parameters.{bound_to};
 
 use crate::entry::Entry;
 use bunch::Name;
+pub use core_term::params::leaves;
 use std::alloc::Global;
 use stream_prefix::Prefix;
 use stream_type::{Memory, Ty};
-
-pub use core_term::params::leaves;
 
 /// Parameters with what comes on each: `bound_to` in `specs/Parameters.antt`. Its only error is want of memory.
 pub fn bound(alloc: Global, params: &[(Name, Ty)], outputs: &[Prefix]) -> Result<Vec<Entry>, Memory>

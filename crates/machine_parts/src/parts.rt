@@ -10,13 +10,12 @@ ghost use Rattle.delta_state.specs.StateTree.{StateTree};
 ghost use Rattle.delta_state.specs.Rest.{sum_rest, star_rest_state, cut_state};
 ghost use Rattle.machine_parts.specs.Parts.{sided_prefix, taken_prefix, cut_prefix};
 
-use std::alloc::Global;
-use stream_prefix::{Prefix, StarEnd};
-use stream_type::{Memory, Ty};
-
 pub use core_term::parts::{
     cat_types, copied, nothing_yet, par_parts, par_types, star_types, sum_types,
 };
+use std::alloc::Global;
+use stream_prefix::{Prefix, StarEnd};
+use stream_type::{Memory, Ty};
 
 /// What came on the first of two streams, of which one comes after the other, or nothing.
 #[tactic(auto, using(crate::proofs::StarForms::star_forms))]
