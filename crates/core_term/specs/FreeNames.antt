@@ -163,11 +163,6 @@ names_of_body b = past_names b ++ (leaf_names b.params ++ names_in b.body)
 abbrev pub AreNamed : ℕ → CoreBody → Type 0
 AreNamed texts b = (x : ℕ) → holds x (names_of_body b) ≡ true → x < texts
 
--- the same of every body of a program
-pub record HasTexts (c : CoreProgram) : Type 0 where
-  pub funs_named : All (AreNamed (length c.texts)) c.funs
-  pub main_named : AreNamed (length c.texts) c.main
-
 -- what each program keeps: every body binds each name at most once, each bound name has a text, the
 -- main program has no historical parameters, and there are fewer than 2^32 nodes
 pub record IsCore (c : CoreProgram) : Type 0 where
