@@ -10,10 +10,10 @@ ghost use Rattle.command_feed.specs.Given.{AreHeld, IsUnwritten};
 use crate::running::text_given;
 use checked_program::accept;
 use delta_end::End;
-use program_text::TextFault;
 use delta_loop::send;
 use delta_state::Machine;
 use port::{IoFault, Link, Shelf};
+use program_text::TextFault;
 use std::alloc::Global;
 
 // What is to be written for a text and for the tables in files, or how the command ends without it.

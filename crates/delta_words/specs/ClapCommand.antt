@@ -29,8 +29,8 @@ abbrev pub leaf_app : Text → Takes → App
 leaf_app name takes =
     with_rule_if takes.frames (with_rule_if takes.v2 (with_rule_if takes.budget
     (with_rule_if (nat_lt 2 takes.operands) (with_rule_if (nat_lt 1 takes.operands) (with_rule_if (nat_lt 0 takes.operands) (new_app name)
-    (operand_rule (codes "FIRST"))) (operand_rule (codes "SECOND"))) (rest_rule (codes "REST"))) (budget_rule (codes "budget"))) (flag_rule (codes "v2")))
-    (flag_rule (codes "frames"))
+    (operand_rule (codes "FIRST"))) (operand_rule (codes "SECOND"))) (rest_rule (codes "REST"))) (budget_rule (codes "budget")))
+    (flag_rule (codes "v2"))) (flag_rule (codes "frames"))
 
 -- the command alone: the words begin with the subcommand, and there is no help and no version
 abbrev pub delta_top : App

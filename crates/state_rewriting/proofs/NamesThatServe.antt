@@ -1,5 +1,6 @@
 -- Names that serve for others, in each context on the way into a state.
-use Rattle.std.proofs.Common.{⊎_elim, ◌≡◌, ◌∙◌, ◌&&◌, ◌⊎◌, inl, inr, ℕ, Bool, true, false, true≢false, List, [], eqb, if◌then◌else◌, ap, ap₂, sym}
+use Rattle.std.proofs.Common.{⊎_elim, ◌≡◌, ◌≢◌, ◌∙◌, ◌&&◌, ◌⊎◌, inl, inr, ℕ, Bool, true, false, true≢false, List, [], ◌∷◌, eqb, if◌then◌else◌, ap, ap₂, refl, subst, sym}
+use Rattle.std.proofs.lemmas.Bool.{eqb-true, ne_eqb}
 use Rattle.std.specs.Prelude.{Some, is_some}
 use Rattle.std.specs.List.{list_all}
 use Rattle.stream_type.specs.StreamType.{StreamType}
@@ -7,12 +8,12 @@ use Rattle.bunch.specs.Names.{holds}
 use Rattle.bunch.specs.Facts.{Facts, place_let, place_like, before_let, after_let}
 use Rattle.core_term.specs.FreeNames.{without}
 use Rattle.core_term.specs.Typing.{Context, is_before, AllBefore, with_name, with_name_like, with_fact, with_parts}
-use Rattle.core_term.proofs.Sides.{and_first, and_second, all-holds, holds-all}
+use Rattle.core_term.proofs.Sides.{and_first, and_second, all-holds, holds-all, eqb-same}
 use Rattle.core_term.proofs.Without.{holds-without, holds-kept, differs-kept}
 use Rattle.delta_state.specs.StateTree.{ArgumentTrees}
 use Rattle.delta_state.specs.StateTyping.{context_of_arguments}
-use Rattle.state_rewriting.proofs.OtherNames.{apart_from, at_other_name}
-use Rattle.state_rewriting.proofs.NamesServing.{Beside, beside_both, serves_let, serves_like, serves_fact}
+use Rattle.state_rewriting.proofs.OtherNames.{apart_from, at_other_name, unless_chosen}
+use Rattle.state_rewriting.proofs.NamesServing.{Beside, beside_both, let_at, like_at, serves_let, serves_like, serves_fact}
 use Rattle.state_steps.proofs.FactsWithin.{WithinOn}
 use Rattle.state_rewriting.proofs.FittingParts.{ServesFor, Serves, Served}
 
@@ -101,3 +102,73 @@ module _ (N : ℕ → ℕ → Type 0) where
         go u v true false h = all (λ w. c.order w v) (λ w z n. (k w z n).order.after v) h
         go u v false true h = all (λ w. c.order u w) (λ w z n. (k w z n).order.before u) h
         go u v false false h = h
+
+-- where y was just bound to z, z serves for it
+pub alias_serves : (y z : ℕ) (O : Facts) → ServesFor y z (place_let y (z ∷ []) true O)
+alias_serves y z O = by_name (eqb z y) refl
+  where
+    after : (u : ℕ) (b : Bool) → let_at y (z ∷ []) O y u true b ≡ true → let_at y (z ∷ []) O z u false b ≡ true
+    after u true h = absurd (true≢false (sym h))
+    after u false h = and_first (O z u) true h
+
+    before : (u : ℕ) (a : Bool) → let_at y (z ∷ []) O u y a true ≡ true → let_at y (z ∷ []) O u z a false ≡ true
+    before u true h = absurd (true≢false (sym h))
+    before u false h = and_first (O u z) true h
+
+    by_name : (b : Bool) → eqb z y ≡ b → ServesFor y z (place_let y (z ∷ []) true O)
+    by_name true e = subst (λ v. ServesFor y v (place_let y (z ∷ []) true O)) (sym (eqb-true z y e)) (record { after = λ u h. h; before = λ u h. h })
+    by_name false e = record {
+      after = λ u h. ap (λ a. let_at y (z ∷ []) O z u a (eqb u y)) e ∙ after u (eqb u y) (sym (ap (λ a. let_at y (z ∷ []) O y u a (eqb u y)) (eqb-same y)) ∙ h);
+      before = λ u h. ap (λ b. let_at y (z ∷ []) O u z (eqb u y) b) e ∙ before u (eqb u y) (sym (ap (λ b. let_at y (z ∷ []) O u y (eqb u y) b) (eqb-same y)) ∙ h);
+    }
+
+-- where x and y were just made the parts of z, z serves for x
+pub pair_serves : (x y z : ℕ) (O : Facts) → x ≢ y → y ≢ z → x ≢ z → ServesFor x z (place_like y z (place_like x z O))
+pair_serves x y z O n m o = record { after = after; before = before }
+  where
+    -- the order once x is placed like z, and y isn't yet
+    P : Facts
+    P = place_like x z O
+
+    zy : eqb z y ≡ false
+    zy = ne_eqb z y (λ i. m (sym i))
+
+    zx : eqb z x ≡ false
+    zx = ne_eqb z x (λ i. o (sym i))
+
+    -- between x and z there is nothing
+    none : P x z ≡ false
+    none = ap (λ a. like_at z O x z a (eqb z x)) (eqb-same x) ∙ (ap (λ b. like_at z O x z true b) zx ∙ ap (λ b. if b then false else O z z) (eqb-same z))
+
+    back : P z x ≡ false
+    back = ap (λ a. like_at z O z x a (eqb x x)) zx ∙ (ap (λ b. like_at z O z x false b) (eqb-same x) ∙ ap (λ b. if b then false else O z z) (eqb-same z))
+
+    -- so z serves for x there
+    after_part : (u : ℕ) → P x u ≡ true → P z u ≡ true
+    after_part u h = ap (λ a. like_at z O z u a (eqb u x)) zx ∙ go (eqb u x) (sym (ap (λ a. like_at z O x u a (eqb u x)) (eqb-same x)) ∙ h)
+      where
+        go : (b : Bool) → like_at z O x u true b ≡ true → like_at z O z u false b ≡ true
+        go true k = absurd (true≢false (sym k))
+        go false k = unless_chosen (eqb u z) (O z u) k
+
+    before_part : (u : ℕ) → P u x ≡ true → P u z ≡ true
+    before_part u h = ap (λ b. like_at z O u z (eqb u x) b) zx ∙ go (eqb u x) (sym (ap (λ b. like_at z O u x (eqb u x) b) (eqb-same x)) ∙ h)
+      where
+        go : (a : Bool) → like_at z O u x a true ≡ true → like_at z O u z a false ≡ true
+        go true k = absurd (true≢false (sym k))
+        go false k = unless_chosen (eqb u z) (O u z) k
+
+    -- and once y is placed like z too
+    after : (u : ℕ) → place_like y z P x u ≡ true → place_like y z P z u ≡ true
+    after u h = ap (λ a. like_at z P z u a (eqb u y)) zy ∙ go (eqb u y) (sym (ap (λ a. like_at z P x u a (eqb u y)) (ne_eqb x y n)) ∙ h)
+      where
+        go : (b : Bool) → like_at z P x u false b ≡ true → like_at z P z u false b ≡ true
+        go true k = absurd (true≢false (sym k ∙ (ap (λ a. if a then false else P x z) (ne_eqb x z o) ∙ none)))
+        go false k = after_part u k
+
+    before : (u : ℕ) → place_like y z P u x ≡ true → place_like y z P u z ≡ true
+    before u h = ap (λ b. like_at z P u z (eqb u y) b) zy ∙ go (eqb u y) (sym (ap (λ b. like_at z P u x (eqb u y) b) (ne_eqb x y n)) ∙ h)
+      where
+        go : (a : Bool) → like_at z P u x a false ≡ true → like_at z P u z a false ≡ true
+        go true k = absurd (true≢false (sym k ∙ (ap (λ b. if b then false else P z x) (ne_eqb x z o) ∙ back)))
+        go false k = before_part u k

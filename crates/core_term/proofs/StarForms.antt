@@ -45,5 +45,5 @@ sum_run-star r [] Done a b = refl
 sum_run-star r [] (First' x p) a b = refl
 sum_run-star r (p ∷ ps) e a b = refl
 
--- for functions that ask for the form of a prefix
+-- for functions over the parts of prefixes
 pub ruleset star_forms = (row_of-hidden, left_part-star, right_part-star, first_part-star, second_part-star, as_star-star, sum_run-star)
