@@ -1,0 +1,2 @@
+pub mod NamesInTurn
+pub mod GoodStates
