@@ -1,10 +1,11 @@
 -- A kept state is typed just where each of its states is good, and at most one of them is the first that isn't.
-use Rattle.std.proofs.Common.{◌≡◌, ◌≢◌, ◌∙◌, ◌<◌, ◌≤◌, ◌⊎◌, inl, inr, ◌+◌, ℕ, zero, suc, Bool, true, false, true≢false, ◌&&◌, not, List, [], ◌∷◌, ◌++◌, eqb, if◌then◌else◌, ap, refl, sym, subst, append_assoc, append-nil, arith}
+use Rattle.std.proofs.Common.{◌≡◌, ◌≢◌, ◌∙◌, ◌<◌, ◌≤◌, ◌⊎◌, inl, inr, ◌+◌, ℕ, zero, suc, Bool, true, false, true≢false, ◌&&◌, ◌||◌, not, List, [], ◌∷◌, ◌++◌, eqb, if◌then◌else◌, ap, refl, sym, subst, append_assoc, append-nil, arith}
 use Rattle.std.proofs.lemmas.Bool.{eqb-true}
 use Rattle.std.proofs.lemmas.List.Elements.{All-append, All-nil, All-cons, All-head, All-tail}
 use Rattle.std.specs.Prelude.{Option, Some, None, is_some, slice_get, IsSomeAnd, ⊤, ◌↔◌}
 use Rattle.std.specs.List.{All}
 use Rattle.stream_type.specs.StreamType.{StreamType, cat, par, null_of}
+use Rattle.stream_prefix.specs.StreamPrefix.{der}
 use Rattle.bunch.specs.Names.{holds}
 use Rattle.bunch.specs.BunchTree.{leaf_names}
 use Rattle.core_term.specs.CoreTerm.{CoreBody, CoreProgram}
@@ -16,7 +17,7 @@ use Rattle.core_term.proofs.Sides.{and_first, and_second, holds-head, holds-left
 use Rattle.core_term.proofs.BoundOnce.{not_again, distinct_tail, distinct_left, distinct_right, distinct_apart}
 use Rattle.delta_state.specs.Apart.{IsApart, BindsApart}
 use Rattle.delta_state.specs.StateTree.{LaterTree, HeldName, StateTree, ArgumentTrees, sink, var_state, par_state, cat_state, let_state, let_par_state, let_cat_state, sum_state, star_state, wait_state, frame_state, no_arguments, argument_before, argument_names, laters_of, laters_in}
-use Rattle.delta_state.specs.StateTyping.{HasStateType, HaveArgumentTypes, IsTypedLater, with_known, with_past, marks_held, context_held, context_of_arguments}
+use Rattle.delta_state.specs.StateTyping.{HasStateType, HaveArgumentTypes, IsTypedLater, with_known, with_past, marks_held, marks_of_arguments, context_held, context_of_arguments}
 use Rattle.delta_state.specs.Settled.{is_settled, are_settled}
 use Rattle.delta_state.specs.Stands.{depth_after}
 use Rattle.delta_state.proofs.WholeStates.{all_left, all_right}
@@ -25,12 +26,12 @@ use Rattle.kept_state.specs.KeptTree.{KeptTree}
 use Rattle.kept_state.specs.KeptNames.{BodiesOnce, BodiesOnceIn, PastsApart, PastsApartIn, IsPastApart}
 use Rattle.kept_state.specs.KeptTyping.{IsTypedKept, context_kept, types_kept}
 use Rattle.kept_state.proofs.BoundApart.{typed_once_is_apart}
-use Rattle.kept_state.proofs.TidyKeptStates.{held_there, argument_there}
 use Rattle.kept_state.proofs.TypedWaits.{NotBound, not_bound_put, not_left, not_right, not_tail, not_bound_two}
 use Rattle.kept_check.specs.InTurn.{StateAt, own_names, names_in_turn, names_of_parts, names_of_arguments, states_of, states_in, states_of_arguments, states_kept}
 use Rattle.kept_check.specs.StateRules.{IsGoodLater, IsGoodSum, IsGoodStar, IsGoodWait, FollowsRule, IsGood, IsGoodAt}
 use Rattle.kept_check.specs.FirstUntyped.{IsFirstUntyped}
 use Rattle.kept_check.specs.Laws.{TypedIsGood, UntypedIsNotTyped, OneFirst}
+use Rattle.kept_check.specs.Walk.{AreGood}
 use Rattle.kept_check.proofs.NamesInTurn.{distinct_in_turn, distinct_bound}
 
 and_both : (a b : Bool) → a ≡ true → b ≡ true → (a && b) ≡ true
@@ -74,33 +75,47 @@ within_put x s types before h w y i = go (eqb y x) refl i
 not_after : (types : ℕ → Option StreamType) (before own : List ℕ) → Within types before → is_distinct (before ++ own) ≡ true → NotBound types own
 not_after types before own w d x i m = distinct_apart before own d x (w x i) m
 
+-- a name of which something is held is a stream of the context
+held_there : (c : Context) (held : List HeldName) → All (λ h. c.types h.name ≡ Some (der h.prefix h.type)) held → (x : ℕ) → is_some (marks_held held x) ≡ true → is_some (c.types x) ≡ true
+held_there c [] a x m = absurd (true≢false (sym m))
+held_there c (h ∷ held) a x m =
+    go (eqb x h.name) refl m (All-head (λ h. c.types h.name ≡ Some (der h.prefix h.type)) h held a) (held_there c held (All-tail (λ h. c.types h.name ≡ Some (der h.prefix h.type)) h held a) x)
+  where
+    go : (i : Bool) → eqb x h.name ≡ i → is_some (if i then Some h.type else marks_held held x) ≡ true → c.types h.name ≡ Some (der h.prefix h.type) → (is_some (marks_held held x) ≡ true → is_some (c.types x) ≡ true) → is_some (c.types x) ≡ true
+    go true e k o f = subst (λ z. is_some (c.types z) ≡ true) (sym (eqb-true x h.name e)) (ap is_some o)
+    go false e k o f = f k
+
+-- a parameter is one of the names of the arguments
+argument_there : (args : ArgumentTrees) (x : ℕ) → is_some (marks_of_arguments args x) ≡ true → holds x (argument_names args) ≡ true
+argument_there no_arguments x m = absurd (true≢false (sym m))
+argument_there (argument_before y t s args) x m = go (eqb x y) m (argument_there args x)
+  where
+    go : (i : Bool) → is_some (if i then Some t else marks_of_arguments args x) ≡ true → (is_some (marks_of_arguments args x) ≡ true → holds x (argument_names args) ≡ true) → (i || holds x (argument_names args)) ≡ true
+    go true k f = refl
+    go false k f = f k
+
 module _ (funs : List CoreBody) (d : ℕ) where
   abbrev Deep : LaterTree → Type 0
   Deep l = d ≤ l.depth
 
-  -- each of these is good
-  abbrev AreGood : List StateAt → Type 0
-  AreGood [] = ⊤
-  AreGood (j ∷ js) = IsGood funs d j × AreGood js
-
-  good_both : (js ks : List StateAt) → AreGood js → AreGood ks → AreGood (js ++ ks)
+  good_both : (js ks : List StateAt) → AreGood funs d js → AreGood funs d ks → AreGood funs d (js ++ ks)
   good_both [] ks g h = h
   good_both (j ∷ js) ks g h = (g.0, good_both js ks g.1 h)
 
-  good_left : (js ks : List StateAt) → AreGood (js ++ ks) → AreGood js
+  good_left : (js ks : List StateAt) → AreGood funs d (js ++ ks) → AreGood funs d js
   good_left [] ks g = tt
   good_left (j ∷ js) ks g = (g.0, good_left js ks g.1)
 
-  good_right : (js ks : List StateAt) → AreGood (js ++ ks) → AreGood ks
+  good_right : (js ks : List StateAt) → AreGood funs d (js ++ ks) → AreGood funs d ks
   good_right [] ks g = g
   good_right (j ∷ js) ks g = good_right js ks g.1
 
-  good_at : (js : List StateAt) (n : ℕ) (j : StateAt) → AreGood js → slice_get js n ≡ Some j → IsGood funs d j
+  good_at : (js : List StateAt) (n : ℕ) (j : StateAt) → AreGood funs d js → slice_get js n ≡ Some j → IsGood funs d j
   good_at [] n j g e = absurd (cc e)
   good_at (k ∷ js) zero j g e = subst (IsGood funs d) (cc e) g.0
   good_at (k ∷ js) (suc n) j g e = good_at js n j g.1 e
 
-  good_all : (js : List StateAt) → ((n : ℕ) (j : StateAt) → slice_get js n ≡ Some j → IsGood funs d j) → AreGood js
+  good_all : (js : List StateAt) → ((n : ℕ) (j : StateAt) → slice_get js n ≡ Some j → IsGood funs d j) → AreGood funs d js
   good_all [] f = tt
   good_all (j ∷ js) f = (f 0 j refl, good_all js (λ n. f (suc n)))
 
@@ -110,7 +125,7 @@ module _ (funs : List CoreBody) (d : ℕ) where
   mutual
     -- each state in a typed state is good
     goods : (s : StateTree) (c : Context) (r : StreamType) (before : List ℕ) → HasStateType funs (is_inert_fun funs) c s r → is_settled s r ≡ true → BodiesOnce s → PastsApart s → All Deep (laters_of s) → is_distinct (before ++ names_in_turn s) ≡ true
-        → AreGood (states_of c r before s)
+        → AreGood funs d (states_of c r before s)
     goods (sink t) c r before h i o p e n = (record { rule = h; once = n }, tt)
     goods (var_state x) c r before h i o p e n = (record { rule = h; once = n }, tt)
     goods (par_state a b) c (par s t) before h i o p e n =
@@ -190,7 +205,7 @@ module _ (funs : List CoreBody) (d : ℕ) where
     )
 
     goods_in : (args : ArgumentTrees) (c : Context) (before : List ℕ) → HaveArgumentTypes funs (is_inert_fun funs) c args → are_settled args ≡ true → BodiesOnceIn args → PastsApartIn args → All Deep (laters_in args)
-        → is_distinct (before ++ names_of_arguments args) ≡ true → AreGood (states_of_arguments c before args)
+        → is_distinct (before ++ names_of_arguments args) ≡ true → AreGood funs d (states_of_arguments c before args)
     goods_in no_arguments c before h i o p e n = tt
     goods_in (argument_before x t s args) c before h i o p e n =
         good_both (states_of c t before s) (states_of_arguments c (before ++ names_in_turn s) args)
@@ -262,7 +277,7 @@ module _ (funs : List CoreBody) (d : ℕ) where
 
   mutual
     -- a state of which each state in it is good is as a kept state asks
-    whole : (s : StateTree) (c : Context) (r : StreamType) (before : List ℕ) → Within c.types before → AreGood (states_of c r before s) → IsWhole c s r before
+    whole : (s : StateTree) (c : Context) (r : StreamType) (before : List ℕ) → Within c.types before → AreGood funs d (states_of c r before s) → IsWhole c s r before
     whole (sink t) c r before w g = record { typed = g.0.rule; settled = refl; bodies = tt; pasts = tt; deep = All-nil Deep; once = g.0.once }
     whole (var_state x) c r before w g = record { typed = g.0.rule; settled = refl; bodies = tt; pasts = tt; deep = All-nil Deep; once = g.0.once }
     whole (par_state a b) c r before w g =
@@ -409,7 +424,7 @@ module _ (funs : List CoreBody) (d : ℕ) where
           once = whole_of before [] (names_of_arguments args) f.once;
         }
 
-    all_whole : (args : ArgumentTrees) (c : Context) (before : List ℕ) → Within c.types before → is_distinct before ≡ true → AreGood (states_of_arguments c before args) → AreWhole c args before
+    all_whole : (args : ArgumentTrees) (c : Context) (before : List ℕ) → Within c.types before → is_distinct before ≡ true → AreGood funs d (states_of_arguments c before args) → AreWhole c args before
     all_whole no_arguments c before w o g = record { typed = tt; settled = refl; bodies = tt; pasts = tt; deep = All-nil Deep; once = ap is_distinct (append-nil before) ∙ o }
     all_whole (argument_before x t s args) c before w o g =
         let js = states_of c t before s in

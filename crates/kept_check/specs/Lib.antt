@@ -8,3 +8,4 @@ pub mod Free
 pub mod Walk
 pub mod Given
 pub mod Laters
+pub mod Sizes

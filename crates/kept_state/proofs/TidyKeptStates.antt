@@ -25,7 +25,7 @@ use Rattle.kept_state.proofs.TidyPrograms.{there}
 use Rattle.kept_state.proofs.TypedWaits.{NotBound, not_bound_put, not_left, not_right, not_tail, not_bound_there, not_bound_two, typed_waits}
 
 -- a name of which something is held is a stream of the context
-pub held_there : (c : Context) (held : List HeldName) → All (λ h. c.types h.name ≡ Some (der h.prefix h.type)) held → (x : ℕ) → is_some (marks_held held x) ≡ true → is_some (c.types x) ≡ true
+held_there : (c : Context) (held : List HeldName) → All (λ h. c.types h.name ≡ Some (der h.prefix h.type)) held → (x : ℕ) → is_some (marks_held held x) ≡ true → is_some (c.types x) ≡ true
 held_there c [] a x m = absurd (true≢false (sym m))
 held_there c (h ∷ held) a x m =
     go (eqb x h.name) refl m (All-head (λ h. c.types h.name ≡ Some (der h.prefix h.type)) h held a) (held_there c held (All-tail (λ h. c.types h.name ≡ Some (der h.prefix h.type)) h held a) x)
@@ -35,7 +35,7 @@ held_there c (h ∷ held) a x m =
     go false e k o f = f k
 
 -- a parameter is one of the names of the arguments
-pub argument_there : (args : ArgumentTrees) (x : ℕ) → is_some (marks_of_arguments args x) ≡ true → holds x (argument_names args) ≡ true
+argument_there : (args : ArgumentTrees) (x : ℕ) → is_some (marks_of_arguments args x) ≡ true → holds x (argument_names args) ≡ true
 argument_there no_arguments x m = absurd (true≢false (sym m))
 argument_there (argument_before y t s args) x m = go (eqb x y) m (argument_there args x)
   where
