@@ -19,6 +19,18 @@ use Rattle.delta_state.specs.StateTyping.{context_of_arguments}
 use Rattle.kept_state.specs.KeptTree.{KeptTree}
 use Rattle.kept_state.specs.KeptTyping.{context_kept}
 
+-- x is the stream that the state a gives, of which the type s is left
+abbrev pub with_state : ℕ → StreamType → StateTree → Context → Context
+with_state x s a c = with_name x s (place_let x (free_in_state a) true c.order) c
+
+-- x and y are the sides of z's stream
+abbrev pub with_sides : ℕ → ℕ → ℕ → Context → Context
+with_sides x y z c = with_parts x (par_left (type_at c z)) y (par_right (type_at c z)) z c
+
+-- x and y are the first part of z's stream and the second
+abbrev pub with_steps : ℕ → ℕ → ℕ → Context → Context
+with_steps x y z c = with_fact x y (with_parts x (cat_first (type_at c z)) y (cat_second (type_at c z)) z c)
+
 -- the names that a state binds by its own form, and in its code that isn't reached
 abbrev pub own_names : StateTree → List ℕ
 own_names (sink t) = []
@@ -34,19 +46,15 @@ own_names (wait_state x t held l) = bound_names l.term
 own_names (frame_state args s) = []
 
 abbrev mutual
-  -- the names that a state binds outside all frames' bodies, in the order of its states
-  pub names_in_turn : StateTree → List ℕ
-  names_in_turn s = own_names s ++ names_of_parts s
-
-  -- those that the parts of its form bind
+  -- the names that the parts of a state's form bind outside all frames' bodies, in the order of their states
   pub names_of_parts : StateTree → List ℕ
   names_of_parts (sink t) = []
   names_of_parts (var_state x) = []
-  names_of_parts (par_state a b) = names_in_turn a ++ names_in_turn b
-  names_of_parts (cat_state a l) = names_in_turn a
-  names_of_parts (let_state x s a b) = names_in_turn a ++ names_in_turn b
-  names_of_parts (let_par_state x y z a) = names_in_turn a
-  names_of_parts (let_cat_state x y z a) = names_in_turn a
+  names_of_parts (par_state a b) = (own_names a ++ names_of_parts a) ++ (own_names b ++ names_of_parts b)
+  names_of_parts (cat_state a l) = own_names a ++ names_of_parts a
+  names_of_parts (let_state x s a b) = (own_names a ++ names_of_parts a) ++ (own_names b ++ names_of_parts b)
+  names_of_parts (let_par_state x y z a) = own_names a ++ names_of_parts a
+  names_of_parts (let_cat_state x y z a) = own_names a ++ names_of_parts a
   names_of_parts (sum_state z t held x l y m) = []
   names_of_parts (star_state z t held l y ys m) = []
   names_of_parts (wait_state x t held l) = []
@@ -54,7 +62,11 @@ abbrev mutual
 
   pub names_of_arguments : ArgumentTrees → List ℕ
   names_of_arguments no_arguments = []
-  names_of_arguments (argument_before x t s args) = names_in_turn s ++ names_of_arguments args
+  names_of_arguments (argument_before x t s args) = (own_names s ++ names_of_parts s) ++ names_of_arguments args
+
+-- the names that a state binds outside all frames' bodies, in the order of its states
+abbrev pub names_in_turn : StateTree → List ℕ
+names_in_turn s = own_names s ++ names_of_parts s
 
 -- a state, the type that it is to have, its context, and the names that are bound before it
 pub record StateAt : Type 0 where
@@ -63,29 +75,42 @@ pub record StateAt : Type 0 where
   pub before : List ℕ
   pub state : StateTree
 
-abbrev mutual
-  -- a state and the states in it, in turn, where these names are bound before it
-  pub states_of : Context → StreamType → List ℕ → StateTree → List StateAt
-  states_of c r before s = record { context = c; wanted = r; before = before; state = s } ∷ states_in c r (before ++ own_names s) s
+abbrev pub state_at : Context → StreamType → List ℕ → StateTree → StateAt
+state_at c r before s = record { context = c; wanted = r; before = before; state = s }
 
-  -- the states in a state, where these names are bound before them
+abbrev mutual
+  -- the states in a state, in turn, where these names are bound before them
   pub states_in : Context → StreamType → List ℕ → StateTree → List StateAt
   states_in c r before (sink t) = []
   states_in c r before (var_state x) = []
-  states_in c r before (par_state a b) = states_of c (par_left r) before a ++ states_of c (par_right r) (before ++ names_in_turn a) b
-  states_in c r before (cat_state a l) = states_of c (cat_first r) before a
+  states_in c r before (par_state a b) =
+      (state_at c (par_left r) before a ∷ states_in c (par_left r) (before ++ own_names a) a)
+      ++ (state_at c (par_right r) (before ++ names_in_turn a) b ∷ states_in c (par_right r) ((before ++ names_in_turn a) ++ own_names b) b)
+  states_in c r before (cat_state a l) = state_at c (cat_first r) before a ∷ states_in c (cat_first r) (before ++ own_names a) a
   states_in c r before (let_state x s a b) =
-      states_of c s before a ++ states_of (with_name x s (place_let x (free_in_state a) true c.order) c) r (before ++ names_in_turn a) b
-  states_in c r before (let_par_state x y z a) = states_of (with_parts x (par_left (type_at c z)) y (par_right (type_at c z)) z c) r before a
-  states_in c r before (let_cat_state x y z a) = states_of (with_fact x y (with_parts x (cat_first (type_at c z)) y (cat_second (type_at c z)) z c)) r before a
+      (state_at c s before a ∷ states_in c s (before ++ own_names a) a)
+      ++ (state_at (with_state x s a c) r (before ++ names_in_turn a) b
+          ∷ states_in (with_state x s a c) r ((before ++ names_in_turn a) ++ own_names b) b)
+  states_in c r before (let_par_state x y z a) =
+      state_at (with_sides x y z c) r before a ∷ states_in (with_sides x y z c) r (before ++ own_names a) a
+  states_in c r before (let_cat_state x y z a) =
+      state_at (with_steps x y z c) r before a ∷ states_in (with_steps x y z c) r (before ++ own_names a) a
   states_in c r before (sum_state z t held x l y m) = []
   states_in c r before (star_state z t held l y ys m) = []
   states_in c r before (wait_state x t held l) = []
-  states_in c r before (frame_state args s) = states_of_arguments c before args ++ states_of (context_of_arguments c args) r (argument_names args) s
+  states_in c r before (frame_state args s) =
+      states_of_arguments c before args
+      ++ (state_at (context_of_arguments c args) r (argument_names args) s
+          ∷ states_in (context_of_arguments c args) r (argument_names args ++ own_names s) s)
 
   pub states_of_arguments : Context → List ℕ → ArgumentTrees → List StateAt
   states_of_arguments c before no_arguments = []
-  states_of_arguments c before (argument_before x t s args) = states_of c t before s ++ states_of_arguments c (before ++ names_in_turn s) args
+  states_of_arguments c before (argument_before x t s args) =
+      (state_at c t before s ∷ states_in c t (before ++ own_names s) s) ++ states_of_arguments c (before ++ names_in_turn s) args
+
+-- a state and the states in it, in turn, where these names are bound before it
+abbrev pub states_of : Context → StreamType → List ℕ → StateTree → List StateAt
+states_of c r before s = state_at c r before s ∷ states_in c r (before ++ own_names s) s
 
 -- the states of a kept state in turn, where main's parameters are bound before them
 abbrev pub states_kept : CoreProgram → KeptTree → List StateAt

@@ -1,5 +1,5 @@
 -- What is asked of each state of a kept state for itself, whatever its parts are.
-use Rattle.std.specs.Prelude.{ℕ, ◌≡◌, ◌≤◌, false, ⊤, IsTrue, not, List, [], ◌∷◌, ◌++◌}
+use Rattle.std.specs.Prelude.{ℕ, ◌≡◌, ◌≤◌, true, false, Some, ⊤, IsTrue, List, [], ◌∷◌, ◌++◌}
 use Rattle.std.specs.List.{All}
 use Rattle.stream_type.specs.StreamType.{StreamType, cat, par, sum, star, null_of}
 use Rattle.stream_prefix.specs.StreamPrefix.{is_maximal}
@@ -19,7 +19,6 @@ use Rattle.delta_state.specs.Stands.{depth_after}
 use Rattle.kept_state.specs.KeptTree.{KeptTree}
 use Rattle.kept_state.specs.KeptNames.{IsPastApart}
 use Rattle.kept_state.specs.KeptTyping.{IsPlaced}
-use Rattle.kept_state.specs.KeptTree.{KeptTree}
 use Rattle.kept_check.specs.InTurn.{StateAt, own_names}
 
 module _ (funs : List CoreBody) (depth : ℕ) where
