@@ -18,8 +18,7 @@ mod within;
 
 pub use checking::check;
 pub use fault::{TypeCause, TypeFault};
-pub use forms::{cases, items, sides, steps};
 pub use inertness::{inert, inert_funs};
-pub use params::type_of_name;
-pub use scope::{Placed, Scope, before, place_of_let, stream_type};
+pub use passing::first_jumpy;
+pub use scope::{Known, Placed, Scope, before, place_of_let, stream_type};
 pub use within::{check_in, check_under};

@@ -24,7 +24,8 @@ use crate::rules::{all_before, follows_rule, parameters};
 use crate::stop::Stop;
 use bunch::Name;
 use core_term::Core;
-use delta_check::{Placed, Scope, place_of_let, sides, steps, stream_type};
+use core_term::parts::{cat_types, par_types};
+use delta_check::{Placed, Scope, place_of_let, stream_type};
 use delta_keep::{Argument, KeptState, Waiting};
 use std::alloc::Global;
 use stream_type::{Memory, Ty, copy};
@@ -132,24 +133,24 @@ fn check_parts<'a>(
         | KeptState::CaseStar(_, _, _, _, _, _, _)
         | KeptState::Wait(_, _, _, _) => Ok(number),
         KeptState::Par(a, b) => {
-            let (left, right) = sides(r, &Ty::Eps);
+            let (left, right) = par_types(r, &Ty::Eps);
             check_two(alloc, c, marks, depth, a, left, scope, b, right, scope, bound, number)
         }
         KeptState::Cat(a, _) => {
-            let (first, _) = steps(r, &Ty::Eps);
+            let (first, _) = cat_types(r, &Ty::Eps);
             check_state(alloc, c, marks, depth, a, first, scope, bound, number)
         }
         KeptState::Let(x, t, a, b) => {
             check_let(alloc, c, marks, depth, *x, t, a, b, r, scope, bound, number)
         }
         KeptState::LetPar(x, y, z, a) => {
-            let (left, right) = sides(type_or(scope, *z, &Ty::Eps), &Ty::Eps);
+            let (left, right) = par_types(type_or(scope, *z, &Ty::Eps), &Ty::Eps);
             let first = Scope::Like(*x, left, *z, scope);
             let inner = Scope::Like(*y, right, *z, &first);
             check_state(alloc, c, marks, depth, a, r, &inner, bound, number)
         }
         KeptState::LetCat(x, y, z, a) => {
-            let (left, right) = steps(type_or(scope, *z, &Ty::Eps), &Ty::Eps);
+            let (left, right) = cat_types(type_or(scope, *z, &Ty::Eps), &Ty::Eps);
             let first = Scope::Like(*x, left, *z, scope);
             let second = Scope::Like(*y, right, *z, &first);
             let inner = Scope::Fact(*x, *y, &second);

@@ -9,7 +9,7 @@ ghost use Rattle.kept_state.specs.KeptPlace.{semi_count, first_cuts, second_cuts
 ghost use Rattle.kept_check.specs.Given.{type_given};
 
 use bunch::{Bunch, Name};
-use delta_check::type_of_name;
+use core_term::params::type_of_name;
 use stream_type::{Ty, null, same};
 
 /// How many of n are left after the semicolons of a bunch, or None where there are more of these.
