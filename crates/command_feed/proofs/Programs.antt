@@ -1,5 +1,5 @@
 -- From a core and the tables that it was given to the text that it is the core of.
-use Rattle.std.proofs.Common.{◌≡◌, inl, inr, ℕ, pred, List, [], refl, sym, subst, ap, ◌∙◌}
+use Rattle.std.proofs.Common.{◌≡◌, inl, inr, ℕ, pred, List, [], ◌++◌, Option, refl, sym, subst, ap, append-nil, ◌∙◌}
 use Rattle.stream_type.specs.StreamType.{StreamType}
 use Rattle.stream_prefix.specs.StreamPrefix.{StreamPrefix}
 use Rattle.event_word.specs.StreamEvent.{StreamEvent}
@@ -19,9 +19,9 @@ use Rattle.delta_end.specs.declared.end.End.{End}
 use Rattle.delta_end.specs.declared.end.End.TheVariants.{Done, Usage, Refused, Input, Budget, Deep, Open, FileFailed, ReadFailed, WriteFailed, Memory, Long, Objected}
 use Rattle.delta_end.specs.End.{WriteCause}
 use Rattle.checked_program.specs.Acceptance.{IsAcceptedAs}
-use Rattle.command_feed.specs.Tables.{Takes, IsWrong, told_as, given_text, tables_word, IsCostlyAt, IsDeepAt}
-use Rattle.command_feed.specs.Feeding.{input_of, IsFed, IsUnfed, IsStopped, Spends, Sinks, Tells, IsOfFeed}
-use Rattle.command_feed.specs.Given.{EndsRunning, EndsUnwritten, Gives, IsUnwritten}
+use Rattle.command_feed.specs.Tables.{Takes, IsWrong, told_as, given_text, tables_word, IsCostlyAt, IsDeepAt, OfTables}
+use Rattle.command_feed.specs.Feeding.{input_of, IsFed, IsUnfed, IsStopped, Spends, Sinks, Tells, TellsFront, IsOfFeed}
+use Rattle.command_feed.specs.Given.{AreHeld, EndsRunning, EndsUnwritten, Gives, IsUnwritten}
 
 -- what is said of a program: its types, what it gives, its calls and their levels
 record Way : Type 0 where
@@ -103,6 +103,18 @@ module _ (text : List ℕ) (p : ProgramTree) (c : CoreProgram) (a : IsAcceptedAs
       by_run (inr (inr deep)) =
           subst (λ (e : End). Tells text schedule tables budget [] e) (sym deep.1)
           (record { program = p; core = c; accepted = a; takes = takes; stops = deep_too p c a.accepted deep.0 schedule tables deep.2 }, refl)
+
+-- the text of what is fed was sent, or a front of it
+module _ (holds : Option (List ℕ → List ℕ)) (names : List (List ℕ)) (text : List ℕ) (piece sent rest : List ℕ) (split : piece ≡ sent ++ rest)
+    (fed : (tables : List (List ℕ)) × AreHeld holds names tables × IsFed text tables piece) where
+  pub all_is_sent : rest ≡ [] → OfTables holds names (λ tables. IsFed text tables sent)
+  all_is_sent none files tells =
+      let whole : piece ≡ sent = split ∙ ap (λ (bytes : List ℕ). sent ++ bytes) none ∙ append-nil sent in
+      subst (λ (tables : List (List ℕ)). IsFed text tables sent) (fed.1 files tells) (subst (λ (out : List ℕ). IsFed text fed.0 out) whole fed.2)
+
+  pub front_is_sent : OfTables holds names (λ tables. TellsFront text tables sent)
+  front_is_sent files tells =
+      subst (λ (tables : List (List ℕ)). TellsFront text tables sent) (fed.1 files tells) (record { all = piece; fed = fed.2; front = (rest, split) })
 
 -- an end that comes before anything is written shows no failed read and no failed write, and is none of a command line
 pub unwritten_write : (end : End) (n : ℕ) → IsUnwritten end → WriteCause end n n
