@@ -20,8 +20,7 @@ const COPY: &str = "main(xs : Int*) : Int* = xs";
 const MIDDLE: &str = "main(xs : Int*, ys : Int*, zs : Int*) : Int* = ys";
 
 // Makes as many calls and one more as the numbers of the first table come to, once that has ended.
-const DOWN: &str =
-    "fun f{n : Int}(u : 1) : Int* = if n < 1 then nil else f{n - 1}(u)
+const DOWN: &str = "fun f{n : Int}(u : 1) : Int* = if n < 1 then nil else f{n - 1}(u)
 main(xs : Int*, ys : Int*) : Int* = wait xs in f{fold xs from 0 with a, x . a + x}(())";
 
 // One level more than there may be, before any event.
@@ -31,7 +30,8 @@ main(xs : Int*) : Int* = nest{1001}(xs)";
 
 // The program of `examples/tables/bill.delta`, with its tables and the table that it gives. `tools/tour` holds these
 // texts and those of the next to the files and to README.
-const BILL: &str = "// Two tables of the same articles in the same order, how many of each and what one costs: a bill of both, with the
+const BILL: &str =
+    "// Two tables of the same articles in the same order, how many of each and what one costs: a bill of both, with the
 // number of the article, how many, what one costs, and what they cost together.
 type Row = Int . Int
 fun bill(counts : Row*, prices : Row*) : (Int . Int . Int . Int)* =
@@ -53,7 +53,8 @@ const PRICES: &str = "101,1999\n102,49900\n107,85\n";
 const BILLED: &str = "101,2,1999,3998\n102,1,49900,49900\n107,12,85,1020\n";
 
 // The program of `examples/tables/balance.delta`.
-const BALANCE: &str = "// The movements of an account: each with the balance behind it, and with 1 beside that where it is below zero.
+const BALANCE: &str =
+    "// The movements of an account: each with the balance behind it, and with 1 beside that where it is below zero.
 fun balance{sum : Int}(moves : (Int . Int)*) : (Int . Int . Int . Int)* =
   case moves of {
     nil => nil

@@ -42,12 +42,12 @@ returns-in_err-read_words-clause-ended g c =
     let holds = g.S.Shelf.holds c.args.shelf.now in
     let names = map string_bytes c.args.names.now in
     let shape : HasShape (input_type core) core.main.result (length names) =
-        shape_of holds names core c.args.schedule.now c.args.budget _ _ (length c.args.names.now) c.input.ensures c.output.ensures (sym (length-map c.args.names.now string_bytes))
-        (c.has_shape.ensures.0 c.if-not-has_shape.false) in
+    shape_of holds names core c.args.schedule.now c.args.budget _ _ (length c.args.names.now) c.input.ensures c.output.ensures (sym (length-map c.args.names.now string_bytes))
+    (c.has_shape.ensures.0 c.if-not-has_shape.false) in
     let exit = err_from_is_err_and c.from_residual.result c.from_residual.ensures.1 in
     let end = c.in_err-read_words.field-0.0 in
     let told : EndsReading holds names (tables_fault 0 (input_type core)) end =
-        subst (λ (s : StreamType). EndsReading holds names (tables_fault 0 s) end) c.input-2.ensures c.in_err-read_words.ensures.ended in
+    subst (λ (s : StreamType). EndsReading holds names (tables_fault 0 s) end) c.input-2.ensures c.in_err-read_words.ensures.ended in
     rw (exit.1, exit.2) (reading_is_told holds names core c.args.schedule.now c.args.budget shape end told)
 
 pub returns-in_err-read_words-clause-unwritten : goal.returns-in_err-read_words-clause-unwritten
@@ -63,11 +63,11 @@ mixed-requires-clause-words g c =
     let holds = g.S.Shelf.holds c.args.shelf.now in
     let names = map string_bytes c.args.names.now in
     let shape : HasShape (input_type core) core.main.result (length names) =
-        shape_of holds names core c.args.schedule.now c.args.budget _ _ (length c.args.names.now) c.input.ensures c.output.ensures (sym (length-map c.args.names.now string_bytes))
-        (c.has_shape.ensures.0 c.if-not-has_shape.false) in
+    shape_of holds names core c.args.schedule.now c.args.budget _ _ (length c.args.names.now) c.input.ensures c.output.ensures (sym (length-map c.args.names.now string_bytes))
+    (c.has_shape.ensures.0 c.if-not-has_shape.false) in
     let words = map (λ w. w.items) c.read_words.new.words.items in
     let read : AreRead holds names (input_type core) 0 words =
-        read_as holds names core c.args.schedule.now c.args.budget _ _ words c.input-2.ensures (ap (map (λ w. w.items)) c.new-words.ensures.items) c.in_ok-read_words.ensures.words in
+    read_as holds names core c.args.schedule.now c.args.budget _ _ words c.input-2.ensures (ap (map (λ w. w.items)) c.new-words.ensures.items) c.in_ok-read_words.ensures.words in
     rw (c.input-3.ensures, c.deref.ensures.value) (words_are_words holds names core c.args.schedule.now c.args.budget shape words read)
 
 pub text_of_word-requires-clause-word : goal.text_of_word-requires-clause-word
@@ -80,11 +80,11 @@ text_of_word-requires-clause-room g c =
     let holds = g.S.Shelf.holds c.args.shelf.now in
     let names = map string_bytes c.args.names.now in
     let shape : HasShape (input_type core) core.main.result (length names) =
-        shape_of holds names core c.args.schedule.now c.args.budget _ _ (length c.args.names.now) c.input.ensures c.output.ensures (sym (length-map c.args.names.now string_bytes))
-        (c.has_shape.ensures.0 c.if-not-has_shape.false) in
+    shape_of holds names core c.args.schedule.now c.args.budget _ _ (length c.args.names.now) c.input.ensures c.output.ensures (sym (length-map c.args.names.now string_bytes))
+    (c.has_shape.ensures.0 c.if-not-has_shape.false) in
     let words = map (λ w. w.items) c.read_words.new.words.items in
     let read : AreRead holds names (input_type core) 0 words =
-        read_as holds names core c.args.schedule.now c.args.budget _ _ words c.input-2.ensures (ap (map (λ w. w.items)) c.new-words.ensures.items) c.in_ok-read_words.ensures.words in
+    read_as holds names core c.args.schedule.now c.args.budget _ _ words c.input-2.ensures (ap (map (λ w. w.items)) c.new-words.ensures.items) c.in_ok-read_words.ensures.words in
     let word = c.deref-in-Ok.result.now in
     let mixed : word ≡ mixed_word c.args.schedule.now words = c.deref-in-Ok.ensures.value ∙ (rw c.deref.ensures.value at c.in-Ok.ensures.mixed) in
     word_is_short holds names core c.args.schedule.now c.args.budget shape words read word mixed c.requires.fits
@@ -95,11 +95,11 @@ text_of_word-requires-clause-whole g c =
     let holds = g.S.Shelf.holds c.args.shelf.now in
     let names = map string_bytes c.args.names.now in
     let shape : HasShape (input_type core) core.main.result (length names) =
-        shape_of holds names core c.args.schedule.now c.args.budget _ _ (length c.args.names.now) c.input.ensures c.output.ensures (sym (length-map c.args.names.now string_bytes))
-        (c.has_shape.ensures.0 c.if-not-has_shape.false) in
+    shape_of holds names core c.args.schedule.now c.args.budget _ _ (length c.args.names.now) c.input.ensures c.output.ensures (sym (length-map c.args.names.now string_bytes))
+    (c.has_shape.ensures.0 c.if-not-has_shape.false) in
     let words = map (λ w. w.items) c.read_words.new.words.items in
     let read : AreRead holds names (input_type core) 0 words =
-        read_as holds names core c.args.schedule.now c.args.budget _ _ words c.input-2.ensures (ap (map (λ w. w.items)) c.new-words.ensures.items) c.in_ok-read_words.ensures.words in
+    read_as holds names core c.args.schedule.now c.args.budget _ _ words c.input-2.ensures (ap (map (λ w. w.items)) c.new-words.ensures.items) c.in_ok-read_words.ensures.words in
     let word = c.deref-in-Ok.result.now in
     let mixed : word ≡ mixed_word c.args.schedule.now words = c.deref-in-Ok.ensures.value ∙ (rw c.deref.ensures.value at c.in-Ok.ensures.mixed) in
     word_is_whole holds names core c.args.schedule.now c.args.budget shape words read word mixed
@@ -110,8 +110,8 @@ text_of_word-requires-clause-table g c =
     let holds = g.S.Shelf.holds c.args.shelf.now in
     let names = map string_bytes c.args.names.now in
     let shape : HasShape (input_type core) core.main.result (length names) =
-        shape_of holds names core c.args.schedule.now c.args.budget _ _ (length c.args.names.now) c.input.ensures c.output.ensures (sym (length-map c.args.names.now string_bytes))
-        (c.has_shape.ensures.0 c.if-not-has_shape.false) in
+    shape_of holds names core c.args.schedule.now c.args.budget _ _ (length c.args.names.now) c.input.ensures c.output.ensures (sym (length-map c.args.names.now string_bytes))
+    (c.has_shape.ensures.0 c.if-not-has_shape.false) in
     shape.2
 
 pub returns-in-Ok-clause-text : goal.returns-in-Ok-clause-text
@@ -120,11 +120,11 @@ returns-in-Ok-clause-text g c =
     let holds = g.S.Shelf.holds c.args.shelf.now in
     let names = map string_bytes c.args.names.now in
     let shape : HasShape (input_type core) core.main.result (length names) =
-        shape_of holds names core c.args.schedule.now c.args.budget _ _ (length c.args.names.now) c.input.ensures c.output.ensures (sym (length-map c.args.names.now string_bytes))
-        (c.has_shape.ensures.0 c.if-not-has_shape.false) in
+    shape_of holds names core c.args.schedule.now c.args.budget _ _ (length c.args.names.now) c.input.ensures c.output.ensures (sym (length-map c.args.names.now string_bytes))
+    (c.has_shape.ensures.0 c.if-not-has_shape.false) in
     let words = map (λ w. w.items) c.read_words.new.words.items in
     let read : AreRead holds names (input_type core) 0 words =
-        read_as holds names core c.args.schedule.now c.args.budget _ _ words c.input-2.ensures (ap (map (λ w. w.items)) c.new-words.ensures.items) c.in_ok-read_words.ensures.words in
+    read_as holds names core c.args.schedule.now c.args.budget _ _ words c.input-2.ensures (ap (map (λ w. w.items)) c.new-words.ensures.items) c.in_ok-read_words.ensures.words in
     let word = c.deref-in-Ok.result.now in
     let mixed : word ≡ mixed_word c.args.schedule.now words = c.deref-in-Ok.ensures.value ∙ (rw c.deref.ensures.value at c.in-Ok.ensures.mixed) in
     if_ok_too c.text_of_word.result _ _ (λ text is. (read.tables, read.held, gives holds names core c.args.schedule.now c.args.budget shape words read word mixed (string_bytes text) is)) c.text_of_word.ensures.text
@@ -135,11 +135,11 @@ returns-in-Ok-clause-ended g c =
     let holds = g.S.Shelf.holds c.args.shelf.now in
     let names = map string_bytes c.args.names.now in
     let shape : HasShape (input_type core) core.main.result (length names) =
-        shape_of holds names core c.args.schedule.now c.args.budget _ _ (length c.args.names.now) c.input.ensures c.output.ensures (sym (length-map c.args.names.now string_bytes))
-        (c.has_shape.ensures.0 c.if-not-has_shape.false) in
+    shape_of holds names core c.args.schedule.now c.args.budget _ _ (length c.args.names.now) c.input.ensures c.output.ensures (sym (length-map c.args.names.now string_bytes))
+    (c.has_shape.ensures.0 c.if-not-has_shape.false) in
     let words = map (λ w. w.items) c.read_words.new.words.items in
     let read : AreRead holds names (input_type core) 0 words =
-        read_as holds names core c.args.schedule.now c.args.budget _ _ words c.input-2.ensures (ap (map (λ w. w.items)) c.new-words.ensures.items) c.in_ok-read_words.ensures.words in
+    read_as holds names core c.args.schedule.now c.args.budget _ _ words c.input-2.ensures (ap (map (λ w. w.items)) c.new-words.ensures.items) c.in_ok-read_words.ensures.words in
     let word = c.deref-in-Ok.result.now in
     let mixed : word ≡ mixed_word c.args.schedule.now words = c.deref-in-Ok.ensures.value ∙ (rw c.deref.ensures.value at c.in-Ok.ensures.mixed) in
     if_err_too c.text_of_word.result _ _ (λ (end : End). stop_is_told holds names core c.args.schedule.now c.args.budget shape words read word mixed end) c.text_of_word.ensures.ended
