@@ -133,8 +133,8 @@ module _ (funs : List CoreBody) (d : ℕ) where
         let m = rest_of before [] (names_in_turn a ++ names_in_turn b) n in (
           record { rule = refl; once = first_of before [] (names_in_turn a ++ names_in_turn b) n },
           good_both (states_of c s w a) (states_of c t (w ++ names_in_turn a) b)
-          (goods a c s w h.0 (and_first (is_settled a s) (is_settled b t) i) o.0 p.0 (all_left Deep (laters_of a) (laters_of b) e) (first_of w (names_in_turn a) (names_in_turn b) m))
-          (goods b c t (w ++ names_in_turn a) h.1 (and_second (is_settled a s) (is_settled b t) i) o.1 p.1 (all_right Deep (laters_of a) (laters_of b) e) (rest_of w (names_in_turn a) (names_in_turn b) m)),
+              (goods a c s w h.0 (and_first (is_settled a s) (is_settled b t) i) o.0 p.0 (all_left Deep (laters_of a) (laters_of b) e) (first_of w (names_in_turn a) (names_in_turn b) m))
+              (goods b c t (w ++ names_in_turn a) h.1 (and_second (is_settled a s) (is_settled b t) i) o.1 p.1 (all_right Deep (laters_of a) (laters_of b) e) (rest_of w (names_in_turn a) (names_in_turn b) m)),
         )
     goods (par_state a b) c _ before h i o p e n = absurd h
     goods (cat_state a l) c (cat s t) before h i o p e n =
@@ -151,8 +151,8 @@ module _ (funs : List CoreBody) (d : ℕ) where
         let m = rest_of before (x ∷ []) (names_in_turn a ++ names_in_turn b) n in (
           record { rule = tt; once = first_of before (x ∷ []) (names_in_turn a ++ names_in_turn b) n },
           good_both (states_of c s w a) (states_of _ r (w ++ names_in_turn a) b)
-          (goods a c s w h.0 (and_first (is_settled a s) (is_settled b r) i) o.0 p.0 (all_left Deep (laters_of a) (laters_of b) e) (first_of w (names_in_turn a) (names_in_turn b) m))
-          (goods b _ r (w ++ names_in_turn a) h.1 (and_second (is_settled a s) (is_settled b r) i) o.1 p.1 (all_right Deep (laters_of a) (laters_of b) e) (rest_of w (names_in_turn a) (names_in_turn b) m)),
+              (goods a c s w h.0 (and_first (is_settled a s) (is_settled b r) i) o.0 p.0 (all_left Deep (laters_of a) (laters_of b) e) (first_of w (names_in_turn a) (names_in_turn b) m))
+              (goods b _ r (w ++ names_in_turn a) h.1 (and_second (is_settled a s) (is_settled b r) i) o.1 p.1 (all_right Deep (laters_of a) (laters_of b) e) (rest_of w (names_in_turn a) (names_in_turn b) m)),
         )
     goods (let_par_state x y z a) c r before h i o p e n =
         let own = x ∷ (y ∷ []) in
@@ -163,11 +163,16 @@ module _ (funs : List CoreBody) (d : ℕ) where
     goods (sum_state z t held x l y m) c r before h i o p e n =
         let k = context_held held c.order in (
           record {
-            rule = (h.0, h.1, not_it _ i, record {
-              subject = h.2.subject_typed;
-              left = later_good k (with_name_like x (sum_left (type_at k z)) z) (x ∷ []) l r h.2.left_typed p.0 (All-head Deep l (m ∷ []) e);
-              right = later_good k (with_name_like y (sum_right (type_at k z)) z) (y ∷ []) m r h.2.right_typed p.1 (All-head Deep m [] (All-tail Deep l (m ∷ []) e));
-            });
+            rule = (
+              h.0,
+              h.1,
+              not_it _ i,
+              record {
+                subject = h.2.subject_typed;
+                left = later_good k (with_name_like x (sum_left (type_at k z)) z) (x ∷ []) l r h.2.left_typed p.0 (All-head Deep l (m ∷ []) e);
+                right = later_good k (with_name_like y (sum_right (type_at k z)) z) (y ∷ []) m r h.2.right_typed p.1 (All-head Deep m [] (All-tail Deep l (m ∷ []) e));
+              },
+            );
             once = first_of before (x ∷ (bound_names l.term ++ (y ∷ bound_names m.term))) [] n;
           },
           tt,
@@ -175,11 +180,16 @@ module _ (funs : List CoreBody) (d : ℕ) where
     goods (star_state z t held l y ys m) c r before h i o p e n =
         let k = context_held held c.order in (
           record {
-            rule = (h.0, h.1, not_it _ i, record {
-              subject = h.2.subject_typed;
-              at_end = later_good k (λ q. q) [] l r h.2.end_typed p.0 (All-head Deep l (m ∷ []) e);
-              at_item = later_good k (λ q. with_fact y ys (with_parts y (star_item (type_at k z)) ys (star_items (type_at k z)) z q)) (y ∷ (ys ∷ [])) m r h.2.item_typed p.1 (All-head Deep m [] (All-tail Deep l (m ∷ []) e));
-            });
+            rule = (
+              h.0,
+              h.1,
+              not_it _ i,
+              record {
+                subject = h.2.subject_typed;
+                at_end = later_good k (λ q. q) [] l r h.2.end_typed p.0 (All-head Deep l (m ∷ []) e);
+                at_item = later_good k (λ q. with_fact y ys (with_parts y (star_item (type_at k z)) ys (star_items (type_at k z)) z q)) (y ∷ (ys ∷ [])) m r h.2.item_typed p.1 (All-head Deep m [] (All-tail Deep l (m ∷ []) e));
+              },
+            );
             once = first_of before (bound_names l.term ++ (y ∷ (ys ∷ bound_names m.term))) [] n;
           },
           tt,
@@ -187,12 +197,17 @@ module _ (funs : List CoreBody) (d : ℕ) where
     goods (wait_state x t held l) c r before h i o p e n =
         let k = context_held held c.order in (
           record {
-            rule = (h.0, h.1, not_it _ i, record {
-              subject = h.2.subject_typed;
-              not_null = h.2.subject_not_null;
-              rest = later_good k (with_known x (type_at k x)) (x ∷ []) l r h.2.rest_typed p.0 (All-head Deep l [] e);
-              not_used = p.1;
-            });
+            rule = (
+              h.0,
+              h.1,
+              not_it _ i,
+              record {
+                subject = h.2.subject_typed;
+                not_null = h.2.subject_not_null;
+                rest = later_good k (with_known x (type_at k x)) (x ∷ []) l r h.2.rest_typed p.0 (All-head Deep l [] e);
+                not_used = p.1;
+              },
+            );
             once = first_of before (bound_names l.term) [] n;
           },
           tt,
@@ -200,8 +215,8 @@ module _ (funs : List CoreBody) (d : ℕ) where
     goods (frame_state args s) c r before h i o p e n = (
       record { rule = distinct_left (argument_names args) (names_in_turn s) (distinct_in_turn (argument_names args) s o.1); once = first_of before [] (names_of_arguments args) n },
       good_both (states_of_arguments c (before ++ []) args) (states_of (context_of_arguments c args) r (argument_names args) s)
-      (goods_in args c (before ++ []) h.0 (and_first (are_settled args) (is_settled s r) i) o.0 p.0 (all_left Deep (laters_in args) (laters_of s) e) (rest_of before [] (names_of_arguments args) n))
-      (goods s (context_of_arguments c args) r (argument_names args) h.1 (and_second (are_settled args) (is_settled s r) i) o.2 p.1 (all_right Deep (laters_in args) (laters_of s) e) (distinct_in_turn (argument_names args) s o.1)),
+          (goods_in args c (before ++ []) h.0 (and_first (are_settled args) (is_settled s r) i) o.0 p.0 (all_left Deep (laters_in args) (laters_of s) e) (rest_of before [] (names_of_arguments args) n))
+          (goods s (context_of_arguments c args) r (argument_names args) h.1 (and_second (are_settled args) (is_settled s r) i) o.2 p.1 (all_right Deep (laters_in args) (laters_of s) e) (distinct_in_turn (argument_names args) s o.1)),
     )
 
     goods_in : (args : ArgumentTrees) (c : Context) (before : List ℕ) → HaveArgumentTypes funs (is_inert_fun funs) c args → are_settled args ≡ true → BodiesOnceIn args → PastsApartIn args → All Deep (laters_in args)
@@ -253,8 +268,8 @@ module _ (funs : List CoreBody) (d : ℕ) where
     has_values = g.has_values;
     has_type = g.has_type;
     binds_apart = typed_once_is_apart funs (is_inert_fun funs) (with_name_like x s z (with_past l.past c)) l.term r g.has_type
-    (subst (λ T. NotBound (λ y. if eqb y x then Some s else T y) (bound_names l.term)) (sym (past_types-same l.past c)) (not_bound_put x s c.types (bound_names l.term) (not_again x (bound_names l.term) o) (not_tail c.types x (bound_names l.term) n)))
-    (distinct_tail x (bound_names l.term) o);
+        (subst (λ T. NotBound (λ y. if eqb y x then Some s else T y) (bound_names l.term)) (sym (past_types-same l.past c)) (not_bound_put x s c.types (bound_names l.term) (not_again x (bound_names l.term) o) (not_tail c.types x (bound_names l.term) n)))
+        (distinct_tail x (bound_names l.term) o);
   }
 
   -- or x and y
@@ -264,8 +279,8 @@ module _ (funs : List CoreBody) (d : ℕ) where
     has_values = g.has_values;
     has_type = g.has_type;
     binds_apart = typed_once_is_apart funs (is_inert_fun funs) (with_fact x y (with_parts x s y t z (with_past l.past c))) l.term r g.has_type
-    (subst (λ T. NotBound (λ w. if eqb w y then Some t else (if eqb w x then Some s else T w)) (bound_names l.term)) (sym (past_types-same l.past c)) (not_bound_two x y s t c.types (bound_names l.term) o n))
-    (distinct_tail y (bound_names l.term) (distinct_tail x (y ∷ bound_names l.term) o));
+        (subst (λ T. NotBound (λ w. if eqb w y then Some t else (if eqb w x then Some s else T w)) (bound_names l.term)) (sym (past_types-same l.past c)) (not_bound_two x y s t c.types (bound_names l.term) o n))
+        (distinct_tail y (bound_names l.term) (distinct_tail x (y ∷ bound_names l.term) o));
   }
 
   -- two new names of which the first isn't a name from before
@@ -299,7 +314,7 @@ module _ (funs : List CoreBody) (d : ℕ) where
         let f = whole a c (cat_first r) (before ++ own) (within_more c.types before own w) g.1 in
         record {
           typed = subst (λ t. HasStateType funs (is_inert_fun funs) c (cat_state a l) t) (sym g.0.rule.0)
-            (f.typed, later_none l c (cat_second r) [] g.0.rule.2 (not_after c.types before own w g.0.once) (distinct_right before own g.0.once), g.0.rule.3);
+              (f.typed, later_none l c (cat_second r) [] g.0.rule.2 (not_after c.types before own w g.0.once) (distinct_right before own g.0.once), g.0.rule.3);
           settled = and_both (is_settled a (cat_first r)) (not (null_of (cat_first r))) f.settled (is_not (null_of (cat_first r)) g.0.rule.1);
           bodies = f.bodies;
           pasts = (f.pasts, g.0.rule.2.is_apart);
@@ -359,11 +374,15 @@ module _ (funs : List CoreBody) (d : ℕ) where
         let n : NotBound (marks_held held) own = λ v i. not_after c.types before own w g.0.once v (held_there c held g.0.rule.1.are_left v i) in
         let o = distinct_right before own g.0.once in
         record {
-          typed = (g.0.rule.0, g.0.rule.1, record {
-            subject_typed = h.subject;
-            left_typed = later_one l k r x (sum_left (type_at k z)) z (x ∷ []) h.left (not_left (marks_held held) (x ∷ bl) (y ∷ bm) n) (distinct_left (x ∷ bl) (y ∷ bm) o);
-            right_typed = later_one m k r y (sum_right (type_at k z)) z (y ∷ []) h.right (not_right (marks_held held) (x ∷ bl) (y ∷ bm) n) (distinct_right (x ∷ bl) (y ∷ bm) o);
-          });
+          typed = (
+            g.0.rule.0,
+            g.0.rule.1,
+            record {
+              subject_typed = h.subject;
+              left_typed = later_one l k r x (sum_left (type_at k z)) z (x ∷ []) h.left (not_left (marks_held held) (x ∷ bl) (y ∷ bm) n) (distinct_left (x ∷ bl) (y ∷ bm) o);
+              right_typed = later_one m k r y (sum_right (type_at k z)) z (y ∷ []) h.right (not_right (marks_held held) (x ∷ bl) (y ∷ bm) n) (distinct_right (x ∷ bl) (y ∷ bm) o);
+            },
+          );
           settled = is_not _ g.0.rule.2;
           bodies = tt;
           pasts = (h.left.is_apart, h.right.is_apart);
@@ -380,12 +399,16 @@ module _ (funs : List CoreBody) (d : ℕ) where
         let o = distinct_right before own g.0.once in
         let there : holds z before ≡ true = w z (held_there c held g.0.rule.1.are_left z (ap is_some h.subject)) in
         record {
-          typed = (g.0.rule.0, g.0.rule.1, record {
-            item_apart = parts_apart (before ++ bl) bm y ys z (rest_of before bl (y ∷ (ys ∷ bm)) g.0.once) (holds-left z before bl there);
-            subject_typed = h.subject;
-            end_typed = later_none l k r [] h.at_end (not_left (marks_held held) bl (y ∷ (ys ∷ bm)) n) (distinct_left bl (y ∷ (ys ∷ bm)) o);
-            item_typed = later_two m k r y ys (star_item (type_at k z)) (star_items (type_at k z)) z (y ∷ (ys ∷ [])) h.at_item (not_right (marks_held held) bl (y ∷ (ys ∷ bm)) n) (distinct_right bl (y ∷ (ys ∷ bm)) o);
-          });
+          typed = (
+            g.0.rule.0,
+            g.0.rule.1,
+            record {
+              item_apart = parts_apart (before ++ bl) bm y ys z (rest_of before bl (y ∷ (ys ∷ bm)) g.0.once) (holds-left z before bl there);
+              subject_typed = h.subject;
+              end_typed = later_none l k r [] h.at_end (not_left (marks_held held) bl (y ∷ (ys ∷ bm)) n) (distinct_left bl (y ∷ (ys ∷ bm)) o);
+              item_typed = later_two m k r y ys (star_item (type_at k z)) (star_items (type_at k z)) z (y ∷ (ys ∷ [])) h.at_item (not_right (marks_held held) bl (y ∷ (ys ∷ bm)) n) (distinct_right bl (y ∷ (ys ∷ bm)) o);
+            },
+          );
           settled = is_not _ g.0.rule.2;
           bodies = tt;
           pasts = (h.at_end.is_apart, h.at_item.is_apart);
@@ -398,11 +421,15 @@ module _ (funs : List CoreBody) (d : ℕ) where
         let h = g.0.rule.3 in
         let n : NotBound (marks_held held) own = λ v i. not_after c.types before own w g.0.once v (held_there c held g.0.rule.1.are_left v i) in
         record {
-          typed = (g.0.rule.0, g.0.rule.1, record {
-            subject_typed = h.subject;
-            subject_not_null = h.not_null;
-            rest_typed = later_known l k r x (type_at k x) (x ∷ []) h.rest n (distinct_right before own g.0.once);
-          });
+          typed = (
+            g.0.rule.0,
+            g.0.rule.1,
+            record {
+              subject_typed = h.subject;
+              subject_not_null = h.not_null;
+              rest_typed = later_known l k r x (type_at k x) (x ∷ []) h.rest n (distinct_right before own g.0.once);
+            },
+          );
           settled = is_not _ g.0.rule.2;
           bodies = tt;
           pasts = (h.rest.is_apart, h.not_used);
@@ -459,8 +486,8 @@ typed_is_good c k = (forth, back)
     forth h n j e = record {
       placed = λ i. h.is_placed;
       good = good_at c.funs (depth_after k.events) (states_kept c k) n j
-        (goods c.funs (depth_after k.events) k.state (context_kept c k) k.out params h.is_typed h.settled h.are_apart.bodies_once h.are_apart.pasts_apart h.is_deep (distinct_in_turn params k.state h.are_apart.bound_once))
-        e;
+          (goods c.funs (depth_after k.events) k.state (context_kept c k) k.out params h.is_typed h.settled h.are_apart.bodies_once h.are_apart.pasts_apart h.is_deep (distinct_in_turn params k.state h.are_apart.bound_once))
+          e;
     }
 
     back : ((n : ℕ) (j : StateAt) → slice_get (states_kept c k) n ≡ Some j → IsGoodAt c k n j) → IsTypedKept c k

@@ -90,7 +90,7 @@ abbrev mutual
   states_in c r before (let_state x s a b) =
       (state_at c s before a ∷ states_in c s (before ++ own_names a) a)
       ++ (state_at (with_state x s a c) r (before ++ names_in_turn a) b
-          ∷ states_in (with_state x s a c) r ((before ++ names_in_turn a) ++ own_names b) b)
+      ∷ states_in (with_state x s a c) r ((before ++ names_in_turn a) ++ own_names b) b)
   states_in c r before (let_par_state x y z a) =
       state_at (with_sides x y z c) r before a ∷ states_in (with_sides x y z c) r (before ++ own_names a) a
   states_in c r before (let_cat_state x y z a) =
@@ -101,7 +101,7 @@ abbrev mutual
   states_in c r before (frame_state args s) =
       states_of_arguments c before args
       ++ (state_at (context_of_arguments c args) r (argument_names args) s
-          ∷ states_in (context_of_arguments c args) r (argument_names args ++ own_names s) s)
+      ∷ states_in (context_of_arguments c args) r (argument_names args ++ own_names s) s)
 
   pub states_of_arguments : Context → List ℕ → ArgumentTrees → List StateAt
   states_of_arguments c before no_arguments = []

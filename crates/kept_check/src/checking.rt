@@ -134,7 +134,9 @@ fn check_parts<'a>(
         | KeptState::Wait(_, _, _, _) => Ok(number),
         KeptState::Par(a, b) => {
             let (left, right) = par_types(r, &Ty::Eps);
-            check_two(alloc, c, marks, depth, a, left, scope, b, right, scope, bound, number)
+            check_two(
+                alloc, c, marks, depth, a, left, scope, b, right, scope, bound, number,
+            )
         }
         KeptState::Cat(a, _) => {
             let (first, _) = cat_types(r, &Ty::Eps);
@@ -227,11 +229,18 @@ fn check_let<'a>(
 {
     let placed = let_placed(alloc, scope, a, b)?;
     let inner = Scope::Let(x, t, &placed, scope);
-    check_two(alloc, c, marks, depth, a, t, scope, b, r, &inner, bound, number)
+    check_two(
+        alloc, c, marks, depth, a, t, scope, b, r, &inner, bound, number,
+    )
 }
 
 // Where the name of a let is placed, for what is asked in its body.
-fn let_placed(alloc: Global, scope: &Scope<'_>, a: &KeptState, b: &KeptState) -> Result<Placed, Memory>
+fn let_placed(
+    alloc: Global,
+    scope: &Scope<'_>,
+    a: &KeptState,
+    b: &KeptState,
+) -> Result<Placed, Memory>
     ensures { IfOk result (λ p. (x : ℕ) → place_known x p (context_in scope.now).order ≡ place_let x (free_in_state (state_of a.now)) true (context_in scope.now).order) }
 {
     let others = free_in(alloc, b)?;
@@ -289,7 +298,9 @@ fn check_arguments<'a>(
     match args {
         [] => Ok(number),
         [arg, rest @ ..] => {
-            let next = check_state(alloc, c, marks, depth, &arg.state, &arg.ty, scope, bound, number)?;
+            let next = check_state(
+                alloc, c, marks, depth, &arg.state, &arg.ty, scope, bound, number,
+            )?;
             check_arguments(alloc, c, marks, depth, rest, scope, bound, next)
         }
     }
@@ -308,7 +319,11 @@ fn parameter_types(alloc: Global, args: &[Argument]) -> Result<Vec<(Name, Ty)>, 
 
 // The order of the parameters: one stands before another where each free name of its argument stands before
 // each of the other's.
-fn parameter_order(alloc: Global, scope: &Scope<'_>, args: &[Argument]) -> Result<Vec<(Name, Name)>, Memory>
+fn parameter_order(
+    alloc: Global,
+    scope: &Scope<'_>,
+    args: &[Argument],
+) -> Result<Vec<(Name, Name)>, Memory>
     ensures { IfOk result (λ v. (x y : ℕ) → facts_given v.items x y ≡ facts_of_arguments (context_in scope.now) (arguments_from args.now) x y) }
 {
     let mut facts = Vec::new(alloc);
@@ -327,8 +342,7 @@ fn add_order(
     free: &[Name],
     args: &[Argument],
     facts: &mut Vec<(Name, Name)>,
-) -> Result<(), Memory>
-{
+) -> Result<(), Memory> {
     for arg in args {
         if all_before(scope, free, &free_in(alloc, &arg.state)?) {
             facts.push((u, arg.name))?;

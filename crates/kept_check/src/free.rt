@@ -31,9 +31,7 @@ pub fn free_in(alloc: Global, s: &KeptState) -> Result<Vec<Name>, Memory>
         KeptState::LetPar(x, y, z, a) | KeptState::LetCat(x, y, z, a) => {
             free_behind(alloc, *z, a, &[*x, *y])
         }
-        KeptState::CaseSum(z, _, _, x, l, y, m) => {
-            free_of_case(alloc, *z, l, &[*x], m, &[*y])
-        }
+        KeptState::CaseSum(z, _, _, x, l, y, m) => { free_of_case(alloc, *z, l, &[*x], m, &[*y]) }
         KeptState::CaseStar(z, _, _, l, y, ys, m) => {
             free_of_case(alloc, *z, l, &[], m, &[*y, *ys])
         }
@@ -65,7 +63,12 @@ fn add_less(names: &mut Vec<Name>, more: &[Name], less: &[Name]) -> Result<(), M
 
 // The free names of two states, those of the second less some.
 #[cycle(free)]
-fn free_in_two(alloc: Global, a: &KeptState, b: &KeptState, less: &[Name]) -> Result<Vec<Name>, Memory>
+fn free_in_two(
+    alloc: Global,
+    a: &KeptState,
+    b: &KeptState,
+    less: &[Name],
+) -> Result<Vec<Name>, Memory>
     ensures { IfOk result (λ v. (x : ℕ) → holds x (numbers_of v.items) ≡ (holds x (free_in_state (state_of a.now)) || (holds x (free_in_state (state_of b.now)) && not (holds x (numbers_of less.now))))) }
 {
     let (first, second) = (free_in(alloc, a)?, free_in(alloc, b)?);

@@ -70,7 +70,9 @@ pub fn first_untyped(alloc: Global, c: &Core, k: &Kept) -> Result<(), Stop> {
     let order = Order::of_bunch(alloc, &c.main.params)?;
     let scope = Scope::Given(&left, &order);
     let depth = depth_after(k.events);
-    check_state(alloc, c, &marks, depth, &k.state, &k.out, &scope, &mut bound, 0)?;
+    check_state(
+        alloc, c, &marks, depth, &k.state, &k.out, &scope, &mut bound, 0,
+    )?;
     Ok(())
 }
 

@@ -51,15 +51,21 @@ pub fn follows_rule(
         KeptState::Let(_, _, _, _) => Ok(true),
         KeptState::LetPar(_, _, z, _) => Ok(matches!(stream_type(scope, *z), Some(Ty::Par(_, _)))),
         KeptState::LetCat(_, _, z, _) => Ok(matches!(stream_type(scope, *z), Some(Ty::Cat(_, _)))),
-        KeptState::CaseSum(z, t, held, x, l, y, m) => Ok(same(t, r)
-            && !tag_held(held, *z)
-            && sum_rule(alloc, c, marks, depth, scope, *z, held, *x, l, *y, m, r)?),
-        KeptState::CaseStar(z, t, held, l, y, ys, m) => Ok(same(t, r)
-            && !tag_held(held, *z)
-            && star_rule(alloc, c, marks, depth, scope, *z, held, l, *y, *ys, m, r)?),
-        KeptState::Wait(x, t, held, l) => Ok(same(t, r)
-            && !whole_held(held, *x)
-            && wait_rule(alloc, c, marks, depth, scope, *x, held, l, r)?),
+        KeptState::CaseSum(z, t, held, x, l, y, m) => Ok(
+            same(t, r)
+                && !tag_held(held, *z)
+                && sum_rule(alloc, c, marks, depth, scope, *z, held, *x, l, *y, m, r)?,
+        ),
+        KeptState::CaseStar(z, t, held, l, y, ys, m) => Ok(
+            same(t, r)
+                && !tag_held(held, *z)
+                && star_rule(alloc, c, marks, depth, scope, *z, held, l, *y, *ys, m, r)?,
+        ),
+        KeptState::Wait(x, t, held, l) => Ok(
+            same(t, r)
+                && !whole_held(held, *x)
+                && wait_rule(alloc, c, marks, depth, scope, *x, held, l, r)?,
+        ),
         KeptState::Frame(args, _) => frame_rule(alloc, args),
     }
 }
@@ -90,9 +96,11 @@ fn cat_rule(
     ensures { IfOk result (λ b. IsTrue b ↔ FollowsRule (core_of c.now).funs depth (context_in scope.now) (cat_state (state_of a.now) (later_of l.now)) (type_of r.now)) }
 {
     match r {
-        Ty::Cat(s, t) => Ok(!null(s)
-            && is_good(alloc, c, marks, depth, scope, l, t)?
-            && is_behind(alloc, scope, a, l)?),
+        Ty::Cat(s, t) => Ok(
+            !null(s)
+                && is_good(alloc, c, marks, depth, scope, l, t)?
+                && is_behind(alloc, scope, a, l)?,
+        ),
         _ => Ok(false),
     }
 }
@@ -153,10 +161,15 @@ fn sum_rule(
 {
     let names = names_held(alloc, held)?;
     let free = free_of_case(alloc, z, l, &[x], m, &[y])?;
-    let (types, order) = (types_held(alloc, held)?, order_held(alloc, scope, held, &names)?);
+    let (types, order) = (
+        types_held(alloc, held)?,
+        order_held(alloc, scope, held, &names)?,
+    );
     let inner = Scope::Among(&types, &order);
-    Ok(is_held(alloc, scope, held, &names, &free)?
-        && has_branches(alloc, c, marks, depth, &inner, z, x, l, y, m, r)?)
+    Ok(
+        is_held(alloc, scope, held, &names, &free)?
+            && has_branches(alloc, c, marks, depth, &inner, z, x, l, y, m, r)?,
+    )
 }
 
 // The branches of a case on a sum.
@@ -179,8 +192,10 @@ fn has_branches(
     ensures { IfOk result (λ b. IsTrue b ↔ IsGoodSum (core_of c.now).funs depth (context_in scope.now) z.0 x.0 (later_of l.now) y.0 (later_of m.now) (type_of r.now)) }
 {
     match stream_type(scope, z) {
-        Some(Ty::Sum(s, t)) => Ok(is_good_with(alloc, c, marks, depth, scope, x, s, z, l, r)?
-            && is_good_with(alloc, c, marks, depth, scope, y, t, z, m, r)?),
+        Some(Ty::Sum(s, t)) => Ok(
+            is_good_with(alloc, c, marks, depth, scope, x, s, z, l, r)?
+                && is_good_with(alloc, c, marks, depth, scope, y, t, z, m, r)?,
+        ),
         _ => Ok(false),
     }
 }
@@ -208,10 +223,15 @@ fn star_rule(
 {
     let names = names_held(alloc, held)?;
     let free = free_of_case(alloc, z, l, &[], m, &[y, ys])?;
-    let (types, order) = (types_held(alloc, held)?, order_held(alloc, scope, held, &names)?);
+    let (types, order) = (
+        types_held(alloc, held)?,
+        order_held(alloc, scope, held, &names)?,
+    );
     let inner = Scope::Among(&types, &order);
-    Ok(is_held(alloc, scope, held, &names, &free)?
-        && has_items(alloc, c, marks, depth, &inner, z, l, y, ys, m, r)?)
+    Ok(
+        is_held(alloc, scope, held, &names, &free)?
+            && has_items(alloc, c, marks, depth, &inner, z, l, y, ys, m, r)?,
+    )
 }
 
 // The branches of a case on a star.
@@ -235,8 +255,10 @@ fn has_items(
 {
     match stream_type(scope, z) {
         Some(t) => match t {
-            Ty::Star(s) => Ok(is_good(alloc, c, marks, depth, scope, l, r)?
-                && is_good_at_item(alloc, c, marks, depth, scope, y, s, ys, t, z, m, r)?),
+            Ty::Star(s) => Ok(
+                is_good(alloc, c, marks, depth, scope, l, r)?
+                    && is_good_at_item(alloc, c, marks, depth, scope, y, s, ys, t, z, m, r)?,
+            ),
             _ => Ok(false),
         },
         None => Ok(false),
@@ -262,10 +284,15 @@ fn wait_rule(
 {
     let names = names_held(alloc, held)?;
     let free = free_of_wait(alloc, x, l)?;
-    let (types, order) = (types_held(alloc, held)?, order_held(alloc, scope, held, &names)?);
+    let (types, order) = (
+        types_held(alloc, held)?,
+        order_held(alloc, scope, held, &names)?,
+    );
     let inner = Scope::Among(&types, &order);
-    Ok(is_held(alloc, scope, held, &names, &free)?
-        && has_rest(alloc, c, marks, depth, &inner, x, l, r)?)
+    Ok(
+        is_held(alloc, scope, held, &names, &free)?
+            && has_rest(alloc, c, marks, depth, &inner, x, l, r)?,
+    )
 }
 
 // What follows a wait.
@@ -284,9 +311,11 @@ fn has_rest(
     ensures { IfOk result (λ b. IsTrue b ↔ IsGoodWait (core_of c.now).funs depth (context_in scope.now) x.0 (later_of l.now) (type_of r.now)) }
 {
     match stream_type(scope, x) {
-        Some(t) => Ok(!null(t)
-            && !is_there(&free(alloc, &l.code)?, x)
-            && is_good_behind(alloc, c, marks, depth, scope, x, t, l, r)?),
+        Some(t) => Ok(
+            !null(t)
+                && !is_there(&free(alloc, &l.code)?, x)
+                && is_good_behind(alloc, c, marks, depth, scope, x, t, l, r)?,
+        ),
         None => Ok(false),
     }
 }
