@@ -35,14 +35,16 @@ fn has_type(alloc: Global, r: &Ty) -> Result<bool, Fail> {
 // Whether it is told that its first node has another type.
 fn mismatches(alloc: Global, r: &Ty) -> Result<bool, Fail> {
     match told(alloc, r)? {
-        Err(TypeFault::Refused {
-            node,
-            at: _,
-            cause: TypeCause::Mismatch {
-                wanted: _,
-                found: _,
+        Err(
+            TypeFault::Refused {
+                node,
+                at: _,
+                cause: TypeCause::Mismatch {
+                    wanted: _,
+                    found: _,
+                },
             },
-        }) => Ok(node == 0),
+        ) => Ok(node == 0),
         _ => Ok(false),
     }
 }

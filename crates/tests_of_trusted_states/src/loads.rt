@@ -17,7 +17,8 @@ const ONE: &[u8] = &[
 ];
 
 // A case that holds what comes before its subject's side.
-const CASE: &[u8] = b"main(a : Int; (y : Int, w : 1 + 1)) : Int = let x = (((), y) : 1 || Int) in case w of { inl u => let (p, q) = x in wait q in a | inr u => a }";
+const CASE: &[u8] =
+    b"main(a : Int; (y : Int, w : 1 + 1)) : Int = let x = (((), y) : 1 || Int) in case w of { inl u => let (p, q) = x in wait q in a | inr u => a }";
 
 // It before any event: x is held with its `1` whole, and of a nothing has come.
 const HELD: &[u8] = &[
@@ -34,7 +35,7 @@ const CALL: &[u8] = b"fun same(u : Int) : Int = u main(x : Int) : Int = same(x)"
 // It before any event: the body of the function on its argument.
 const FRAME: &[u8] = &[
     68, 83, 84, 1, 0, 0, 0, 0, 0, 0, 0, 0, 0, 0, 0, 1, 2, 0, 0, 0, 0, 2, 10, 0, 0, 0, 1, 0, 0, 0,
-    1, 2, 1, 0, 0, 0, 0, 1, 0, 0, 0, 1,
+    0, 2, 1, 0, 0, 0, 1, 1, 0, 0, 0, 0,
 ];
 
 // Whether the kept state has the name numbered 0 as its state.
@@ -141,24 +142,28 @@ fn the_first_untyped_state_is_told(rt: HostRuntime) -> Result<(), Fail> {
         // another name holds something
         (55, 9, 4),
         // what is held is of another type, and of another one is left
-        (57, 2, 4),
+        (58, 2, 4),
         // the name of a branch is bound before
         (80, 3, 4),
         // code that isn't deep enough
         (121, 60, 4),
     ];
     for (at, value, number) in rows {
-        assert!(rt; told_changed(rt.alloc(), CASE, HELD, at, value)? == Some(KeepFault::Untyped(number)));
+        assert!(rt;
+            told_changed(rt.alloc(), CASE, HELD, at, value)? == Some(KeepFault::Untyped(number))
+        );
     }
     Ok(())
 }
 
 #[test]
 fn the_first_untyped_state_of_a_call_is_told(rt: HostRuntime) -> Result<(), Fail> {
-    // the argument, the body, the parameter's type
-    let rows = [(35, 7, 1), (40, 7, 2), (30, 1, 1)];
+    // the argument, the body, the parameter's type, its name
+    let rows = [(36, 7, 1), (41, 7, 2), (31, 1, 1), (30, 5, 2)];
     for (at, value, number) in rows {
-        assert!(rt; told_changed(rt.alloc(), CALL, FRAME, at, value)? == Some(KeepFault::Untyped(number)));
+        assert!(rt;
+            told_changed(rt.alloc(), CALL, FRAME, at, value)? == Some(KeepFault::Untyped(number))
+        );
     }
     Ok(())
 }
