@@ -8,6 +8,7 @@ ghost use Rattle.delta_meaning.specs.Functions.{body_of};
 ghost use Rattle.delta_meaning.specs.Scope.{names_in, types_listed};
 ghost use Rattle.delta_meaning.specs.Weights.{weight, heaviest};
 
+use crate::calls::Answer;
 use bunch::{Bunch, Name};
 use delta_tree::Exp;
 use std::alloc::Global;
@@ -39,6 +40,10 @@ pub struct Place<'a> {
     pub known: &'a [(Name, Ty)],
     /// The depth that calls have left.
     pub depth: u64,
+    /// How many calls may still stand inside one another on the stack.
+    pub near: u64,
+    /// Calls that were made before.
+    pub answers: &'a [Answer],
 }
 
 /// The first function with the name, or None exactly where there is none.
