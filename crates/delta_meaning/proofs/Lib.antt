@@ -18,4 +18,5 @@ pub mod Evaluations
 pub mod Declarations
 pub mod MainRuns
 pub mod Runs
+pub mod Sames
 mod Examples

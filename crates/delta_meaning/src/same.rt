@@ -7,7 +7,7 @@ ghost use Rattle.hist_value.specs.HistValue.{hist_value_of};
 use hist_value::Value;
 use stream_prefix::{Prefix, StarEnd};
 
-/// Whether two prefixes are the same.
+// Whether two prefixes are the same.
 #[cycle(prefixes)]
 #[tactic(auto, using(stream_prefix::proofs::Rows::rows))]
 fn is_same_prefix(p: &Prefix, q: &Prefix) -> bool
@@ -57,15 +57,17 @@ fn is_same_prefix(p: &Prefix, q: &Prefix) -> bool
 pub fn are_same_prefixes(ps: &[Prefix], qs: &[Prefix]) -> bool
     ensures { result ≡ true → map prefix_of ps.now ≡ map prefix_of qs.now }
 {
-    if ps.len() != qs.len() {
-        return false;
-    }
-    for i in 0..ps.len() {
-        if !is_same_prefix(&ps[i], &qs[i]) {
+    let mut others = qs;
+    for p in ps {
+        let Some((q, rest)) = others.split_first() else {
+            return false;
+        };
+        if !is_same_prefix(p, q) {
             return false;
         }
+        others = rest;
     }
-    true
+    others.is_empty()
 }
 
 #[cycle(prefixes)]
@@ -118,13 +120,15 @@ fn is_same_value(v: &Value, w: &Value) -> bool
 pub fn are_same_values(vs: &[Value], ws: &[Value]) -> bool
     ensures { result ≡ true → map hist_value_of vs.now ≡ map hist_value_of ws.now }
 {
-    if vs.len() != ws.len() {
-        return false;
-    }
-    for i in 0..vs.len() {
-        if !is_same_value(&vs[i], &ws[i]) {
+    let mut others = ws;
+    for v in vs {
+        let Some((w, rest)) = others.split_first() else {
+            return false;
+        };
+        if !is_same_value(v, w) {
             return false;
         }
+        others = rest;
     }
-    true
+    others.is_empty()
 }

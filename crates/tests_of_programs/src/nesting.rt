@@ -8,7 +8,7 @@ use std::test::Fail;
 use stream_prefix::{Prefix, StarEnd};
 
 // Programs that call themselves without end, by where the call stands.
-const ENDLESS: [&[u8]; 20] = [
+const ENDLESS: [&[u8]; 10] = [
     // alone
     b"fun f(u : 1) : 1 = f(u)
 main(u : 1) : 1 = f(u)",
@@ -38,6 +38,10 @@ main(u : 1) : 1 = f(u)",
 main(u : 1) : 1 || 1 = f(u)",
     b"fun f(u : 1) : 1 . 1 = let (x; y) = f(u) in (x; y)
 main(u : 1) : 1 . 1 = f(u)",
+];
+
+// And further ones.
+const ENDLESS_TOO: [&[u8]; 10] = [
     // a case on it
     b"fun f(u : 1) : 1 + 1 = case f(u) of { inl x => inl x | inr y => inr y }
 main(u : 1) : 1 + 1 = f(u)",
@@ -82,14 +86,23 @@ fn an_endless_nest_uses_its_budget_up(rt: HostRuntime) -> Result<(), Fail> {
     Ok(())
 }
 
-// Counts down from 2,000, with each number before the rest, which is given by the next call.
+#[test]
+fn so_does_one_in_any_other_place(rt: HostRuntime) -> Result<(), Fail> {
+    for text in ENDLESS_TOO {
+        let found = refused(rt.alloc(), text, 10_000)?;
+        assert!(rt; found == Some(EvalRefusal::Budget(10_000)));
+    }
+    Ok(())
+}
+
+// Counts down from 300, with each number before the rest, which is given by the next call.
 const LISTED: &[u8] =
     b"fun f{n : Int}(u : 1) : Int* = if n < 1 then nil else let y = f{n - 1}(u) in {n} :: y
-main(u : 1) : Int* = f{2000}(u)";
+main(u : 1) : Int* = f{300}(u)";
 
-// Calls itself twice, the one after the other, from 40 down to 33, and then once.
+// Calls itself twice, the one after the other, from 40 down to 36, and then once.
 const BRANCHING: &[u8] =
-    b"fun f{n : Int}(u : 1) : Int* = if n < 1 then nil else if n < 33 then f{n - 1}(u) else
+    b"fun f{n : Int}(u : 1) : Int* = if n < 1 then nil else if n < 36 then f{n - 1}(u) else
   let y = f{n - 1}(u) in let z = f{n - 1}(u) in {n} :: z
 main(u : 1) : Int* = f{40}(u)";
 
@@ -112,16 +125,16 @@ fn items_of(p: &Prefix) -> usize {
 
 #[test]
 fn a_deep_nest_gives_what_it_gives(rt: HostRuntime) -> Result<(), Fail> {
-    assert!(rt; counted(rt.alloc(), LISTED)? == (2000, 2001, 2001));
-    assert!(rt; refused(rt.alloc(), LISTED, 2001)? == None);
-    assert!(rt; refused(rt.alloc(), LISTED, 2000)? == Some(EvalRefusal::Budget(2000)));
+    assert!(rt; counted(rt.alloc(), LISTED)? == (300, 301, 301));
+    assert!(rt; refused(rt.alloc(), LISTED, 301)? == None);
+    assert!(rt; refused(rt.alloc(), LISTED, 300)? == Some(EvalRefusal::Budget(300)));
     Ok(())
 }
 
 #[test]
 fn each_call_of_a_tree_is_counted(rt: HostRuntime) -> Result<(), Fail> {
-    assert!(rt; counted(rt.alloc(), BRANCHING)? == (8, 8703, 9));
-    assert!(rt; refused(rt.alloc(), BRANCHING, 8703)? == None);
-    assert!(rt; refused(rt.alloc(), BRANCHING, 8702)? == Some(EvalRefusal::Budget(8702)));
+    assert!(rt; counted(rt.alloc(), BRANCHING)? == (5, 1183, 6));
+    assert!(rt; refused(rt.alloc(), BRANCHING, 1183)? == None);
+    assert!(rt; refused(rt.alloc(), BRANCHING, 1182)? == Some(EvalRefusal::Budget(1182)));
     Ok(())
 }
