@@ -3,7 +3,7 @@ use Rattle.std.specs.Prelude.{◌≡◌, ℕ, List}
 use Rattle.event_frame.specs.declared.version.Version.{Version}
 use Rattle.delta_tree.specs.SyntaxTree.{ProgramTree}
 use Rattle.core_term.specs.CoreTerm.{CoreProgram}
-use Rattle.delta_end.specs.declared.refusal.Refusal.{Refusal}
+use Rattle.program_refusal.specs.declared.refusal.Refusal.{Refusal}
 use Rattle.checked_program.specs.Acceptance.{IsAcceptedAs, IsRefusedAs, IsElaboratedAs, IsUnelaborated, IsWritable, IsRefusedToWrite}
 
 -- a text is accepted as one program with one core at most
@@ -27,4 +27,5 @@ pub record CoreIsJudged : Type 0 where
 -- so it is where frames of a version are to be written
 pub record WritingIsJudged : Type 0 where
   pub refusal_is_one : (text : List ℕ) (version : Version) (w v : Refusal) → IsRefusedToWrite text version w → IsRefusedToWrite text version v → w ≡ v
-  pub not_refused : (text : List ℕ) (version : Version) (p : ProgramTree) (c : CoreProgram) (w : Refusal) → IsWritable text version p c → IsRefusedToWrite text version w → ⊥
+  pub not_refused : (text : List ℕ) (version : Version) (p : ProgramTree) (c : CoreProgram) (w : Refusal) → IsWritable text version p c
+      → IsRefusedToWrite text version w → ⊥

@@ -13,7 +13,7 @@ use Rattle.stream_type.specs.StreamType.{StreamType, eps, one, cat, par, sum, st
 use Rattle.bunch.specs.Names.{put, holds}
 use Rattle.bunch.specs.BunchTree.{leaf_names, stands_before}
 use Rattle.bunch.specs.Facts.{Facts, place_like, place_let, put_before}
-use Rattle.hist_value.specs.HistType.{HistType, unit_type, past}
+use Rattle.hist_value.specs.HistType.{HistType, past}
 use Rattle.hist_value.specs.HistExpr.{HistExpr}
 use Rattle.hist_value.specs.Typing.{Gives}
 use Rattle.core_term.specs.CoreTerm.{CoreTerm, CoreTerms, CoreBody, CoreProgram, var_term, eps_term, unit_term, nil_term, past_term, par_term, cat_term, cons_term, inl_term, inr_term, let_term, let_par_term, let_cat_term, case_sum_term, case_star_term, wait_term, call_term, no_terms, term_before, leaf_types, past_types, fun_at, is_there}
@@ -37,10 +37,6 @@ type_at c x = unwrap_or (c.types x) eps
 -- the types of all names, as the meaning takes them
 abbrev pub types_of : Context → NameTypes
 types_of c x = type_at c x
-
--- the types of all historical names; any other name counts as of the type of the unit value
-abbrev pub pasts_of : Context → ℕ → HistType
-pasts_of c x = unwrap_or (c.past x) unit_type
 
 -- whether x and y are stream variables and x stands before y
 abbrev pub is_before : Context → ℕ → ℕ → Bool
@@ -137,7 +133,8 @@ module _ (funs : List CoreBody) (counts : ℕ → Bool) where
     HasType c (wait_term x t a) r =
         (t ≡ r) × HasForm c x (type_at c x) × (null_of (type_at c x) ≡ false) × HasType (waited x c) a r
     HasType c (call_term f ms es) r =
-        IsTrue (is_there funs f) × ((fun_at funs f).result ≡ r) × HavePasts c.past ms (past_types (fun_at funs f)) × HaveTypes c es (leaf_types (fun_at funs f).params)
+        IsTrue (is_there funs f) × ((fun_at funs f).result ≡ r) × HavePasts c.past ms (past_types (fun_at funs f))
+        × HaveTypes c es (leaf_types (fun_at funs f).params)
         × ((u v : ℕ) → stands_before (fun_at funs f).params u v ≡ true → PassesInOrder c (fun_at funs f) es u v)
 
     -- arguments have types, one by one
@@ -154,7 +151,12 @@ past_params (e ∷ es) x = if x == e.0 then Some (past e.1) else past_params es 
 -- the context of a body: its parameters in their order
 abbrev pub context_of : CoreBody → Context
 context_of b =
-    record { types = λ x. if holds x (leaf_names b.params) then Some (types_in b.params x) else None; order = stands_before b.params; past = past_params b.past }
+    record {
+      types = λ x. if holds x (leaf_names b.params) then Some (types_in b.params x) else None;
+      order = stands_before b.params;
+      past =
+          past_params b.past;
+    }
 
 -- a body has its result's type, among these functions
 abbrev pub IsTypedBody : List CoreBody → CoreBody → Type 0

@@ -14,13 +14,14 @@ ghost use Rattle.delta_meaning.specs.Evaluated.{run_of};
 ghost use Rattle.delta_meaning.specs.Functions.{body_of, body_at};
 
 use crate::evaluated::Evaluated;
-use crate::functions::{Function, Place, leaves};
+use crate::functions::{Function, Place};
 use crate::refusal::{EvalRefusal, Stop};
 use crate::rounds::evaluate_in_rounds;
 use crate::scope::Scope;
 use crate::splitting::parts;
 use crate::types::{boxed_params, boxed_type, params_meant, past_meant, type_meant};
 use bunch::{Bunch, Name};
+use core_term::params::leaves;
 use delta_tree::{Decl, Exp, Fun, Program};
 use std::alloc::Global;
 use stream_prefix::Prefix;
