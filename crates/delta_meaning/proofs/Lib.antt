@@ -17,5 +17,4 @@ pub mod Evaluations
 pub mod Declarations
 pub mod MainRuns
 pub mod Runs
-pub mod Sames
 mod Examples

@@ -1,5 +1,5 @@
 -- What calls give, which answers to them are right, and what is known where one is put off.
-use Rattle.std.specs.Prelude.{ℕ, ◌≡◌, ◌<◌, List, map, All}
+use Rattle.std.specs.Prelude.{ℕ, ◌≡◌, ◌<◌, map, All}
 use Rattle.std.specs.declared.alloc.Global.{Global}
 use Rattle.std.specs.declared.boxed.Box.{Box}
 use Rattle.stream_prefix.specs.Tree.{prefix_of}

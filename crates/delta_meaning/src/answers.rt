@@ -37,14 +37,7 @@ pub fn answer_to(
 {
     match found(place.answers, place.depth, f, values, streams, left) {
         Some(run) => Ok(copy_run(alloc, run)?),
-        None => Err(Pause::PutOff(boxed_call(
-            alloc,
-            place.depth,
-            f,
-            values,
-            streams,
-            left,
-        )?)),
+        None => Err(Pause::PutOff(boxed_call(alloc, place.depth, f, values, streams, left)?)),
     }
 }
 

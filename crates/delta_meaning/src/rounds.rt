@@ -161,12 +161,7 @@ fn begin<'a>(
 }
 
 // A round for a call.
-fn make(
-    alloc: Global,
-    place: &Place<'_>,
-    waiting: Waiting,
-    rounds: &mut Rounds,
-) -> Result<(), Stop>
+fn make(alloc: Global, place: &Place<'_>, waiting: Waiting, rounds: &mut Rounds) -> Result<(), Stop>
     requires { All (IsRight (functions_at place.now)) rounds.old.answers.items }
     ensures after { (left calls : ℕ) → IsAmong (functions_at place.now) left calls waiting.call → IsUnderWay (functions_at place.now) left calls rounds.old → OnOk result (IsUnderWay (functions_at place.now) left calls rounds.new) }
     ensures spent { (left calls : ℕ) → IsAmong (functions_at place.now) left calls waiting.call → IfErr result (λ s. s ≡ Stop.Spent → left < calls) }
@@ -198,11 +193,7 @@ fn make(
 // How many calls may stand inside one another where a call is begun that another one put off: where the
 // other had been begun before, it is one of its own, else one that too many stood round.
 fn near_inside(near: u64, is_begun: bool) -> u64 {
-    if is_begun && near > 1 {
-        near - 1
-    } else {
-        NEAR
-    }
+    if is_begun && near > 1 { near - 1 } else { NEAR }
 }
 
 // What a call gives, where so many calls may stand inside one another on the stack, itself counted.
