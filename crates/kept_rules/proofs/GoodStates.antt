@@ -27,12 +27,11 @@ use Rattle.kept_state.specs.KeptNames.{BodiesOnce, BodiesOnceIn, PastsApart, Pas
 use Rattle.kept_state.specs.KeptTyping.{IsTypedKept, context_kept, types_kept}
 use Rattle.kept_state.proofs.BoundApart.{typed_once_is_apart}
 use Rattle.kept_state.proofs.TypedWaits.{NotBound, not_bound_put, not_left, not_right, not_tail, not_bound_two}
-use Rattle.kept_check.specs.InTurn.{StateAt, own_names, names_in_turn, names_of_parts, names_of_arguments, states_of, states_in, states_of_arguments, states_kept}
-use Rattle.kept_check.specs.StateRules.{IsGoodLater, IsGoodSum, IsGoodStar, IsGoodWait, FollowsRule, IsGood, IsGoodAt}
-use Rattle.kept_check.specs.FirstUntyped.{IsFirstUntyped}
-use Rattle.kept_check.specs.Laws.{TypedIsGood, UntypedIsNotTyped, OneFirst}
-use Rattle.kept_check.specs.Walk.{AreGood}
-use Rattle.kept_check.proofs.NamesInTurn.{distinct_in_turn, distinct_bound}
+use Rattle.kept_rules.specs.InTurn.{StateAt, own_names, names_in_turn, names_of_parts, names_of_arguments, states_of, states_in, states_of_arguments, states_kept}
+use Rattle.kept_rules.specs.StateRules.{IsGoodLater, IsGood, AreGood, IsGoodAt}
+use Rattle.kept_rules.specs.FirstUntyped.{IsFirstUntyped}
+use Rattle.kept_rules.specs.Laws.{TypedIsGood, UntypedIsNotTyped, OneFirst}
+use Rattle.kept_rules.proofs.NamesInTurn.{distinct_in_turn, distinct_bound}
 
 and_both : (a b : Bool) → a ≡ true → b ≡ true → (a && b) ≡ true
 and_both a b h k = ap (λ c. c && b) h ∙ k
