@@ -1,12 +1,13 @@
 -- The definitions at single kept states. Each answer was worked out by hand, and the check computes it.
-use Rattle.std.proofs.Common.{◌≡◌, ◌<◌, ◌+◌, ℕ, zero, suc, true, false, true≢false, List, [], ◌∷◌, refl, subst, sym, arith}
+use Rattle.std.proofs.Common.{◌≡◌, ◌<◌, ℕ, zero, suc, true≢false, [], ◌∷◌, refl, subst, sym, arith}
 use Rattle.std.specs.Prelude.{Some, slice_get}
 use Rattle.stream_type.specs.StreamType.{one, int, par}
 use Rattle.bunch.specs.BunchTree.{leaf}
 use Rattle.core_term.specs.CoreTerm.{CoreProgram, var_term, par_term}
-use Rattle.delta_state.specs.StateTree.{StateTree, var_state, par_state, let_state}
+use Rattle.delta_state.specs.StateTree.{var_state, par_state, let_state}
 use Rattle.kept_state.specs.KeptTree.{KeptTree}
-use Rattle.kept_rules.specs.InTurn.{StateAt, states_kept, names_in_turn}
+use Rattle.kept_state.specs.KeptTyping.{context_kept}
+use Rattle.kept_rules.specs.InTurn.{StateAt, state_at, states_kept, names_in_turn}
 use Rattle.kept_rules.specs.StateRules.{IsGoodAt}
 use Rattle.kept_rules.specs.FirstUntyped.{IsFirstUntyped}
 
@@ -36,15 +37,26 @@ two_numbers = record { funs = []; main = record { past = []; params = leaf 0 int
 abbrev other_name : KeptTree
 other_name = record { events = 0; ins = int ∷ []; cuts = []; out = par int int; state = par_state (var_state 0) (var_state 1) }
 
--- the pair and the first name are good
+-- the pair,
+abbrev pair_at : StateAt
+pair_at = state_at (context_kept two_numbers other_name) (par int int) (0 ∷ []) (par_state (var_state 0) (var_state 1))
+
+-- and the first name in it
+abbrev name_at : StateAt
+name_at = state_at (context_kept two_numbers other_name) int (0 ∷ []) (var_state 0)
+
+-- are good
 first_two : (m : ℕ) (j : StateAt) → m < 2 → slice_get (states_kept two_numbers other_name) m ≡ Some j → IsGoodAt two_numbers other_name m j
 first_two zero j l e =
-    subst (IsGoodAt two_numbers other_name 0) (cc e)
+    let is : pair_at ≡ j = cc e in
+    subst (IsGoodAt two_numbers other_name 0) is
     (record {
       placed = λ i. record { are_few = omega arith; reaches = omega arith; has_types = refl; has_cuts = refl; is_place = tt };
       good = record { rule = refl; once = refl };
     })
-first_two (suc zero) j l e = subst (IsGoodAt two_numbers other_name 1) (cc e) (record { placed = λ i. absurd (omega (arith, i)); good = record { rule = refl; once = refl } })
+first_two (suc zero) j l e =
+    let is : name_at ≡ j = cc e in
+    subst (IsGoodAt two_numbers other_name 1) is (record { placed = λ i. absurd (omega (arith, i)); good = record { rule = refl; once = refl } })
 first_two (suc (suc m)) j l e = absurd (omega (arith, l))
 
 -- so it is the state 2
