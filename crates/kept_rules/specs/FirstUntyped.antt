@@ -2,8 +2,8 @@
 use Rattle.std.specs.Prelude.{ℕ, ◌≡◌, ◌<◌, Some, IsSomeAnd, slice_get}
 use Rattle.core_term.specs.CoreTerm.{CoreProgram}
 use Rattle.kept_state.specs.KeptTree.{KeptTree}
-use Rattle.kept_check.specs.InTurn.{StateAt, states_kept}
-use Rattle.kept_check.specs.StateRules.{IsGoodAt}
+use Rattle.kept_rules.specs.InTurn.{StateAt, states_kept}
+use Rattle.kept_rules.specs.StateRules.{IsGoodAt}
 
 -- the state with the number n, counted from 0 in turn, isn't as it should be, and those before it are
 pub record IsFirstUntyped (c : CoreProgram) (k : KeptTree) (n : ℕ) : Type 0 where

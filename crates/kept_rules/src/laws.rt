@@ -1,7 +1,7 @@
 //! Laws of the first untyped state, each the contract of a function with nothing in it. What they say stands
 //! in `specs/Laws.antt`.
 
-ghost use Rattle.kept_check.specs.Laws.{TypedIsGood, UntypedIsNotTyped, OneFirst};
+ghost use Rattle.kept_rules.specs.Laws.{TypedIsGood, UntypedIsNotTyped, OneFirst};
 
 /// A kept state is typed just where each of its states is as it should be.
 pub fn typed_is_good()

@@ -1,10 +1,10 @@
 -- The names that a state binds in the order of its states are those that it binds.
-use Rattle.std.proofs.Common.{◌≡◌, ℕ, ◌+◌, true, List, [], ◌∷◌, ◌++◌, refl, arith}
+use Rattle.std.proofs.Common.{◌≡◌, ℕ, true, List, [], ◌∷◌, ◌++◌, refl, arith}
 use Rattle.core_term.specs.FreeNames.{bound_names, is_distinct}
 use Rattle.delta_state.specs.StateTree.{StateTree, ArgumentTrees, sink, var_state, par_state, cat_state, let_state, let_par_state, let_cat_state, sum_state, star_state, wait_state, frame_state, no_arguments, argument_before}
 use Rattle.kept_state.specs.KeptNames.{bound_in_state, bound_in_arguments}
-use Rattle.names_kept.proofs.NameCounts.{times, times_both, Fewer, fewer_both, fewer_same, fewer_distinct}
-use Rattle.kept_check.specs.InTurn.{own_names, names_in_turn, names_of_parts, names_of_arguments}
+use Rattle.names_kept.proofs.NameCounts.{times, times_both, fewer_both, fewer_same, fewer_distinct}
+use Rattle.kept_rules.specs.InTurn.{names_in_turn, names_of_arguments}
 
 mutual
   -- each as often

@@ -19,7 +19,7 @@ use Rattle.delta_state.specs.Stands.{depth_after}
 use Rattle.kept_state.specs.KeptTree.{KeptTree}
 use Rattle.kept_state.specs.KeptNames.{IsPastApart}
 use Rattle.kept_state.specs.KeptTyping.{IsPlaced}
-use Rattle.kept_check.specs.InTurn.{StateAt, own_names}
+use Rattle.kept_rules.specs.InTurn.{StateAt, own_names}
 
 module _ (funs : List CoreBody) (depth : ℕ) where
   -- code that isn't reached: `inside` binds the names of the form that it belongs to, which are `others`
@@ -54,7 +54,8 @@ module _ (funs : List CoreBody) (depth : ℕ) where
   FollowsRule c (var_state x) r = c.types x ≡ Some r
   FollowsRule c (par_state a b) r = r ≡ par (par_left r) (par_right r)
   FollowsRule c (cat_state a l) r =
-      (r ≡ cat (cat_first r) (cat_second r)) × (null_of (cat_first r) ≡ false) × IsGoodLater c (λ d. d) [] l (cat_second r) × AllBefore c (free_in_state a) (free_names l.term)
+      (r ≡ cat (cat_first r) (cat_second r)) × (null_of (cat_first r) ≡ false)
+      × IsGoodLater c (λ d. d) [] l (cat_second r) × AllBefore c (free_in_state a) (free_names l.term)
   FollowsRule c (let_state x s a b) r = ⊤
   FollowsRule c (let_par_state x y z a) r = HasForm c z (par (par_left (type_at c z)) (par_right (type_at c z)))
   FollowsRule c (let_cat_state x y z a) r = HasForm c z (cat (cat_first (type_at c z)) (cat_second (type_at c z)))
@@ -70,6 +71,11 @@ module _ (funs : List CoreBody) (depth : ℕ) where
   pub record IsGood (j : StateAt) : Type 0 where
     pub rule : FollowsRule j.context j.state j.wanted
     pub once : IsTrue (is_distinct (j.before ++ own_names j.state))
+
+-- each of these is good
+abbrev pub AreGood : List CoreBody → ℕ → List StateAt → Type 0
+AreGood funs depth [] = ⊤
+AreGood funs depth (j ∷ js) = IsGood funs depth j × AreGood funs depth js
 
 -- what is asked of the state with the number n: the first one answers for what stands beside the state, too
 pub record IsGoodAt (c : CoreProgram) (k : KeptTree) (n : ℕ) (j : StateAt) : Type 0 where

@@ -1,8 +1,8 @@
 -- A kept state is typed just where each of its states is good, and at most one of them is the first that isn't.
-use Rattle.std.proofs.Common.{◌≡◌, ◌≢◌, ◌∙◌, ◌<◌, ◌≤◌, ◌⊎◌, inl, inr, ◌+◌, ℕ, zero, suc, Bool, true, false, true≢false, ◌&&◌, ◌||◌, not, List, [], ◌∷◌, ◌++◌, eqb, if◌then◌else◌, ap, refl, sym, subst, append_assoc, append-nil, arith}
+use Rattle.std.proofs.Common.{◌≡◌, ◌∙◌, ◌<◌, ◌≤◌, ◌⊎◌, inl, inr, ℕ, zero, suc, Bool, true, false, true≢false, ◌&&◌, ◌||◌, not, List, [], ◌∷◌, ◌++◌, eqb, if◌then◌else◌, ap, refl, sym, subst, append_assoc, append-nil, arith}
 use Rattle.std.proofs.lemmas.Bool.{eqb-true}
 use Rattle.std.proofs.lemmas.List.Elements.{All-append, All-nil, All-cons, All-head, All-tail}
-use Rattle.std.specs.Prelude.{Option, Some, None, is_some, slice_get, IsSomeAnd, ⊤, ◌↔◌}
+use Rattle.std.specs.Prelude.{Option, Some, None, is_some, slice_get, IsSomeAnd}
 use Rattle.std.specs.List.{All}
 use Rattle.stream_type.specs.StreamType.{StreamType, cat, par, null_of}
 use Rattle.stream_prefix.specs.StreamPrefix.{der}
@@ -12,10 +12,10 @@ use Rattle.core_term.specs.CoreTerm.{CoreBody, CoreProgram}
 use Rattle.core_term.specs.FreeNames.{bound_names, is_distinct}
 use Rattle.core_term.specs.Inert.{is_inert_fun}
 use Rattle.core_term.specs.Parts.{par_left, par_right, cat_first, cat_second, sum_left, sum_right, star_item, star_items}
-use Rattle.core_term.specs.Typing.{Context, HasType, type_at, with_name_like, with_fact, with_parts}
+use Rattle.core_term.specs.Typing.{Context, type_at, with_name_like, with_fact, with_parts}
 use Rattle.core_term.proofs.Sides.{and_first, and_second, holds-head, holds-left, holds-right}
 use Rattle.core_term.proofs.BoundOnce.{not_again, distinct_tail, distinct_left, distinct_right, distinct_apart}
-use Rattle.delta_state.specs.Apart.{IsApart, BindsApart}
+use Rattle.delta_state.specs.Apart.{IsApart}
 use Rattle.delta_state.specs.StateTree.{LaterTree, HeldName, StateTree, ArgumentTrees, sink, var_state, par_state, cat_state, let_state, let_par_state, let_cat_state, sum_state, star_state, wait_state, frame_state, no_arguments, argument_before, argument_names, laters_of, laters_in}
 use Rattle.delta_state.specs.StateTyping.{HasStateType, HaveArgumentTypes, IsTypedLater, with_known, with_past, marks_held, marks_of_arguments, context_held, context_of_arguments}
 use Rattle.delta_state.specs.Settled.{is_settled, are_settled}
@@ -27,12 +27,10 @@ use Rattle.kept_state.specs.KeptNames.{BodiesOnce, BodiesOnceIn, PastsApart, Pas
 use Rattle.kept_state.specs.KeptTyping.{IsTypedKept, context_kept, types_kept}
 use Rattle.kept_state.proofs.BoundApart.{typed_once_is_apart}
 use Rattle.kept_state.proofs.TypedWaits.{NotBound, not_bound_put, not_left, not_right, not_tail, not_bound_two}
-use Rattle.kept_check.specs.InTurn.{StateAt, own_names, names_in_turn, names_of_parts, names_of_arguments, states_of, states_in, states_of_arguments, states_kept}
-use Rattle.kept_check.specs.StateRules.{IsGoodLater, IsGoodSum, IsGoodStar, IsGoodWait, FollowsRule, IsGood, IsGoodAt}
-use Rattle.kept_check.specs.FirstUntyped.{IsFirstUntyped}
-use Rattle.kept_check.specs.Laws.{TypedIsGood, UntypedIsNotTyped, OneFirst}
-use Rattle.kept_check.specs.Walk.{AreGood}
-use Rattle.kept_check.proofs.NamesInTurn.{distinct_in_turn, distinct_bound}
+use Rattle.kept_rules.specs.InTurn.{StateAt, names_in_turn, names_of_arguments, states_of, states_of_arguments, states_kept}
+use Rattle.kept_rules.specs.StateRules.{IsGoodLater, IsGood, AreGood, IsGoodAt}
+use Rattle.kept_rules.specs.Laws.{TypedIsGood, UntypedIsNotTyped, OneFirst}
+use Rattle.kept_rules.proofs.NamesInTurn.{distinct_in_turn, distinct_bound}
 
 and_both : (a b : Bool) → a ≡ true → b ≡ true → (a && b) ≡ true
 and_both a b h k = ap (λ c. c && b) h ∙ k
