@@ -25,7 +25,9 @@ use Rattle.state_bounds.specs.Laws.{IsWithin, bound_after}
 
 -- a state that is made simpler can hold no more
 abbrev pub SimplerHoldsNoMore : Type 0
-SimplerHoldsNoMore = (funs : List CoreBody) (counts : ℕ → Bool) (numbers : ℕ → Bound) (c : Context) (r : StreamType) (a b : StateTree) → HasStateType funs counts c a r → IsTrue (is_settled a r) → Simpler r a b
+SimplerHoldsNoMore =
+    (funs : List CoreBody) (counts : ℕ → Bool) (numbers : ℕ → Bound) (c : Context) (r : StreamType) (a b : StateTree)
+    → HasStateType funs counts c a r → IsTrue (is_settled a r) → Simpler r a b
     → state_bound funs numbers b c ⊑ state_bound funs numbers a c
 
 -- a state has the type r in a context, is settled, and has a bound of n at most there
@@ -36,13 +38,19 @@ pub record IsBounded (funs : List CoreBody) (counts : ℕ → Bool) (numbers : �
 
 -- so is a state that it becomes by rewritings
 abbrev pub SimplerKeepsBound : Type 0
-SimplerKeepsBound = (funs : List CoreBody) (counts : ℕ → Bool) (numbers : ℕ → Bound) (c : Context) (r : StreamType) (n : ℕ) (a b : StateTree) → IsBounded funs counts numbers c r n a → SimplerBy r a b → IsBounded funs counts numbers c r n b
+SimplerKeepsBound =
+    (funs : List CoreBody) (counts : ℕ → Bool) (numbers : ℕ → Bound) (c : Context) (r : StreamType) (n : ℕ) (a b : StateTree)
+    → IsBounded funs counts numbers c r n a → SimplerBy r a b → IsBounded funs counts numbers c r n b
 
 -- what stands for a program after p can hold no more after any number of rewritings
 abbrev pub SimplerStaysBelow : Type 0
-SimplerStaysBelow = (c : CoreProgram) (numbers : ℕ → Bound) (n : ℕ) (p : StreamPrefix) (a b : StateTree) → StandsFor c n p a → SimplerBy (output_left c p) a b → bound_after c numbers p b ⊑ bound_after c numbers p a
+SimplerStaysBelow =
+    (c : CoreProgram) (numbers : ℕ → Bound) (n : ℕ) (p : StreamPrefix) (a b : StateTree) → StandsFor c n p a → SimplerBy (output_left c p) a b
+    → bound_after c numbers p b ⊑ bound_after c numbers p a
 
 -- a machine that stands after a word within n does so with the simpler state in place of its own
 abbrev pub SimplerIsWithin : Type 0
-SimplerIsWithin = (m : MachineView) (word : List StreamEvent) (numbers : ℕ → Bound) (n : ℕ) (b : StateTree) (h : IsWithin m word numbers n) → All (IsTypedBody m.program.funs) m.program.funs → SimplerBy (output_left m.program (input_of m.program word)) h.stands.marked b
+SimplerIsWithin =
+    (m : MachineView) (word : List StreamEvent) (numbers : ℕ → Bound) (n : ℕ) (b : StateTree) (h : IsWithin m word numbers n)
+    → All (IsTypedBody m.program.funs) m.program.funs → SimplerBy (output_left m.program (input_of m.program word)) h.stands.marked b
     → IsWithin (with_state (without_marks b) m) word numbers n

@@ -58,31 +58,42 @@ module _ (funs : List CoreBody) (counts : ℕ → Bool) where
       nil_rule : {known : Known} {g : BunchTree} {s : StreamType} → Derives known g nil_term (star s)
       past_rule : {known : Known} {g : BunchTree} {m : HistExpr} {r : StreamType} → Gives known m (Some (past r)) (past r) → Derives known g (past_term m) r
       -- both parts are derived in the whole bunch
-      par_rule : {known : Known} {g : BunchTree} {a b : CoreTerm} {s t : StreamType} → Derives known g a s → Derives known g b t → Derives known g (par_term a b) (par s t)
+      par_rule : {known : Known} {g : BunchTree} {a b : CoreTerm} {s t : StreamType} → Derives known g a s → Derives known g b t
+          → Derives known g (par_term a b) (par s t)
       inl_rule : {known : Known} {g : BunchTree} {a : CoreTerm} {s t : StreamType} → Derives known g a s → Derives known g (inl_term a) (sum s t)
       inr_rule : {known : Known} {g : BunchTree} {a : CoreTerm} {s t : StreamType} → Derives known g a t → Derives known g (inr_term a) (sum s t)
       -- the first part is derived left of a semicolon, and the second right of it
-      cat_rule : {known : Known} {g h : BunchTree} {a b : CoreTerm} {s t : StreamType} → Derives known g a s → Derives known h b t → Derives known (semi g h) (cat_term a b) (cat s t)
-      cons_rule : {known : Known} {g h : BunchTree} {a b : CoreTerm} {s : StreamType} → Derives known g a s → Derives known h b (star s) → Derives known (semi g h) (cons_term a b) (star s)
+      cat_rule : {known : Known} {g h : BunchTree} {a b : CoreTerm} {s t : StreamType} → Derives known g a s → Derives known h b t
+          → Derives known (semi g h) (cat_term a b) (cat s t)
+      cons_rule : {known : Known} {g h : BunchTree} {a b : CoreTerm} {s : StreamType} → Derives known g a s → Derives known h b (star s)
+          → Derives known (semi g h) (cons_term a b) (star s)
       -- what x is bound to is derived in a part of the bunch; there x stands beside that part. What isn't inert
       -- may stand right of no semicolon
       let_rule : {known : Known} {p : List Turn} {d g h : BunchTree} {x : ℕ} {s r : StreamType} {a b : CoreTerm} → Replaces d (comma d (leaf x s)) p g h
-          → (is_inert (fun_at funs) counts a s ≡ true) ⊎ (stays_first p g ≡ true) → Derives known d a s → Derives (hidden x known) h b r → Derives known g (let_term x s a b) r
+          → (is_inert (fun_at funs) counts a s ≡ true) ⊎ (stays_first p g ≡ true) → Derives known d a s → Derives (hidden x known) h b r
+          → Derives known g (let_term x s a b) r
       -- the parts stand beside the name that they are of
-      let_par_rule : {known : Known} {p : List Turn} {g h : BunchTree} {x y z : ℕ} {s t r : StreamType} {a : CoreTerm} → Replaces (leaf z (par s t)) (comma (leaf z (par s t)) (comma (leaf x s) (leaf y t))) p g h
+      let_par_rule : {known : Known} {p : List Turn} {g h : BunchTree} {x y z : ℕ} {s t r : StreamType} {a : CoreTerm}
+          → Replaces (leaf z (par s t)) (comma (leaf z (par s t)) (comma (leaf x s) (leaf y t))) p g h
           → Derives (hidden y (hidden x known)) h a r → Derives known g (let_par_term x y z a) r
-      let_cat_rule : {known : Known} {p : List Turn} {g h : BunchTree} {x y z : ℕ} {s t r : StreamType} {a : CoreTerm} → Replaces (leaf z (cat s t)) (comma (leaf z (cat s t)) (semi (leaf x s) (leaf y t))) p g h
+      let_cat_rule : {known : Known} {p : List Turn} {g h : BunchTree} {x y z : ℕ} {s t r : StreamType} {a : CoreTerm}
+          → Replaces (leaf z (cat s t)) (comma (leaf z (cat s t)) (semi (leaf x s) (leaf y t))) p g h
           → Derives (hidden y (hidden x known)) h a r → Derives known g (let_cat_term x y z a) r
-      case_sum_rule : {known : Known} {p q : List Turn} {g h k : BunchTree} {x y z : ℕ} {s t r : StreamType} {a b : CoreTerm} → Replaces (leaf z (sum s t)) (comma (leaf z (sum s t)) (leaf x s)) p g h → Derives (hidden x known) h a r
-          → Replaces (leaf z (sum s t)) (comma (leaf z (sum s t)) (leaf y t)) q g k → Derives (hidden y known) k b r → Derives known g (case_sum_term z r x a y b) r
+      case_sum_rule : {known : Known} {p q : List Turn} {g h k : BunchTree} {x y z : ℕ} {s t r : StreamType} {a b : CoreTerm}
+          → Replaces (leaf z (sum s t)) (comma (leaf z (sum s t)) (leaf x s)) p g h → Derives (hidden x known) h a r
+          → Replaces (leaf z (sum s t)) (comma (leaf z (sum s t)) (leaf y t)) q g k → Derives (hidden y known) k b r
+          → Derives known g (case_sum_term z r x a y b) r
       -- where there is no item nothing is added
       case_star_rule : {known : Known} {p : List Turn} {g h : BunchTree} {y ys z : ℕ} {s r : StreamType} {a b : CoreTerm} → Derives known g a r
-          → Replaces (leaf z (star s)) (comma (leaf z (star s)) (semi (leaf y s) (leaf ys (star s)))) p g h → Derives (hidden ys (hidden y known)) h b r → Derives known g (case_star_term z r a y ys b) r
+          → Replaces (leaf z (star s)) (comma (leaf z (star s)) (semi (leaf y s) (leaf ys (star s)))) p g h
+          → Derives (hidden ys (hidden y known)) h b r → Derives known g (case_star_term z r a y ys b) r
       -- the name leaves the bunch and is known, where its stream has something to wait for
-      wait_rule : {known : Known} {p : List Turn} {g h : BunchTree} {x : ℕ} {s r : StreamType} {a : CoreTerm} → null_of s ≡ false → Replaces (leaf x s) empty p g h
+      wait_rule : {known : Known} {p : List Turn} {g h : BunchTree} {x : ℕ} {s r : StreamType} {a : CoreTerm} → null_of s ≡ false
+          → Replaces (leaf x s) empty p g h
           → Derives (learned x s known) h a r → Derives known g (wait_term x r a) r
       -- the arguments share the bunch as the parameters share theirs
-      call_rule : {known : Known} {g : BunchTree} {f : ℕ} {ms : List HistExpr} {es : CoreTerms} {r : StreamType} → IsTrue (is_there funs f) → (fun_at funs f).result ≡ r → HavePasts known ms (past_types (fun_at funs f))
+      call_rule : {known : Known} {g : BunchTree} {f : ℕ} {ms : List HistExpr} {es : CoreTerms} {r : StreamType} → IsTrue (is_there funs f)
+          → (fun_at funs f).result ≡ r → HavePasts known ms (past_types (fun_at funs f))
           → Passes known (fun_at funs f).params g es → WaitTheirTurn (fun_at funs f) es → Derives known g (call_term f ms es) r
 
     -- a bunch derives the arguments of parameters
@@ -95,9 +106,12 @@ module _ (funs : List CoreBody) (counts : ℕ → Bool) where
     -- arguments, each in its own bunch at its parameter's type; the second arguments are those that are left
     pub data Shares : Known → BunchTree → BunchTree → CoreTerms → CoreTerms → Type 0 where
       empty_shared : {known : Known} {es : CoreTerms} → Shares known empty empty es es
-      leaf_shared : {known : Known} {u : ℕ} {t : StreamType} {g : BunchTree} {e : CoreTerm} {es : CoreTerms} → Derives known g e t → Shares known (leaf u t) g (term_before e es) es
-      comma_shared : {known : Known} {a b g h : BunchTree} {es fs gs : CoreTerms} → Shares known a g es fs → Shares known b h fs gs → Shares known (comma a b) (comma g h) es gs
-      semi_shared : {known : Known} {a b g h : BunchTree} {es fs gs : CoreTerms} → Shares known a g es fs → Shares known b h fs gs → Shares known (semi a b) (semi g h) es gs
+      leaf_shared : {known : Known} {u : ℕ} {t : StreamType} {g : BunchTree} {e : CoreTerm} {es : CoreTerms} → Derives known g e t
+          → Shares known (leaf u t) g (term_before e es) es
+      comma_shared : {known : Known} {a b g h : BunchTree} {es fs gs : CoreTerms} → Shares known a g es fs → Shares known b h fs gs
+          → Shares known (comma a b) (comma g h) es gs
+      semi_shared : {known : Known} {a b g h : BunchTree} {es fs gs : CoreTerms} → Shares known a g es fs → Shares known b h fs gs
+          → Shares known (semi a b) (semi g h) es gs
 
 -- the parameters of a body derive it at its result
 abbrev pub IsDerivedBody : List CoreBody → CoreBody → Type 0

@@ -27,7 +27,8 @@ AreDistinct funs = (f : ℕ) → IsDistinct (fun_at funs f).params
 -- a term that a bunch derives is typed in every order that has the bunch's facts
 abbrev pub DerivedIsTyped : Type 0
 DerivedIsTyped =
-    (funs : List CoreBody) (counts : ℕ → Bool) (known : Known) (g : BunchTree) (e : CoreTerm) (r : StreamType) (c : Context) → AreDistinct funs → Derives funs counts known g e r
+    (funs : List CoreBody) (counts : ℕ → Bool) (known : Known) (g : BunchTree) (e : CoreTerm) (r : StreamType) (c : Context) → AreDistinct funs
+    → Derives funs counts known g e r
     → Serves known g c → IsDistinct g → BindsNew (bound_names e) g → HasType funs counts c e r
 
 -- a body that its parameters derive is typed, where names are bound once

@@ -27,4 +27,5 @@ pub record CoreIsJudged : Type 0 where
 -- so it is where frames of a version are to be written
 pub record WritingIsJudged : Type 0 where
   pub refusal_is_one : (text : List ℕ) (version : Version) (w v : Refusal) → IsRefusedToWrite text version w → IsRefusedToWrite text version v → w ≡ v
-  pub not_refused : (text : List ℕ) (version : Version) (p : ProgramTree) (c : CoreProgram) (w : Refusal) → IsWritable text version p c → IsRefusedToWrite text version w → ⊥
+  pub not_refused : (text : List ℕ) (version : Version) (p : ProgramTree) (c : CoreProgram) (w : Refusal) → IsWritable text version p c
+      → IsRefusedToWrite text version w → ⊥

@@ -55,7 +55,8 @@ module _ (funs : List CoreBody) (counts : ℕ → Bool) where
         first_unsized (inner_places places) a (with_fact x y (with_parts x (cat_first (type_at c z)) y (cat_second (type_at c z)) z c))
     first_unsized places (case_sum_term z t x a y b) c =
         first_some
-        (first_some (placed (own_place places) (case_unsized c z (free_names (case_sum_term z t x a y b)))) (first_unsized (inner_places places) a (with_name_like x (sum_left (type_at c z)) z c)))
+        (first_some (placed (own_place places) (case_unsized c z (free_names (case_sum_term z t x a y b))))
+        (first_unsized (inner_places places) a (with_name_like x (sum_left (type_at c z)) z c)))
         (first_unsized (places_behind a (inner_places places)) b (with_name_like y (sum_right (type_at c z)) z c))
     first_unsized places (case_star_term z t a y ys b) c =
         first_some

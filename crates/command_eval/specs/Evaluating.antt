@@ -76,7 +76,8 @@ MayEnd p budget v input ended written FileFailed = ⊥
 MayEnd p budget v input ended written (Objected what) = ⊥
 
 -- an evaluation that ended so: the input that it read, before each read of which nothing was written, and what it wrote
-pub record Evaluates (p : ProgramTree) (budget : ℕ) (v : Version) (start now : Option (List Move)) (old_left new_left : Option (List ℕ)) (end : End) : Type 0 where
+pub record Evaluates (p : ProgramTree) (budget : ℕ) (v : Version) (start now : Option (List Move)) (old_left new_left : Option (List ℕ))
+    (end : End) : Type 0 where
   pub input : List ℕ
   pub ended : Bool
   pub written : List ℕ
@@ -87,7 +88,8 @@ pub record Evaluates (p : ProgramTree) (budget : ℕ) (v : Version) (start now :
   pub used_up : ended ≡ true → (told : List ℕ) → old_left ≡ Some told → told ≡ input
 
 -- the program of a text was evaluated, and this ended so
-pub record EvaluatesIts (text : List ℕ) (budget : ℕ) (v : Version) (start now : Option (List Move)) (old_left new_left : Option (List ℕ)) (end : End) : Type 0 where
+pub record EvaluatesIts (text : List ℕ) (budget : ℕ) (v : Version) (start now : Option (List Move)) (old_left new_left : Option (List ℕ))
+    (end : End) : Type 0 where
   pub program : ProgramTree
   pub core : CoreProgram
   pub accepted : IsWritable text v program core
@@ -108,5 +110,6 @@ end_of (refusals.Budget n) = Budget 0
 abbrev pub EvaluatesText : List ℕ → ℕ → Version → Option (List Move) → Option (List Move) → Option (List ℕ) → Option (List ℕ) → End → Type 0
 EvaluatesText text budget v start now old_left new_left (Refused None) = ⊥
 EvaluatesText text budget v start now old_left new_left (Refused (Some why)) = IsRefusedToWrite text v why × IsUntouched start now old_left new_left
-EvaluatesText text budget v start now old_left new_left Memory = IsUntouched start now old_left new_left ⊎ EvaluatesIts text budget v start now old_left new_left Memory
+EvaluatesText text budget v start now old_left new_left Memory =
+    IsUntouched start now old_left new_left ⊎ EvaluatesIts text budget v start now old_left new_left Memory
 EvaluatesText text budget v start now old_left new_left end = EvaluatesIts text budget v start now old_left new_left end

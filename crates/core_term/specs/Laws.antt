@@ -57,7 +57,8 @@ SplitOfJoin =
 -- what comes later gives each name a prefix of what is left of its type
 abbrev pub SplitAfterIsTyped : Type 0
 SplitAfterIsTyped =
-    (b : BunchTree) (p r : StreamPrefix) → IsPrefix (as_type b) p → IsPrefix (der p (as_type b)) r → IsTyped (left_at (split b p) (types_in b)) (split_after b p r)
+    (b : BunchTree) (p r : StreamPrefix) → IsPrefix (as_type b) p → IsPrefix (der p (as_type b)) r
+    → IsTyped (left_at (split b p) (types_in b)) (split_after b p r)
 
 -- what comes later agrees with the bunch's order
 abbrev pub SplitAfterAgrees : Type 0
@@ -102,7 +103,8 @@ LikeAgrees =
 -- a name is placed by free names where it is whole once they are and, if inert, empty while they are
 abbrev pub LetAgrees : Type 0
 LetAgrees =
-    (types : NameTypes) (before : Facts) (env : Environment) (x : ℕ) (free : List ℕ) (inert : Bool) (s : StreamType) (p : StreamPrefix) → Agrees types before env
+    (types : NameTypes) (before : Facts) (env : Environment) (x : ℕ) (free : List ℕ) (inert : Bool) (s : StreamType) (p : StreamPrefix)
+    → Agrees types before env
     → (IsWholeOn free env → IsTrue (is_maximal p)) → (inert ≡ true → IsEmptyOn free types env → p ≡ emp s)
     → Agrees (put x s types) (place_let x free inert before) (put x p env)
 

@@ -41,30 +41,37 @@ module _ (funs : ℕ → CoreBody) (call : Calls) (inside : ℕ → List HistVal
     level_with (past_term m) types r env past n = 0
     level_with (par_term a b) types r env past n = max (level_with a types (par_left r) env past n) (level_with b types (par_right r) env past n)
     level_with (cat_term a b) types r env past n =
-        max (level_with a types (cat_first r) env past n) (if is_maximal (run_with funs call a types (cat_first r) env past).out then level_with b types (cat_second r) env past n else 0)
+        max (level_with a types (cat_first r) env past n)
+        (if is_maximal (run_with funs call a types (cat_first r) env past).out then level_with b types (cat_second r) env past n else 0)
     level_with (cons_term a b) types r env past n =
-        max (level_with a types (star_item r) env past n) (if is_maximal (run_with funs call a types (star_item r) env past).out then level_with b types (star_items r) env past n else 0)
+        max (level_with a types (star_item r) env past n)
+        (if is_maximal (run_with funs call a types (star_item r) env past).out then level_with b types (star_items r) env past n else 0)
     level_with (inl_term a) types r env past n = level_with a types (sum_left r) env past n
     level_with (inr_term a) types r env past n = level_with a types (sum_right r) env past n
     -- the bound term stands one deeper; the body does where the bound term is no name and isn't whole
     level_with (let_term x s a b) types r env past n =
         max (level_with a types s env past (suc n))
-        (level_with b (put x s types) r (put x (run_with funs call a types s env past).out env) past (level_below (is_var a || is_maximal (run_with funs call a types s env past).out) n))
+        (level_with b (put x s types) r (put x (run_with funs call a types s env past).out env) past
+        (level_below (is_var a || is_maximal (run_with funs call a types s env past).out) n))
     level_with (let_par_term x y z a) types r env past n =
         level_with a (put y (par_right (types z)) (put x (par_left (types z)) types)) r (put y (right_part (env z)) (put x (left_part (env z)) env)) past n
     level_with (let_cat_term x y z a) types r env past n =
-        level_with a (put y (cat_second (types z)) (put x (cat_first (types z)) types)) r (put y (second_part (cat_second (types z)) (env z)) (put x (first_part (env z)) env)) past n
+        level_with a (put y (cat_second (types z)) (put x (cat_first (types z)) types)) r
+        (put y (second_part (cat_second (types z)) (env z)) (put x (first_part (env z)) env)) past n
     level_with (case_sum_term z t x a y b) types r env past n =
-        sum_level (env z) (λ p. level_with a (put x (sum_left (types z)) types) r (put x p env) past n) (λ p. level_with b (put y (sum_right (types z)) types) r (put y p env) past n)
+        sum_level (env z) (λ p. level_with a (put x (sum_left (types z)) types) r (put x p env) past n)
+        (λ p. level_with b (put y (sum_right (types z)) types) r (put y p env) past n)
     level_with (case_star_term z t a y ys b) types r env past n =
-        star_level (env z) (level_with a types r env past n) (λ p q. level_with b (put ys (star_items (types z)) (put y (star_item (types z)) types)) r (put ys q (put y p env)) past n)
+        star_level (env z) (level_with a types r env past n)
+        (λ p q. level_with b (put ys (star_items (types z)) (put y (star_item (types z)) types)) r (put ys q (put y p env)) past n)
     level_with (wait_term x t a) types r env past n =
         if is_maximal (env x) then level_with a types r env (put x (value_of (env x)) past) n else 0
     -- a call is made at the level of the whole; its arguments stand one deeper, and the body does where
     -- some argument is no name and isn't whole
     level_with (call_term f ms es) types r env past n =
         max n (max (level_all es (leaf_types (funs f).params) types env past (suc n))
-        (inside f (values ms past) (run_all funs call es (leaf_types (funs f).params) types env past).outs (level_below (run_all funs call es (leaf_types (funs f).params) types env past).are_shut n)))
+        (inside f (values ms past) (run_all funs call es (leaf_types (funs f).params) types env past).outs
+        (level_below (run_all funs call es (leaf_types (funs f).params) types env past).are_shut n)))
 
     pub level_all : CoreTerms → List StreamType → NameTypes → Environment → Past → ℕ → ℕ
     level_all no_terms ts types env past n = 0
@@ -76,7 +83,8 @@ module _ (funs : ℕ → CoreBody) where
   unfoldable pub inside_at : ℕ → ℕ → List HistValue → List StreamPrefix → ℕ → ℕ
   inside_at zero f vs ps n = 0
   inside_at (suc k) f vs ps n =
-      level_with funs (call_at funs k) (inside_at k) (funs f).body (types_in (funs f).params) (funs f).result (value_at eps_emp (leaf_names (funs f).params) ps) (value_at unit_value (past_names (funs f)) vs) n
+      level_with funs (call_at funs k) (inside_at k) (funs f).body (types_in (funs f).params) (funs f).result
+      (value_at eps_emp (leaf_names (funs f).params) ps) (value_at unit_value (past_names (funs f)) vs) n
 
   -- the level of a term with this depth left
   abbrev pub level_at : ℕ → CoreTerm → NameTypes → StreamType → Environment → Past → ℕ → ℕ

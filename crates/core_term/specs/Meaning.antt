@@ -61,15 +61,19 @@ module _ (funs : ℕ → CoreBody) (call : Calls) where
     run_with (let_par_term x y z a) types r env past =
         run_with a (put y (par_right (types z)) (put x (par_left (types z)) types)) r (put y (right_part (env z)) (put x (left_part (env z)) env)) past
     run_with (let_cat_term x y z a) types r env past =
-        run_with a (put y (cat_second (types z)) (put x (cat_first (types z)) types)) r (put y (second_part (cat_second (types z)) (env z)) (put x (first_part (env z)) env)) past
+        run_with a (put y (cat_second (types z)) (put x (cat_first (types z)) types)) r
+        (put y (second_part (cat_second (types z)) (env z)) (put x (first_part (env z)) env)) past
     run_with (case_sum_term z t x a y b) types r env past =
-        sum_run r (env z) (λ p. run_with a (put x (sum_left (types z)) types) r (put x p env) past) (λ p. run_with b (put y (sum_right (types z)) types) r (put y p env) past)
+        sum_run r (env z) (λ p. run_with a (put x (sum_left (types z)) types) r (put x p env) past)
+        (λ p. run_with b (put y (sum_right (types z)) types) r (put y p env) past)
     run_with (case_star_term z t a y ys b) types r env past =
-        star_run r (env z) (run_with a types r env past) (λ p q. run_with b (put ys (star_items (types z)) (put y (star_item (types z)) types)) r (put ys q (put y p env)) past)
+        star_run r (env z) (run_with a types r env past)
+        (λ p q. run_with b (put ys (star_items (types z)) (put y (star_item (types z)) types)) r (put ys q (put y p env)) past)
     run_with (wait_term x t a) types r env past =
         wait_run r (is_maximal (env x)) (run_with a types r env (put x (value_of (env x)) past))
     run_with (call_term f ms es) types r env past =
-        call_run (run_all es (leaf_types (funs f).params) types env past) (call f (values ms past) (run_all es (leaf_types (funs f).params) types env past).outs)
+        call_run (run_all es (leaf_types (funs f).params) types env past)
+        (call f (values ms past) (run_all es (leaf_types (funs f).params) types env past).outs)
 
     -- the runs of arguments, with their types; one without a parameter counts as of type `eps`
     pub run_all : CoreTerms → List StreamType → NameTypes → Environment → Past → Runs

@@ -50,7 +50,8 @@ pub record IsTypedTerm (funs : List CoreBody) (c : Context) (e : CoreTerm) (r : 
 -- a typed term gives a prefix of its type
 abbrev pub RunIsTyped : Type 0
 RunIsTyped =
-    (funs : List CoreBody) (k : ℕ) (c : Context) (e : CoreTerm) (r : StreamType) → IsTypedTerm funs c e r → (types : NameTypes) (env : Environment) (past : Past) → FitsContext c types env past
+    (funs : List CoreBody) (k : ℕ) (c : Context) (e : CoreTerm) (r : StreamType) → IsTypedTerm funs c e r
+    → (types : NameTypes) (env : Environment) (past : Past) → FitsContext c types env past
     → IsPrefix r (run_at (fun_at funs) k e types r env past).out
 
 -- a typed program gives a prefix of its result's type
@@ -75,40 +76,47 @@ MeanGrows =
 -- its depth, so that none of them stands at depth 0
 abbrev pub RunIsWhole : Type 0
 RunIsWhole =
-    (funs : List CoreBody) (k : ℕ) (c : Context) (e : CoreTerm) (r : StreamType) → IsTypedTerm funs c e r → (types : NameTypes) (env : Environment) (past : Past) → FitsContext c types env past
+    (funs : List CoreBody) (k : ℕ) (c : Context) (e : CoreTerm) (r : StreamType) → IsTypedTerm funs c e r
+    → (types : NameTypes) (env : Environment) (past : Past) → FitsContext c types env past
     → IsWholeOn (free_names e) env → (run_at (fun_at funs) k e types r env past).calls ≤ k → IsTrue (is_maximal (run_at (fun_at funs) k e types r env past).out)
 
 -- a typed program gives a whole stream on a whole one, where its calls stay within the horizon
 abbrev pub MeanIsWhole : Type 0
 MeanIsWhole =
-    (c : CoreProgram) → IsCore c → IsTypedCore c → (p : StreamPrefix) → IsPrefix (as_type c.main.params) p → IsTrue (is_maximal p) → calls_of c p ≤ horizon → IsTrue (is_maximal (mean c p))
+    (c : CoreProgram) → IsCore c → IsTypedCore c → (p : StreamPrefix) → IsPrefix (as_type c.main.params) p → IsTrue (is_maximal p)
+    → calls_of c p ≤ horizon → IsTrue (is_maximal (mean c p))
 
 -- the body of an inert function is inert, where the inert functions count as such
 abbrev pub InertBodies : Type 0
-InertBodies = (funs : List CoreBody) (f : ℕ) → is_inert_fun funs f ≡ true → is_inert (fun_at funs) (is_inert_fun funs) (fun_at funs f).body (fun_at funs f).result ≡ true
+InertBodies =
+    (funs : List CoreBody) (f : ℕ) → is_inert_fun funs f ≡ true → is_inert (fun_at funs) (is_inert_fun funs) (fun_at funs f).body (fun_at funs f).result ≡ true
 
 -- a typed inert term gives nothing where nothing has come on its free stream names; it may make calls
 abbrev pub InertGivesNothing : Type 0
 InertGivesNothing =
-    (funs : List CoreBody) (k : ℕ) (c : Context) (e : CoreTerm) (r : StreamType) → IsTypedTerm funs c e r → is_inert (fun_at funs) (is_inert_fun funs) e r ≡ true
+    (funs : List CoreBody) (k : ℕ) (c : Context) (e : CoreTerm) (r : StreamType) → IsTypedTerm funs c e r
+    → is_inert (fun_at funs) (is_inert_fun funs) e r ≡ true
     → (types : NameTypes) (env : Environment) (past : Past) → FitsContext c types env past → IsEmptyOn (free_names e) types env
     → (run_at (fun_at funs) k e types r env past).out ≡ emp r
 
 -- a typed program whose body is inert gives nothing before anything has come
 abbrev pub InertMainGivesNothing : Type 0
 InertMainGivesNothing =
-    (c : CoreProgram) → IsCore c → IsTypedCore c → is_inert (fun_at c.funs) (is_inert_fun c.funs) c.main.body c.main.result ≡ true → mean c (emp (as_type c.main.params)) ≡ emp c.main.result
+    (c : CoreProgram) → IsCore c → IsTypedCore c → is_inert (fun_at c.funs) (is_inert_fun c.funs) c.main.body c.main.result ≡ true
+    → mean c (emp (as_type c.main.params)) ≡ emp c.main.result
 
 -- the level of a run, which is counted from below, is the one that is counted from above where the term
 -- stands at level 0
 abbrev pub LevelIsFromAbove : Type 0
 LevelIsFromAbove =
-    (funs : ℕ → CoreBody) (k : ℕ) (e : CoreTerm) (types : NameTypes) (r : StreamType) (env : Environment) (past : Past) → level_at funs k e types r env past 0 ≡ pred (run_at funs k e types r env past).level
+    (funs : ℕ → CoreBody) (k : ℕ) (e : CoreTerm) (types : NameTypes) (r : StreamType) (env : Environment) (past : Past)
+    → level_at funs k e types r env past 0 ≡ pred (run_at funs k e types r env past).level
 
 -- so is a program's
 abbrev pub MeanLevelIsFromAbove : Type 0
 MeanLevelIsFromAbove =
-    (c : CoreProgram) (p : StreamPrefix) → level_at (fun_at c.funs) horizon c.main.body (types_in c.main.params) c.main.result (split c.main.params p) no_past 0 ≡ level_of c p
+    (c : CoreProgram) (p : StreamPrefix)
+    → level_at (fun_at c.funs) horizon c.main.body (types_in c.main.params) c.main.result (split c.main.params p) no_past 0 ≡ level_of c p
 
 -- terms that are alike but for names run alike, where the same stands at each name and at its number
 abbrev pub RenamedRun : Type 0

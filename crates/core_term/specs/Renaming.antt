@@ -41,29 +41,40 @@ mutual
     unit_renamed : {names past : Scope} → IsRenamedTerm names past unit_term unit_term
     nil_renamed : {names past : Scope} → IsRenamedTerm names past nil_term nil_term
     past_renamed : {names past : Scope} {m n : HistExpr} → IsRenaming past m n → IsRenamedTerm names past (past_term m) (past_term n)
-    par_renamed : {names past : Scope} {a b c d : CoreTerm} → IsRenamedTerm names past a c → IsRenamedTerm names past b d → IsRenamedTerm names past (par_term a b) (par_term c d)
-    cat_renamed : {names past : Scope} {a b c d : CoreTerm} → IsRenamedTerm names past a c → IsRenamedTerm names past b d → IsRenamedTerm names past (cat_term a b) (cat_term c d)
-    cons_renamed : {names past : Scope} {a b c d : CoreTerm} → IsRenamedTerm names past a c → IsRenamedTerm names past b d → IsRenamedTerm names past (cons_term a b) (cons_term c d)
+    par_renamed : {names past : Scope} {a b c d : CoreTerm} → IsRenamedTerm names past a c → IsRenamedTerm names past b d
+        → IsRenamedTerm names past (par_term a b) (par_term c d)
+    cat_renamed : {names past : Scope} {a b c d : CoreTerm} → IsRenamedTerm names past a c → IsRenamedTerm names past b d
+        → IsRenamedTerm names past (cat_term a b) (cat_term c d)
+    cons_renamed : {names past : Scope} {a b c d : CoreTerm} → IsRenamedTerm names past a c → IsRenamedTerm names past b d
+        → IsRenamedTerm names past (cons_term a b) (cons_term c d)
     inl_renamed : {names past : Scope} {a c : CoreTerm} → IsRenamedTerm names past a c → IsRenamedTerm names past (inl_term a) (inl_term c)
     inr_renamed : {names past : Scope} {a c : CoreTerm} → IsRenamedTerm names past a c → IsRenamedTerm names past (inr_term a) (inr_term c)
-    let_renamed : {names past : Scope} {x m : ℕ} {s : StreamType} {a b c d : CoreTerm} → IsRenamedTerm names past a c → IsFreeFor names x m → IsRenamedTerm (put x (Some m) names) past b d
+    let_renamed : {names past : Scope} {x m : ℕ} {s : StreamType} {a b c d : CoreTerm} → IsRenamedTerm names past a c → IsFreeFor names x m
+        → IsRenamedTerm (put x (Some m) names) past b d
         → IsRenamedTerm names past (let_term x s a b) (let_term m s c d)
-    let_par_renamed : {names past : Scope} {x y z l m n : ℕ} {a c : CoreTerm} → names z ≡ Some l → IsFreeFor names x m → IsFreeFor (put x (Some m) names) y n → IsRenamedTerm (put y (Some n) (put x (Some m) names)) past a c
+    let_par_renamed : {names past : Scope} {x y z l m n : ℕ} {a c : CoreTerm} → names z ≡ Some l → IsFreeFor names x m
+        → IsFreeFor (put x (Some m) names) y n → IsRenamedTerm (put y (Some n) (put x (Some m) names)) past a c
         → IsRenamedTerm names past (let_par_term x y z a) (let_par_term m n l c)
-    let_cat_renamed : {names past : Scope} {x y z l m n : ℕ} {a c : CoreTerm} → names z ≡ Some l → IsFreeFor names x m → IsFreeFor (put x (Some m) names) y n → IsRenamedTerm (put y (Some n) (put x (Some m) names)) past a c
+    let_cat_renamed : {names past : Scope} {x y z l m n : ℕ} {a c : CoreTerm} → names z ≡ Some l → IsFreeFor names x m
+        → IsFreeFor (put x (Some m) names) y n → IsRenamedTerm (put y (Some n) (put x (Some m) names)) past a c
         → IsRenamedTerm names past (let_cat_term x y z a) (let_cat_term m n l c)
-    case_sum_renamed : {names past : Scope} {x y z l m n : ℕ} {t : StreamType} {a b c d : CoreTerm} → names z ≡ Some l → IsFreeFor names x m → IsRenamedTerm (put x (Some m) names) past a c
+    case_sum_renamed : {names past : Scope} {x y z l m n : ℕ} {t : StreamType} {a b c d : CoreTerm} → names z ≡ Some l → IsFreeFor names x m
+        → IsRenamedTerm (put x (Some m) names) past a c
         → IsFreeFor names y n → IsRenamedTerm (put y (Some n) names) past b d → IsRenamedTerm names past (case_sum_term z t x a y b) (case_sum_term l t m c n d)
     case_star_renamed : {names past : Scope} {y ys z l m n : ℕ} {t : StreamType} {a b c d : CoreTerm} → names z ≡ Some l → IsRenamedTerm names past a c
-        → IsFreeFor names y m → IsFreeFor (put y (Some m) names) ys n → IsRenamedTerm (put ys (Some n) (put y (Some m) names)) past b d → IsRenamedTerm names past (case_star_term z t a y ys b) (case_star_term l t c m n d)
-    wait_renamed : {names past : Scope} {x n : ℕ} {t : StreamType} {a c : CoreTerm} → names x ≡ Some n → IsFreeFor past x n → IsRenamedTerm names (put x (Some n) past) a c
+        → IsFreeFor names y m → IsFreeFor (put y (Some m) names) ys n → IsRenamedTerm (put ys (Some n) (put y (Some m) names)) past b d
+        → IsRenamedTerm names past (case_star_term z t a y ys b) (case_star_term l t c m n d)
+    wait_renamed : {names past : Scope} {x n : ℕ} {t : StreamType} {a c : CoreTerm} → names x ≡ Some n → IsFreeFor past x n
+        → IsRenamedTerm names (put x (Some n) past) a c
         → IsRenamedTerm names past (wait_term x t a) (wait_term n t c)
-    call_renamed : {names past : Scope} {f : ℕ} {ms ns : List HistExpr} {es os : CoreTerms} → AreRenamings past ms ns → IsRenamedTerms names past es os → IsRenamedTerm names past (call_term f ms es) (call_term f ns os)
+    call_renamed : {names past : Scope} {f : ℕ} {ms ns : List HistExpr} {es os : CoreTerms} → AreRenamings past ms ns
+        → IsRenamedTerms names past es os → IsRenamedTerm names past (call_term f ms es) (call_term f ns os)
 
   -- so are arguments, one by one
   pub data IsRenamedTerms : Scope → Scope → CoreTerms → CoreTerms → Type 0 where
     no_terms_renamed : {names past : Scope} → IsRenamedTerms names past no_terms no_terms
-    before_renamed : {names past : Scope} {a c : CoreTerm} {es os : CoreTerms} → IsRenamedTerm names past a c → IsRenamedTerms names past es os → IsRenamedTerms names past (term_before a es) (term_before c os)
+    before_renamed : {names past : Scope} {a c : CoreTerm} {es os : CoreTerms} → IsRenamedTerm names past a c → IsRenamedTerms names past es os
+        → IsRenamedTerms names past (term_before a es) (term_before c os)
 
 -- bodies with the same types whose terms are alike, where each parameter of the first has the number of
 -- the one in its place

@@ -125,7 +125,8 @@ module _ (funs : List CoreBody) (counts : ℕ → Bool) where
   -- the first parameter after another one with an argument that isn't inert
   abbrev pub first_jumpy : CoreBody → CoreTerms → Option ℕ
   first_jumpy b es =
-      first_found (λ v. found_where (list_any (λ u. stands_before b.params u v) (leaf_names b.params) && not (is_inert (fun_at funs) counts (passed b es v) (types_in b.params v))) v)
+      first_found (λ v. found_where
+      (list_any (λ u. stands_before b.params u v) (leaf_names b.params) && not (is_inert (fun_at funs) counts (passed b es v) (types_in b.params v))) v)
       (leaf_names b.params)
 
   abbrev mutual
@@ -147,9 +148,11 @@ module _ (funs : List CoreBody) (counts : ℕ → Bool) where
     nodes_of c (let_cat_term x y z a) r =
         node c (let_cat_term x y z a) r ∷ nodes_of (with_fact x y (with_parts x (cat_first (type_at c z)) y (cat_second (type_at c z)) z c)) a r
     nodes_of c (case_sum_term z t x a y b) r =
-        node c (case_sum_term z t x a y b) r ∷ (nodes_of (with_name_like x (sum_left (type_at c z)) z c) a r ++ nodes_of (with_name_like y (sum_right (type_at c z)) z c) b r)
+        node c (case_sum_term z t x a y b) r
+        ∷ (nodes_of (with_name_like x (sum_left (type_at c z)) z c) a r ++ nodes_of (with_name_like y (sum_right (type_at c z)) z c) b r)
     nodes_of c (case_star_term z t a y ys b) r =
-        node c (case_star_term z t a y ys b) r ∷ (nodes_of c a r ++ nodes_of (with_fact y ys (with_parts y (star_item (type_at c z)) ys (star_items (type_at c z)) z c)) b r)
+        node c (case_star_term z t a y ys b) r
+        ∷ (nodes_of c a r ++ nodes_of (with_fact y ys (with_parts y (star_item (type_at c z)) ys (star_items (type_at c z)) z c)) b r)
     nodes_of c (wait_term x t a) r = node c (wait_term x t a) r ∷ nodes_of (waited x c) a r
     nodes_of c (call_term f ms es) r = node c (call_term f ms es) r ∷ nodes_among c es (leaf_types (fun_at funs f).params)
 

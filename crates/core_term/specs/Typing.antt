@@ -137,7 +137,8 @@ module _ (funs : List CoreBody) (counts : ℕ → Bool) where
     HasType c (wait_term x t a) r =
         (t ≡ r) × HasForm c x (type_at c x) × (null_of (type_at c x) ≡ false) × HasType (waited x c) a r
     HasType c (call_term f ms es) r =
-        IsTrue (is_there funs f) × ((fun_at funs f).result ≡ r) × HavePasts c.past ms (past_types (fun_at funs f)) × HaveTypes c es (leaf_types (fun_at funs f).params)
+        IsTrue (is_there funs f) × ((fun_at funs f).result ≡ r) × HavePasts c.past ms (past_types (fun_at funs f))
+        × HaveTypes c es (leaf_types (fun_at funs f).params)
         × ((u v : ℕ) → stands_before (fun_at funs f).params u v ≡ true → PassesInOrder c (fun_at funs f) es u v)
 
     -- arguments have types, one by one
@@ -154,7 +155,12 @@ past_params (e ∷ es) x = if x == e.0 then Some (past e.1) else past_params es 
 -- the context of a body: its parameters in their order
 abbrev pub context_of : CoreBody → Context
 context_of b =
-    record { types = λ x. if holds x (leaf_names b.params) then Some (types_in b.params x) else None; order = stands_before b.params; past = past_params b.past }
+    record {
+      types = λ x. if holds x (leaf_names b.params) then Some (types_in b.params x) else None;
+      order = stands_before b.params;
+      past =
+          past_params b.past;
+    }
 
 -- a body has its result's type, among these functions
 abbrev pub IsTypedBody : List CoreBody → CoreBody → Type 0

@@ -58,7 +58,8 @@ module _ (funs : List CoreBody) (counts : ℕ → Bool) where
         unsized_at i a (with_fact x.0 y.0 (with_parts x.0 (cat_first (type_at c z.0)) y.0 (cat_second (type_at c z.0)) z.0 c))
     unsized_at at (CaseSum' z t x p i a y q j b) c =
         first_some
-        (first_some (placed at (case_unsized c z.0 (free_names (term_in (CaseSum' z t x p i a y q j b))))) (unsized_at i a (with_name_like x.0 (sum_left (type_at c z.0)) z.0 c)))
+        (first_some (placed at (case_unsized c z.0 (free_names (term_in (CaseSum' z t x p i a y q j b)))))
+        (unsized_at i a (with_name_like x.0 (sum_left (type_at c z.0)) z.0 c)))
         (unsized_at j b (with_name_like y.0 (sum_right (type_at c z.0)) z.0 c))
     unsized_at at (CaseStar' z t p i a y ys q j b) c =
         first_some (first_some (placed at (case_unsized c z.0 (free_names (term_in (CaseStar' z t p i a y ys q j b))))) (unsized_at i a c))

@@ -32,11 +32,22 @@ program_of m = record { funs = bodies_in m.code.value; main = body_in m.code.val
 
 -- its program, its state without marks, its place, and what it counts
 abbrev pub view_of : Coded → MachineView
-view_of m = record { program = program_of m; budget = m.budget; state = without_marks (state_in m.state.value); place = place_in (awaited_in m.awaited.value); events = m.events; spent = m.spent }
+view_of m =
+    record {
+      program = program_of m;
+      budget = m.budget;
+      state = without_marks (state_in m.state.value);
+      place = place_in
+          (awaited_in m.awaited.value);
+      events = m.events;
+      spent = m.spent;
+    }
 
 -- it stands for its program after the word, by a state that can hold no more than the program
 abbrev pub CodedStands : Coded → List StreamEvent → Type 0
-CodedStands m word = KeepsBelow (program_of m) m.budget (state_in m.state.value) (awaited_in m.awaited.value) (type_of m.input.value) (type_of m.output.value) m.events m.spent word
+CodedStands m word =
+    KeepsBelow (program_of m) m.budget (state_in m.state.value) (awaited_in m.awaited.value) (type_of m.input.value) (type_of m.output.value)
+    m.events m.spent word
 
 -- and so as machines have to
 abbrev pub coded_stands_after : (m : Coded) (word : List StreamEvent) → CodedStands m word → StandsAfter (view_of m) word

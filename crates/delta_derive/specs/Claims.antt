@@ -110,9 +110,13 @@ module _ (funs : List CoreBody) (counts : ℕ → Bool) where
   rule_parts known g (let_cat_term x y z a) r =
       then_by (leaf_type z g) (λ t. found_where (is_cat t) (below_two known x y z t (semi (leaf x (cat_first t)) (leaf y (cat_second t))) g a r ∷ []))
   rule_parts known g (case_sum_term z s x a y b) r =
-      then_by (leaf_type z g) (λ t. found_where (is_sum t && is_same_type s r) (below_one known x z t (leaf x (sum_left t)) g a r ∷ below_one known y z t (leaf y (sum_right t)) g b r ∷ []))
+      then_by (leaf_type z g)
+      (λ t. found_where (is_sum t && is_same_type s r)
+      (below_one known x z t (leaf x (sum_left t)) g a r ∷ below_one known y z t (leaf y (sum_right t)) g b r ∷ []))
   rule_parts known g (case_star_term z s a y ys b) r =
-      then_by (leaf_type z g) (λ t. found_where (is_star t && is_same_type s r) (claim known g a r ∷ below_two known y ys z t (semi (leaf y (star_item t)) (leaf ys (star_items t))) g b r ∷ []))
+      then_by (leaf_type z g)
+      (λ t. found_where (is_star t && is_same_type s r)
+      (claim known g a r ∷ below_two known y ys z t (semi (leaf y (star_item t)) (leaf ys (star_items t))) g b r ∷ []))
   rule_parts known g (wait_term x s a) r =
       then_by (leaf_type x g) (λ t. found_where (not (null_of t) && is_same_type s r) (claim (learned x t known) (with_leaf x empty g) a r ∷ []))
   rule_parts known g (call_term f ms es) r = call_parts known g f ms es r

@@ -29,13 +29,16 @@ abbrev mutual
   written_term (Inr' p i a) = 7 ∷ short_bytes i ++ written_term a
   written_term Nil = 8 ∷ []
   written_term (Cons' p i a q j b) = 9 ∷ (short_bytes i ++ written_term a) ++ (short_bytes j ++ written_term b)
-  written_term (Let' x s p i a q j b) = 10 ∷ short_bytes x.0 ++ (type_bytes (type_of s) ++ ((short_bytes i ++ written_term a) ++ (short_bytes j ++ written_term b)))
+  written_term (Let' x s p i a q j b) =
+      10 ∷ short_bytes x.0 ++ (type_bytes (type_of s) ++ ((short_bytes i ++ written_term a) ++ (short_bytes j ++ written_term b)))
   written_term (LetPar' x y z p i a) = 11 ∷ short_bytes x.0 ++ (short_bytes y.0 ++ (short_bytes z.0 ++ (short_bytes i ++ written_term a)))
   written_term (LetCat' x y z p i a) = 12 ∷ short_bytes x.0 ++ (short_bytes y.0 ++ (short_bytes z.0 ++ (short_bytes i ++ written_term a)))
   written_term (CaseSum' z t x p i a y q j b) =
-      13 ∷ short_bytes z.0 ++ (type_bytes (type_of t) ++ (short_bytes x.0 ++ ((short_bytes i ++ written_term a) ++ (short_bytes y.0 ++ (short_bytes j ++ written_term b)))))
+      13 ∷ short_bytes z.0
+      ++ (type_bytes (type_of t) ++ (short_bytes x.0 ++ ((short_bytes i ++ written_term a) ++ (short_bytes y.0 ++ (short_bytes j ++ written_term b)))))
   written_term (CaseStar' z t p i a y ys q j b) =
-      14 ∷ short_bytes z.0 ++ (type_bytes (type_of t) ++ ((short_bytes i ++ written_term a) ++ (short_bytes y.0 ++ (short_bytes ys.0 ++ (short_bytes j ++ written_term b)))))
+      14 ∷ short_bytes z.0
+      ++ (type_bytes (type_of t) ++ ((short_bytes i ++ written_term a) ++ (short_bytes y.0 ++ (short_bytes ys.0 ++ (short_bytes j ++ written_term b)))))
   written_term (Wait' x t p i a) = 15 ∷ short_bytes x.0 ++ (type_bytes (type_of t) ++ (short_bytes i ++ written_term a))
   written_term (Call' f ms shape es) = 16 ∷ short_bytes f ++ (list_bytes expr_bytes (map expr_of ms.items) ++ (short_bytes (nodes_of es) ++ written_nodes es))
 
@@ -68,10 +71,17 @@ abbrev mutual
   written_state (LetParState' x y z p a) = 5 ∷ short_bytes x.0 ++ (short_bytes y.0 ++ (short_bytes z.0 ++ written_state a))
   written_state (LetCatState' x y z p a) = 6 ∷ short_bytes x.0 ++ (short_bytes y.0 ++ (short_bytes z.0 ++ written_state a))
   written_state (SumState z t held x l y m) =
-      7 ∷ short_bytes z.0 ++ (type_bytes (type_of t.value) ++ (list_bytes held_name_bytes (map held_of held.items) ++ (short_bytes x.0 ++ (written_later l.value ++ (short_bytes y.0 ++ written_later m.value)))))
+      7 ∷ short_bytes z.0 ++
+      (type_bytes (type_of t.value)
+      ++ (list_bytes held_name_bytes (map held_of held.items)
+      ++ (short_bytes x.0 ++ (written_later l.value ++ (short_bytes y.0 ++ written_later m.value)))))
   written_state (StarState z t held l y ys m) =
-      8 ∷ short_bytes z.0 ++ (type_bytes (type_of t.value) ++ (list_bytes held_name_bytes (map held_of held.items) ++ (written_later l.value ++ (short_bytes y.0 ++ (short_bytes ys.0 ++ written_later m.value)))))
-  written_state (WaitState x t held l) = 9 ∷ short_bytes x.0 ++ (type_bytes (type_of t.value) ++ (list_bytes held_name_bytes (map held_of held.items) ++ written_later l.value))
+      8 ∷ short_bytes z.0 ++
+      (type_bytes (type_of t.value)
+      ++ (list_bytes held_name_bytes (map held_of held.items)
+      ++ (written_later l.value ++ (short_bytes y.0 ++ (short_bytes ys.0 ++ written_later m.value)))))
+  written_state (WaitState x t held l) =
+      9 ∷ short_bytes x.0 ++ (type_bytes (type_of t.value) ++ (list_bytes held_name_bytes (map held_of held.items) ++ written_later l.value))
   written_state (Frame' shape args p s) = 10 ∷ (short_bytes (arguments_in args) ++ written_arguments args) ++ written_state s
 
   -- the arguments of a frame
@@ -91,4 +101,6 @@ written_argument a = short_bytes a.name.0 ++ (type_bytes (type_of a.ty.value) ++
 -- a kept state
 abbrev pub written_kept : Kept → List ℕ
 written_kept k =
-    0x44 ∷ 0x53 ∷ 0x54 ∷ 0x01 ∷ long_bytes k.events ++ (list_bytes type_bytes (map type_of k.ins.items) ++ (list_bytes bool_bytes k.cuts.items ++ (type_bytes (type_of k.out.value) ++ written_state k.state.value)))
+    0x44 ∷ 0x53 ∷ 0x54 ∷ 0x01 ∷ long_bytes k.events
+    ++ (list_bytes type_bytes (map type_of k.ins.items)
+    ++ (list_bytes bool_bytes k.cuts.items ++ (type_bytes (type_of k.out.value) ++ written_state k.state.value)))

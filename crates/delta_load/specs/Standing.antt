@@ -9,7 +9,8 @@ use Rattle.delta_session.specs.Standing.{Stands}
 use Rattle.delta_feed.specs.Load.{load_type}
 
 -- an open session of some program whose input has the load's type, with a million calls at each event, stands after this word
-pub record IsOnLoad {M : Type 0} (seen : M → MachineView) (stands : M → List StreamEvent → Type 0) (session : Session M) (word : List StreamEvent) : Type 0 where
+pub record IsOnLoad {M : Type 0} (seen : M → MachineView) (stands : M → List StreamEvent → Type 0) (session : Session M) (word : List StreamEvent) :
+    Type 0 where
   pub program : CoreProgram
   pub standing : Stands seen stands session program 1000000 word
   pub input : input_type program ≡ load_type

@@ -17,7 +17,8 @@ last_told (Some n) = signed_decimal n
 
 -- the items, what is told of an input and of an output, and of the last number put out
 abbrev pub line_of : ℕ → List ℕ → List ℕ → List ℕ → List ℕ
-line_of items input output last = concat (codes "items " ∷ decimal items ∷ codes " in " ∷ input ∷ codes " out " ∷ output ∷ codes " last " ∷ last ∷ (10 ∷ []) ∷ [])
+line_of items input output last =
+    concat (codes "items " ∷ decimal items ∷ codes " in " ∷ input ∷ codes " out " ∷ output ∷ codes " last " ∷ last ∷ (10 ∷ []) ∷ [])
 
 -- the line of the load, and of what is counted of an output on it
 abbrev pub summary_of : ℕ → ℕ → Totals → List ℕ

@@ -44,19 +44,22 @@ pub record Ended (P : Meaning) (start now : Option (List Move)) (input : List �
   pub may : MayEnd P input ended written end
 
 -- between two events: all that is due for this word is written, and the machine stands after it
-pub record Serves {M : Type 0} (stands : M → Meaning → List StreamEvent → Type 0) (P : Meaning) (start now : Option (List Move)) (machine : M) (input : List ℕ) (word : List StreamEvent) : Type 0 where
+pub record Serves {M : Type 0} (stands : M → Meaning → List StreamEvent → Type 0) (P : Meaning) (start now : Option (List Move)) (machine : M)
+    (input : List ℕ) (word : List StreamEvent) : Type 0 where
   pub history : History (due P) start now input (output P word) false
   pub accepts : accepted P word ≡ word
   pub state : stands machine P word
 
 -- inside a piece of input: the reader has answered the events that the machine took
-pub record Feeds {M : Type 0} (stands : M → Meaning → List StreamEvent → Type 0) (P : Meaning) (start now : Option (List Move)) (machine : M) (reader : FrameReader) (input : List ℕ) : Type 0 where
+pub record Feeds {M : Type 0} (stands : M → Meaning → List StreamEvent → Type 0) (P : Meaning) (start now : Option (List Move)) (machine : M)
+    (reader : FrameReader) (input : List ℕ) : Type 0 where
   pub word : List StreamEvent
   pub serves : Serves stands P start now machine input word
   pub reads : Reads reader input word
 
 -- at the end of a piece: no whole frame is left, and no fault
-pub record Settles {M : Type 0} (stands : M → Meaning → List StreamEvent → Type 0) (P : Meaning) (start now : Option (List Move)) (machine : M) (reader : FrameReader) (input : List ℕ) : Type 0 where
+pub record Settles {M : Type 0} (stands : M → Meaning → List StreamEvent → Type 0) (P : Meaning) (start now : Option (List Move)) (machine : M)
+    (reader : FrameReader) (input : List ℕ) : Type 0 where
   pub word : List StreamEvent
   pub serves : Serves stands P start now machine input word
   pub reads : Reads reader input word
@@ -64,14 +67,16 @@ pub record Settles {M : Type 0} (stands : M → Meaning → List StreamEvent →
   pub sound : (fault : FrameFault) → ending input ≢ Bad fault
 
 -- between two pieces: so many bytes were read, all that is due is written, and no whole frame is left
-pub record Goes {M : Type 0} (stands : M → Meaning → List StreamEvent → Type 0) (P : Meaning) (start now : Option (List Move)) (old_left new_left : Option (List ℕ)) (machine : M) (reader : FrameReader) (total : ℕ) : Type 0 where
+pub record Goes {M : Type 0} (stands : M → Meaning → List StreamEvent → Type 0) (P : Meaning) (start now : Option (List Move))
+    (old_left new_left : Option (List ℕ)) (machine : M) (reader : FrameReader) (total : ℕ) : Type 0 where
   pub input : List ℕ
   pub settles : Settles stands P start now machine reader input
   pub count : length input ≡ total
   pub taken : Loses old_left new_left input
 
 -- a read gave these bytes, and the reader got them
-pub record Pulls (old_log new_log : Option (List Move)) (old_left new_left : Option (List ℕ)) (old_reader new_reader : FrameReader) (bytes : List ℕ) : Type 0 where
+pub record Pulls (old_log new_log : Option (List Move)) (old_left new_left : Option (List ℕ)) (old_reader new_reader : FrameReader)
+    (bytes : List ℕ) : Type 0 where
   pub history : (due : List ℕ → List ℕ) (start : Option (List Move)) (input output : List ℕ)
       → History due start old_log input output false → output ≡ due input → History due start new_log (input ++ bytes) output (is_empty bytes)
   pub reads : (input : List ℕ) (word : List StreamEvent) → Reads old_reader input word → Reads new_reader (input ++ bytes) word
@@ -100,6 +105,7 @@ IsWellEnded Open = ⊤
 IsWellEnded end = ⊥
 
 -- a run that ended so, and what became of its machine: where the input ended well, it stands after the events of all of it
-pub record RanTo {M : Type 0} (stands : M → Meaning → List StreamEvent → Type 0) (P : Meaning) (start now : Option (List Move)) (old_left new_left : Option (List ℕ)) (machine : M) (end : End) : Type 0 where
+pub record RanTo {M : Type 0} (stands : M → Meaning → List StreamEvent → Type 0) (P : Meaning) (start now : Option (List Move))
+    (old_left new_left : Option (List ℕ)) (machine : M) (end : End) : Type 0 where
   pub ran : Ran P start now old_left new_left end
   pub state : IsWellEnded end → stands machine P (whole ran.input)

@@ -56,7 +56,8 @@ pub record Begun {M : Type 0} (stands : M → Meaning → List StreamEvent → T
   pub state : stands machine program []
 
 -- the machine stands for the program before any event, and the bytes that come first are the header of this version, if it is one, and these
-pub record HasBegun {M : Type 0} (stands : M → Meaning → List StreamEvent → Type 0) (P : Meaning) (machine : M) (v : Option Version) (first : List ℕ) : Type 0 where
+pub record HasBegun {M : Type 0} (stands : M → Meaning → List StreamEvent → Type 0) (P : Meaning) (machine : M) (v : Option Version)
+    (first : List ℕ) : Type 0 where
   pub state : stands machine P []
   pub version : v ≡ P.version
   pub bytes : first ≡ P.first

@@ -39,7 +39,9 @@ pub record StopsAt (P : Meaning) (stops : List StreamEvent → StreamEvent → T
 
 -- a run of the program that read this input, up to its end or not, and wrote these bytes, may end so
 abbrev pub MayEnd : Meaning → List ℕ → Bool → List ℕ → End → Type 0
-MayEnd P input ended written Done = (ended ≡ true) × (finding P input ended ≡ None) × (P.finishes (accepted P (whole input)) ≡ true) × (written ≡ due P input) × (P.is_whole (accepted P (whole input)) ≡ true)
+MayEnd P input ended written Done =
+    (ended ≡ true) × (finding P input ended ≡ None) × (P.finishes (accepted P (whole input)) ≡ true) × (written ≡ due P input)
+    × (P.is_whole (accepted P (whole input)) ≡ true)
 MayEnd P input ended written Open = (ended ≡ true) × (finding P input ended ≡ None) × (P.finishes (accepted P (whole input)) ≡ false) × (written ≡ due P input)
 MayEnd P input ended written (Input fault) = (finding P input ended ≡ Some fault) × (written ≡ due P input)
 MayEnd P input ended written ReadFailed = (finding P input ended ≡ None) × (written ≡ due P input)

@@ -80,9 +80,12 @@ module _ (functions : ℕ → SourceBody) (number : ℕ → ℕ) (names : TypeNa
     core_at (unit_at at) numbers types r n = unit_term
     core_at (nil_at at) numbers types r n = nil_term
     core_at (hist_at at m) numbers types r n = past_term (numbered_expr m.expr numbers n)
-    core_at (par_at at a b) numbers types r n = par_term (core_at a numbers types (par_left r) n) (core_at b numbers types (par_right r) (n + length (new_in a)))
-    core_at (cat_at at a b) numbers types r n = cat_term (core_at a numbers types (cat_first r) n) (core_at b numbers types (cat_second r) (n + length (new_in a)))
-    core_at (cons_at at a b) numbers types r n = cons_term (core_at a numbers types (star_item r) n) (core_at b numbers types (star_items r) (n + length (new_in a)))
+    core_at (par_at at a b) numbers types r n =
+        par_term (core_at a numbers types (par_left r) n) (core_at b numbers types (par_right r) (n + length (new_in a)))
+    core_at (cat_at at a b) numbers types r n =
+        cat_term (core_at a numbers types (cat_first r) n) (core_at b numbers types (cat_second r) (n + length (new_in a)))
+    core_at (cons_at at a b) numbers types r n =
+        cons_term (core_at a numbers types (star_item r) n) (core_at b numbers types (star_items r) (n + length (new_in a)))
     core_at (inl_at at a) numbers types r n = inl_term (core_at a numbers types (sum_left r) n)
     core_at (inr_at at a) numbers types r n = inr_term (core_at a numbers types (sum_right r) n)
     core_at (typed_at at a t) numbers types r n = let_term n (type_meant names t) (core_at a numbers types (type_meant names t) (suc n)) (var_term n)

@@ -28,7 +28,13 @@ runs_of as' = record { outs = map prefix_of as'.outputs.items; calls = as'.calls
 -- one more argument after others
 abbrev pub runs_after : Runs → Bool → Run → Runs
 runs_after as' is_name a =
-    record { outs = as'.outs ++ a.out ∷ []; calls = as'.calls + a.calls; level = max as'.level a.level; are_shut = as'.are_shut && (is_name || is_maximal a.out) }
+    record {
+      outs = as'.outs ++ a.out ∷ [];
+      calls = as'.calls + a.calls;
+      level = max as'.level a.level;
+      are_shut = as'.are_shut
+          && (is_name || is_maximal a.out);
+    }
 
 -- more arguments after others
 abbrev pub runs_joined : Runs → Runs → Runs

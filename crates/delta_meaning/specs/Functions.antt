@@ -61,11 +61,14 @@ head_type_at i s h = head_type (functions_at i) (names_known i.known.now) h (typ
 
 -- the run of an expression where one stream name is bound
 abbrev pub run_with_one : Place → Scope → ℕ → Expression → StreamType → StreamType → StreamPrefix → Run
-run_with_one i s x e r t p = source_run (functions_at i) (calls_at i) (names_known i.known.now) e (put x t (types_in s)) r (put x p (streams_in s)) (without_value x (past_in s))
+run_with_one i s x e r t p =
+    source_run (functions_at i) (calls_at i) (names_known i.known.now) e (put x t (types_in s)) r (put x p (streams_in s)) (without_value x (past_in s))
 
 -- and where two are
 abbrev pub run_with_two : Place → Scope → ℕ → ℕ → Expression → StreamType → StreamType → StreamType → StreamPrefix → StreamPrefix → Run
-run_with_two i s x y e r t u p q = source_run (functions_at i) (calls_at i) (names_known i.known.now) e (put y u (put x t (types_in s))) r (put y q (put x p (streams_in s))) (without_value y (without_value x (past_in s)))
+run_with_two i s x y e r t u p q =
+    source_run (functions_at i) (calls_at i) (names_known i.known.now) e (put y u (put x t (types_in s))) r (put y q (put x p (streams_in s)))
+    (without_value y (without_value x (past_in s)))
 
 -- the run of what stands after the head of a form, by the head's type and what it gives; nothing for a form without
 abbrev pub run_after : Place → Scope → Expression → StreamType → StreamType → StreamPrefix → Run

@@ -53,12 +53,14 @@ CoreKeepsEnvironment =
     (p : ProgramTree) (c : CoreProgram) → elaborate p ≡ Ok c → IsTypedCore c → (k : ℕ) (env core_env : Environment)
     → ((x : ℕ) → holds x (leaf_names (main_of p).params) ≡ true → env x ≡ core_env (param_numbers (main_of p) (length (new_in_bodies (functions_of p))) x))
     → run_at (fun_at c.funs) k c.main.body (types_in c.main.params) c.main.result core_env no_past
-    ≡ source_run (function_named (functions_of p)) (source_call_at (function_named (functions_of p)) k) (main_of p).type_names (main_of p).body (types_in (main_of p).params) (main_of p).result env no_past
+    ≡ source_run (function_named (functions_of p)) (source_call_at (function_named (functions_of p)) k) (main_of p).type_names (main_of p).body
+    (types_in (main_of p).params) (main_of p).result env no_past
 
 -- a call of a function's number gives what a call of its name gives
 abbrev pub CoreKeepsCalls : Type 0
 CoreKeepsCalls =
-    (p : ProgramTree) (c : CoreProgram) → elaborate p ≡ Ok c → IsTypedCore c → (k f : ℕ) (vs : List HistValue) (ps : List StreamPrefix) → is_function (functions_of p) f ≡ true
+    (p : ProgramTree) (c : CoreProgram) → elaborate p ≡ Ok c → IsTypedCore c → (k f : ℕ) (vs : List HistValue) (ps : List StreamPrefix)
+    → is_function (functions_of p) f ≡ true
     → call_at (fun_at c.funs) k (number_named (functions_of p) f) vs ps ≡ source_call_at (function_named (functions_of p)) k f vs ps
 
 -- in a typed term what follows a wait doesn't read the wait's name as a stream name: the core leaves it among
@@ -81,7 +83,8 @@ pub record HasTypesOf (p : ProgramTree) (c : CoreProgram) : Type 0 where
   pub result : c.main.result ≡ (main_of p).result
   pub parameters : (f : ℕ) → is_function (functions_of p) f ≡ true
       → leaf_types (fun_at c.funs (number_named (functions_of p) f)).params ≡ leaf_types (function_named (functions_of p) f).params
-  pub results : (f : ℕ) → is_function (functions_of p) f ≡ true → (fun_at c.funs (number_named (functions_of p) f)).result ≡ (function_named (functions_of p) f).result
+  pub results : (f : ℕ) → is_function (functions_of p) f ≡ true
+      → (fun_at c.funs (number_named (functions_of p) f)).result ≡ (function_named (functions_of p) f).result
 
 abbrev pub ElaboratedHasTypes : Type 0
 ElaboratedHasTypes = (p : ProgramTree) (c : CoreProgram) → elaborate p ≡ Ok c → HasTypesOf p c

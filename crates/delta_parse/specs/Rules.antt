@@ -90,7 +90,8 @@ item_rule =
 -- TYPES
 
 -- left [ sign right ]
-abbrev pub infix_rule : RuleFor (thing type_thing) → Terminal → RuleFor (thing type_thing) → (ℕ → WrittenType → WrittenType → WrittenType) → RuleFor (thing type_thing)
+abbrev pub infix_rule : RuleFor (thing type_thing) → Terminal → RuleFor (thing type_thing) → (ℕ → WrittenType → WrittenType → WrittenType)
+    → RuleFor (thing type_thing)
 infix_rule left k right form = make (joined form) (placed (both left (maybe (both (sign k) right))))
 
 -- "eps" | "1" | "Int" | name | "(" type ")"
@@ -143,7 +144,8 @@ ending_rule =
 -- "(" ")" | "(" exp ")" | "(" exp "," exp ")" | "(" exp ";" exp ")" | "(" exp ":" type ")"
 abbrev pub bracket_rule : RuleFor (thing expression_thing)
 bracket_rule = make bracketed (both {t = option (pair (thing expression_thing) (thing ending_thing))} (sign Open)
-    (either {s = option (pair (thing expression_thing) (thing ending_thing))} (make {t = option (pair (thing expression_thing) (thing ending_thing))} nothing_inside (sign Close))
+    (either {s = option (pair (thing expression_thing) (thing ending_thing))}
+    (make {t = option (pair (thing expression_thing) (thing ending_thing))} nothing_inside (sign Close))
     (make {t = option (pair (thing expression_thing) (thing ending_thing))} something_inside (both (part an_expression) (part an_ending)))))
 
 -- "{" hist "}"

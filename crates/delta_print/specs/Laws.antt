@@ -60,8 +60,11 @@ ShownIsRead = (t : StreamType) → IsReadAsType (type_text t) t
 
 -- the tree of the tokens of a text can be printed
 abbrev pub ParsedIsPrintable : Type 0
-ParsedIsPrintable = (text : List ℕ) (tokens : List Lexeme) (tree : ProgramTree) → IsUtf8 text → Divides 0 (chars text) tokens → IsTreeOf tokens tree → IsPrintable tree
+ParsedIsPrintable =
+    (text : List ℕ) (tokens : List Lexeme) (tree : ProgramTree) → IsUtf8 text → Divides 0 (chars text) tokens → IsTreeOf tokens tree → IsPrintable tree
 
 -- and its canonical text is read as that tree, but for places
 abbrev pub ParsedIsRead : Type 0
-ParsedIsRead = (text : List ℕ) (tokens : List Lexeme) (tree : ProgramTree) → IsUtf8 text → Divides 0 (chars text) tokens → IsTreeOf tokens tree → IsReadAs (canonical_text tree) tree
+ParsedIsRead =
+    (text : List ℕ) (tokens : List Lexeme) (tree : ProgramTree) → IsUtf8 text → Divides 0 (chars text) tokens → IsTreeOf tokens tree
+    → IsReadAs (canonical_text tree) tree

@@ -34,13 +34,19 @@ ExpressionBracketsAreNeeded =
 
 -- so is a historical expression
 pub record HistBracketsAreNeeded : Type 0 where
-  pub at_comparison : (ts : List Tok) (v : WrittenHist) → IsSentence delta delta_grammar a_comparison ts v → hist_bare hists.Comparison v.expr ≡ false → InBrackets a_history ts v
+  pub at_comparison : (ts : List Tok) (v : WrittenHist) → IsSentence delta delta_grammar a_comparison ts v
+      → hist_bare hists.Comparison v.expr ≡ false → InBrackets a_history ts v
   pub at_sum : (ts : List Tok) (v : WrittenHist) → IsSentence delta delta_grammar a_sum ts v → hist_bare hists.Sum v.expr ≡ false → InBrackets a_history ts v
-  pub at_product : (ts : List Tok) (v : WrittenHist) → IsSentence delta delta_grammar a_product ts v → hist_bare hists.Product v.expr ≡ false → InBrackets a_history ts v
-  pub at_unary : (ts : List Tok) (v : WrittenHist) → IsSentence delta delta_grammar a_unary ts v → hist_bare hists.Unary v.expr ≡ false → InBrackets a_history ts v
+  pub at_product : (ts : List Tok) (v : WrittenHist) → IsSentence delta delta_grammar a_product ts v → hist_bare hists.Product v.expr ≡ false
+      → InBrackets a_history ts v
+  pub at_unary : (ts : List Tok) (v : WrittenHist) → IsSentence delta delta_grammar a_unary ts v → hist_bare hists.Unary v.expr ≡ false
+      → InBrackets a_history ts v
 
 -- so are parameters
 pub record ContextBracketsAreNeeded : Type 0 where
-  pub at_item : (ts : List Tok) (v : WrittenContext) → IsSentence delta delta_grammar an_item ts v → context_bare contexts.Item v ≡ false → InBrackets a_context ts v
-  pub at_commas : (ts : List Tok) (v : WrittenContext) → IsSentence delta delta_grammar more_commas ts v → context_bare contexts.Commas v ≡ false → InBrackets a_context ts v
-  pub at_semicolons : (ts : List Tok) (v : WrittenContext) → IsSentence delta delta_grammar more_semicolons ts v → context_bare contexts.Semicolons v ≡ false → InBrackets a_context ts v
+  pub at_item : (ts : List Tok) (v : WrittenContext) → IsSentence delta delta_grammar an_item ts v → context_bare contexts.Item v ≡ false
+      → InBrackets a_context ts v
+  pub at_commas : (ts : List Tok) (v : WrittenContext) → IsSentence delta delta_grammar more_commas ts v → context_bare contexts.Commas v ≡ false
+      → InBrackets a_context ts v
+  pub at_semicolons : (ts : List Tok) (v : WrittenContext) → IsSentence delta delta_grammar more_semicolons ts v
+      → context_bare contexts.Semicolons v ≡ false → InBrackets a_context ts v

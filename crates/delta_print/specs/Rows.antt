@@ -40,8 +40,10 @@ type_row_at place t = enclosed (type_bare place t) (type_row t)
 abbrev pub context_row : WrittenContext → List Chunk
 context_row no_parameters = []
 context_row (parameter x t) = named x ∷ Fixed Colon ∷ type_row t
-context_row (side_by_side a b) = enclosed (context_bare contexts.Item a) (context_row a) ++ (Fixed Comma ∷ enclosed (context_bare contexts.Commas b) (context_row b))
-context_row (in_sequence a b) = enclosed (context_bare contexts.Item a) (context_row a) ++ (Fixed Semicolon ∷ enclosed (context_bare contexts.Semicolons b) (context_row b))
+context_row (side_by_side a b) =
+    enclosed (context_bare contexts.Item a) (context_row a) ++ (Fixed Comma ∷ enclosed (context_bare contexts.Commas b) (context_row b))
+context_row (in_sequence a b) =
+    enclosed (context_bare contexts.Item a) (context_row a) ++ (Fixed Semicolon ∷ enclosed (context_bare contexts.Semicolons b) (context_row b))
 
 abbrev pub context_row_at : ContextPlace → WrittenContext → List Chunk
 context_row_at place c = enclosed (context_bare place c) (context_row c)

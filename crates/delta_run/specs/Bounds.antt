@@ -15,14 +15,18 @@ pub record Bounds (file : List ℕ) (before after : Outside) (end : End) (status
   -- ran out or a write failed, and else nothing
   pub ends : OfFile before.files file (λ text. Adds before.log after.log (TellsBound text end))
   -- a text whose program has a bound, with no fault counted: done with its line written, or want of memory
-  pub complete : OfFile before.files file (λ text. IsStill before.file_faults after.file_faults → IsStill before.write_faults after.write_faults → IsStill before.note_faults after.note_faults
+  pub complete : OfFile before.files file
+      (λ text. IsStill before.file_faults after.file_faults → IsStill before.write_faults after.write_faults → IsStill before.note_faults after.note_faults
       → BoundsWell text before.log after.log status)
   -- a text whose program has none, with no fault counted: status 12, or want of memory
-  pub unbounded : OfFile before.files file (λ text. IsStill before.file_faults after.file_faults → IsStill before.write_faults after.write_faults → IsStill before.note_faults after.note_faults
+  pub unbounded : OfFile before.files file
+      (λ text. IsStill before.file_faults after.file_faults → IsStill before.write_faults after.write_faults → IsStill before.note_faults after.note_faults
       → ObjectsWell text status)
   -- an accepted text, with no fault counted, is one or the other
-  pub accepted : OfFile before.files file (λ text. IsStill before.file_faults after.file_faults → IsStill before.write_faults after.write_faults → IsStill before.note_faults after.note_faults
+  pub accepted : OfFile before.files file
+      (λ text. IsStill before.file_faults after.file_faults → IsStill before.write_faults after.write_faults → IsStill before.note_faults after.note_faults
       → JudgesAccepted text status)
   -- a text that is refused for something, with no fault counted: status 3, or want of memory
-  pub refused : OfFile before.files file (λ text. IsStill before.file_faults after.file_faults → IsStill before.write_faults after.write_faults → IsStill before.note_faults after.note_faults
+  pub refused : OfFile before.files file
+      (λ text. IsStill before.file_faults after.file_faults → IsStill before.write_faults after.write_faults → IsStill before.note_faults after.note_faults
       → RefusesUnaccepted text status)

@@ -13,5 +13,7 @@ pub record Checks (file : List ℕ) (before after : Outside) (end : End) (status
   -- the end is done where the text is accepted, and else tells what is wrong first
   pub ends : OfFile before.files file (λ text. ChecksText text end)
   -- an accepted text, with no fault counted: status 0, or want of memory; any other: status 3, or want of memory
-  pub complete : OfFile before.files file (λ text. IsStill before.file_faults after.file_faults → IsStill before.note_faults after.note_faults → PassesAccepted text status)
-  pub refused : OfFile before.files file (λ text. IsStill before.file_faults after.file_faults → IsStill before.note_faults after.note_faults → RefusesUnaccepted text status)
+  pub complete : OfFile before.files file
+      (λ text. IsStill before.file_faults after.file_faults → IsStill before.note_faults after.note_faults → PassesAccepted text status)
+  pub refused : OfFile before.files file
+      (λ text. IsStill before.file_faults after.file_faults → IsStill before.note_faults after.note_faults → RefusesUnaccepted text status)

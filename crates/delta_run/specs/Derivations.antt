@@ -14,6 +14,12 @@ pub record Derivations (file proof : List ℕ) (before after : Outside) (end : E
   pub ends : OfFile before.files file (λ text. OfFile before.files proof (λ steps. DerivesText text steps end))
   -- a derivation of the program, with no fault counted: status 0, or want of memory; what is none: status 11, or want of
   -- memory; and a text without a core, whatever the second file is: status 3, or want of memory
-  pub complete : OfFile before.files file (λ text. OfFile before.files proof (λ steps. IsStill before.file_faults after.file_faults → IsStill before.note_faults after.note_faults → PassesDerived text steps status))
-  pub underived : OfFile before.files file (λ text. OfFile before.files proof (λ steps. IsStill before.file_faults after.file_faults → IsStill before.note_faults after.note_faults → RefusesUnderived text steps status))
-  pub refused : OfFile before.files file (λ text. OfFile before.files proof (λ steps. IsStill before.file_faults after.file_faults → IsStill before.note_faults after.note_faults → RefusesUnelaborated text status))
+  pub complete : OfFile before.files file
+      (λ text. OfFile before.files proof
+      (λ steps. IsStill before.file_faults after.file_faults → IsStill before.note_faults after.note_faults → PassesDerived text steps status))
+  pub underived : OfFile before.files file
+      (λ text. OfFile before.files proof
+      (λ steps. IsStill before.file_faults after.file_faults → IsStill before.note_faults after.note_faults → RefusesUnderived text steps status))
+  pub refused : OfFile before.files file
+      (λ text. OfFile before.files proof
+      (λ steps. IsStill before.file_faults after.file_faults → IsStill before.note_faults after.note_faults → RefusesUnelaborated text status))

@@ -15,9 +15,12 @@ pub record Evals (file : List ℕ) (budget : ℕ) (v : Version) (before after : 
   pub ends : OfFile before.files file (λ text. Adds before.log after.log (EvalsText text budget v end))
   -- an accepted text over an input that is good in whole, with no fault counted: within the budget done or open with
   -- all written, past it status 5 with nothing written, or want of memory
-  pub complete : OfFile before.files file (λ text. IsStill before.file_faults after.file_faults → IsStill before.read_faults after.read_faults → IsStill before.write_faults after.write_faults
+  pub complete : OfFile before.files file
+      (λ text. IsStill before.file_faults after.file_faults → IsStill before.read_faults after.read_faults → IsStill before.write_faults after.write_faults
       → IsStill before.note_faults after.note_faults → EvalsWell text budget v before.left before.log after.log status)
-  pub stopped : OfFile before.files file (λ text. IsStill before.file_faults after.file_faults → IsStill before.read_faults after.read_faults → IsStill before.write_faults after.write_faults
+  pub stopped : OfFile before.files file
+      (λ text. IsStill before.file_faults after.file_faults → IsStill before.read_faults after.read_faults → IsStill before.write_faults after.write_faults
       → IsStill before.note_faults after.note_faults → StopsWell text budget v before.left before.log after.log status)
   -- a text that is refused, with no fault counted: status 3, or want of memory
-  pub refused : OfFile before.files file (λ text. IsStill before.file_faults after.file_faults → IsStill before.note_faults after.note_faults → RefusesUnwritable text v status)
+  pub refused : OfFile before.files file
+      (λ text. IsStill before.file_faults after.file_faults → IsStill before.note_faults after.note_faults → RefusesUnwritable text v status)

@@ -14,4 +14,5 @@ pub record Gens (start items : ℕ) (before after : Outside) (end : End) (status
   -- what was written is the line of the load, or a front of it
   pub ends : Adds before.log after.log (Told (Generates start items) end)
   -- with no fault counted: done with the whole line written, or want of memory
-  pub complete : IsStill before.write_faults after.write_faults → IsStill before.note_faults after.note_faults → GeneratesWell start items before.log after.log status
+  pub complete : IsStill before.write_faults after.write_faults → IsStill before.note_faults after.note_faults
+      → GeneratesWell start items before.log after.log status

@@ -24,4 +24,5 @@ pub record WritesLines (before after : Outside) (end : End) (status : ℕ) : Typ
   -- before each read the lines of all whole frames were written, and the end is shown by the bytes
   pub ends : Adds before.log after.log (MakesLines end)
   -- over a header and whole frames, with no fault counted: done with all lines written, or want of memory
-  pub complete : IsStill before.read_faults after.read_faults → IsStill before.write_faults after.write_faults → IsStill before.note_faults after.note_faults → IsLined before.left before.log after.log status
+  pub complete : IsStill before.read_faults after.read_faults → IsStill before.write_faults after.write_faults
+      → IsStill before.note_faults after.note_faults → IsLined before.left before.log after.log status

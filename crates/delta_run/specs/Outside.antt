@@ -16,7 +16,8 @@ pub record Outside : Type 0 where
   pub note_faults : ℕ
 
 -- read off a shelf, a link and a sink by what these tell
-abbrev pub seen : {S L N : Type 0} → (S → Option (List ℕ → List ℕ)) → (S → ℕ) → (L → Option (List Move)) → (L → Option (List ℕ)) → (L → ℕ) → (L → ℕ) → (N → Option (List ℕ)) → (N → ℕ) → S → L → N → Outside
+abbrev pub seen : {S L N : Type 0} → (S → Option (List ℕ → List ℕ)) → (S → ℕ) → (L → Option (List Move)) → (L → Option (List ℕ)) → (L → ℕ) → (L → ℕ)
+    → (N → Option (List ℕ)) → (N → ℕ) → S → L → N → Outside
 seen {S} {L} {N} holds file_faults log left read_faults write_faults told note_faults shelf link notes = record {
   files = holds shelf;
   file_faults = file_faults shelf;

@@ -13,8 +13,10 @@ pub record Prints (file : List ℕ) (before after : Outside) (end : End) (status
   -- the end is shown by the bytes that were written
   pub ends : OfFile before.files file (λ text. Adds before.log after.log (PrintsText text end))
   -- the text of a program, with no fault counted: done with its canonical text written, or want of memory
-  pub complete : OfFile before.files file (λ text. IsStill before.file_faults after.file_faults → IsStill before.write_faults after.write_faults → IsStill before.note_faults after.note_faults
+  pub complete : OfFile before.files file
+      (λ text. IsStill before.file_faults after.file_faults → IsStill before.write_faults after.write_faults → IsStill before.note_faults after.note_faults
       → PrintsWell text before.log after.log status)
   -- a text that is refused for something, with no fault counted: status 3, or want of memory
-  pub refused : OfFile before.files file (λ text. IsStill before.file_faults after.file_faults → IsStill before.write_faults after.write_faults → IsStill before.note_faults after.note_faults
+  pub refused : OfFile before.files file
+      (λ text. IsStill before.file_faults after.file_faults → IsStill before.write_faults after.write_faults → IsStill before.note_faults after.note_faults
       → RefusesWell text status)

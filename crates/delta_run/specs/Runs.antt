@@ -19,10 +19,12 @@ pub record Runs (file : List ℕ) (budget : ℕ) (v : Version) (before after : O
   pub ends : OfFile before.files file (λ text. Adds before.log after.log (RunsMoves text budget v end))
   -- an accepted text over an input that is good in whole, with no event that makes too many calls or one at too great
   -- a level, and no fault counted: done or open with all written, or want of memory
-  pub complete : OfFile before.files file (λ text. IsStill before.file_faults after.file_faults → IsStill before.read_faults after.read_faults → IsStill before.write_faults after.write_faults
+  pub complete : OfFile before.files file
+      (λ text. IsStill before.file_faults after.file_faults → IsStill before.read_faults after.read_faults → IsStill before.write_faults after.write_faults
       → IsStill before.note_faults after.note_faults → RunsWell text budget v before.left before.log after.log status)
   -- a text that is refused, with no fault counted: status 3, or want of memory
-  pub refused : OfFile before.files file (λ text. IsStill before.file_faults after.file_faults → IsStill before.note_faults after.note_faults → RefusesUnwritable text v status)
+  pub refused : OfFile before.files file
+      (λ text. IsStill before.file_faults after.file_faults → IsStill before.note_faults after.note_faults → RefusesUnwritable text v status)
   -- an accepted text whose run ended with 0, 4, 6 or 9: the status is that of the whole input, and what is due for its
   -- first 2^40 bytes was written, whatever the pieces that it came in and the budget
   pub settled : OfFile before.files file (λ text. SettlesWell text v before.left before.log after.log status)

@@ -46,4 +46,5 @@ IsSettled P all old new status = IsOverInput status → (status ≡ status_over 
 -- so it is for an accepted text, with any budget in place of the run's
 abbrev pub SettlesWell : List ℕ → Version → Option (List ℕ) → Option (List Move) → Option (List Move) → ℕ → Type 0
 SettlesWell text v left old new status =
-    (p : ProgramTree) (c : CoreProgram) → IsWritable text v p c → (all : List ℕ) → left ≡ Some all → (budget : ℕ) → IsSettled (meaning_of v budget (one_shot_of p)) all old new status
+    (p : ProgramTree) (c : CoreProgram) → IsWritable text v p c → (all : List ℕ) → left ≡ Some all → (budget : ℕ)
+    → IsSettled (meaning_of v budget (one_shot_of p)) all old new status

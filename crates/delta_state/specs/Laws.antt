@@ -46,12 +46,17 @@ StateIsTyped = (funs : List CoreBody) (c : Context) (s : StateTree) (r : StreamT
 
 -- on more input it gives no less, and makes no fewer calls
 abbrev pub StateGrows : Type 0
-StateGrows = (funs : List CoreBody) (c : Context) (s : StateTree) (r : StreamType) (env other : Environment) → IsTypedState funs c s r → IsTyped (types_of c) env → IsPartAt (types_of c) env other
+StateGrows =
+    (funs : List CoreBody) (c : Context) (s : StateTree) (r : StreamType) (env other : Environment) → IsTypedState funs c s r
+    → IsTyped (types_of c) env → IsPartAt (types_of c) env other
     → IsPart r (run_state (fun_at funs) s (types_of c) r env).out (run_state (fun_at funs) s (types_of c) r other).out
     × ((run_state (fun_at funs) s (types_of c) r env).calls ≤ (run_state (fun_at funs) s (types_of c) r other).calls)
 
 -- and it gives a whole stream where its free names are whole, if it makes no more calls than the least depth
 -- of its code that isn't reached
 abbrev pub StateIsWhole : Type 0
-StateIsWhole = (funs : List CoreBody) (c : Context) (s : StateTree) (r : StreamType) (env : Environment) (n : ℕ) → IsTypedState funs c s r → IsTyped (types_of c) env → All (λ l. n ≤ l.depth) (laters_of s)
-    → IsWholeOn (free_in_state s) env → (run_state (fun_at funs) s (types_of c) r env).calls ≤ n → IsTrue (is_maximal (run_state (fun_at funs) s (types_of c) r env).out)
+StateIsWhole =
+    (funs : List CoreBody) (c : Context) (s : StateTree) (r : StreamType) (env : Environment) (n : ℕ) → IsTypedState funs c s r
+    → IsTyped (types_of c) env → All (λ l. n ≤ l.depth) (laters_of s)
+    → IsWholeOn (free_in_state s) env → (run_state (fun_at funs) s (types_of c) r env).calls ≤ n
+    → IsTrue (is_maximal (run_state (fun_at funs) s (types_of c) r env).out)

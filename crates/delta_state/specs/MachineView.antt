@@ -41,7 +41,8 @@ pub record StandsAfter (m : MachineView) (word : List StreamEvent) : Type 0 wher
   pub in_limit : m.budget ≤ 1000000
 
 -- a machine stands after the word, by what `stands` says of machines, and this event may come next
-pub record Awaits {M : Type 0} (seen : M → MachineView) (stands : M → List StreamEvent → Type 0) (machine : M) (word : List StreamEvent) (x : StreamEvent) : Type 0 where
+pub record Awaits {M : Type 0} (seen : M → MachineView) (stands : M → List StreamEvent → Type 0) (machine : M) (word : List StreamEvent)
+    (x : StreamEvent) : Type 0 where
   pub stands_after : stands machine word
   pub admits : Admits (after_word word (input_type (seen machine).program)) x
 

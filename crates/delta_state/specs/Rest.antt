@@ -81,18 +81,22 @@ module _ (funs : ℕ → CoreBody) (k : ℕ) (call_rest : ℕ → List HistValue
         let_state x (der (run_at funs k a types s env (past_in past)).out s) (rest_with a types s env past)
         (rest_with b (put x s types) r (put x (run_at funs k a types s env (past_in past)).out env) past)
     rest_with (let_par_term x y z a) types r env past =
-        let_par_state x y z (rest_with a (put y (par_right (types z)) (put x (par_left (types z)) types)) r (put y (right_part (env z)) (put x (left_part (env z)) env)) past)
+        let_par_state x y z (rest_with a (put y (par_right (types z)) (put x (par_left (types z)) types)) r
+        (put y (right_part (env z)) (put x (left_part (env z)) env)) past)
     rest_with (let_cat_term x y z a) types r env past =
         cut_state x y z (types z) (env z)
-        (rest_with a (put y (cat_second (types z)) (put x (cat_first (types z)) types)) r (put y (second_part (cat_second (types z)) (env z)) (put x (first_part (env z)) env)) past)
+        (rest_with a (put y (cat_second (types z)) (put x (cat_first (types z)) types)) r
+        (put y (second_part (cat_second (types z)) (env z)) (put x (first_part (env z)) env)) past)
     rest_with (case_sum_term z t x a y b) types r env past =
         sum_rest z x y (types z) (env z)
-        (sum_state z t (taken (once (free_names (case_sum_term z t x a y b))) types env) x (record { term = a; past = past; depth = k }) y (record { term = b; past = past; depth = k }))
+        (sum_state z t (taken (once (free_names (case_sum_term z t x a y b))) types env) x (record { term = a; past = past; depth = k }) y
+        (record { term = b; past = past; depth = k }))
         (λ p. rest_with a (put x (sum_left (types z)) types) r (put x p env) past)
         (λ p. rest_with b (put y (sum_right (types z)) types) r (put y p env) past)
     rest_with (case_star_term z t a y ys b) types r env past =
         star_rest_state z y ys (types z) (env z)
-        (star_state z t (taken (once (free_names (case_star_term z t a y ys b))) types env) (record { term = a; past = past; depth = k }) y ys (record { term = b; past = past; depth = k }))
+        (star_state z t (taken (once (free_names (case_star_term z t a y ys b))) types env) (record { term = a; past = past; depth = k }) y ys
+        (record { term = b; past = past; depth = k }))
         (rest_with a types r env past)
         (λ p q. rest_with b (put ys (star_items (types z)) (put y (star_item (types z)) types)) r (put ys q (put y p env)) past)
     rest_with (wait_term x t a) types r env past =
@@ -114,7 +118,8 @@ module _ (funs : ℕ → CoreBody) where
   unfoldable pub call_rest_at : ℕ → ℕ → List HistValue → List StreamPrefix → StateTree
   call_rest_at zero f vs ps = sink eps
   call_rest_at (suc k) f vs ps =
-      rest_with funs k (call_rest_at k) (funs f).body (types_in (funs f).params) (funs f).result (value_at eps_emp (leaf_names (funs f).params) ps) (known_of (funs f).past vs)
+      rest_with funs k (call_rest_at k) (funs f).body (types_in (funs f).params) (funs f).result (value_at eps_emp (leaf_names (funs f).params) ps)
+      (known_of (funs f).past vs)
 
   -- what is left of a term with this depth left
   abbrev pub rest_at : ℕ → CoreTerm → NameTypes → StreamType → Environment → List Known → StateTree
@@ -135,12 +140,15 @@ module _ (funs : ℕ → CoreBody) where
         then rest_later l types (cat_second r) env
         else cat_state (rest_of a types (cat_first r) env) l
     rest_of (let_state x s a b) types r env =
-        let_state x (der (run_state funs a types s env).out s) (rest_of a types s env) (rest_of b (put x s types) r (put x (run_state funs a types s env).out env))
+        let_state x (der (run_state funs a types s env).out s) (rest_of a types s env)
+        (rest_of b (put x s types) r (put x (run_state funs a types s env).out env))
     rest_of (let_par_state x y z a) types r env =
-        let_par_state x y z (rest_of a (put y (par_right (types z)) (put x (par_left (types z)) types)) r (put y (right_part (env z)) (put x (left_part (env z)) env)))
+        let_par_state x y z (rest_of a (put y (par_right (types z)) (put x (par_left (types z)) types)) r
+        (put y (right_part (env z)) (put x (left_part (env z)) env)))
     rest_of (let_cat_state x y z a) types r env =
         cut_state x y z (types z) (env z)
-        (rest_of a (put y (cat_second (types z)) (put x (cat_first (types z)) types)) r (put y (second_part (cat_second (types z)) (env z)) (put x (first_part (env z)) env)))
+        (rest_of a (put y (cat_second (types z)) (put x (cat_first (types z)) types)) r
+        (put y (second_part (cat_second (types z)) (env z)) (put x (first_part (env z)) env)))
     rest_of (sum_state z t held x l y m) types r env =
         sum_rest z x y (types_held held z) (with_held held env z) (sum_state z t (held_more held env) x l y m)
         (λ p. rest_later l (put x (sum_left (types_held held z)) (types_held held)) r (put x p (with_held held env)))
@@ -148,7 +156,8 @@ module _ (funs : ℕ → CoreBody) where
     rest_of (star_state z t held l y ys m) types r env =
         star_rest_state z y ys (types_held held z) (with_held held env z) (star_state z t (held_more held env) l y ys m)
         (rest_later l (types_held held) r (with_held held env))
-        (λ p q. rest_later m (put ys (star_items (types_held held z)) (put y (star_item (types_held held z)) (types_held held))) r (put ys q (put y p (with_held held env))))
+        (λ p q. rest_later m (put ys (star_items (types_held held z)) (put y (star_item (types_held held z)) (types_held held))) r
+        (put ys q (put y p (with_held held env))))
     rest_of (wait_state x t held l) types r env =
         if is_maximal (with_held held env x)
         then rest_later (knowing x (types_held held x) (value_of (with_held held env x)) l) (types_held held) r (with_held held env)

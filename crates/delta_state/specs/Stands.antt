@@ -38,7 +38,11 @@ output_left c p = der (mean c p) c.main.result
 -- main's parameters in their order, with what is left of their types after the input p
 abbrev pub context_after : CoreProgram → StreamPrefix → Context
 context_after c p =
-    record { types = λ x. if holds x (leaf_names c.main.params) then Some (left_at (split c.main.params p) (types_in c.main.params) x) else None; order = stands_before c.main.params; past = no_pasts }
+    record {
+      types = λ x. if holds x (leaf_names c.main.params) then Some (left_at (split c.main.params p) (types_in c.main.params) x) else None;
+      order = stands_before c.main.params;
+      past = no_pasts;
+    }
 
 -- the run of a state on what comes after the input p
 abbrev pub rest_run : CoreProgram → StreamPrefix → StateTree → StreamPrefix → Run

@@ -55,12 +55,14 @@ module _ (funs : ℕ → CoreBody) where
   -- a case on a sum, over the types from before and on all that came
   abbrev pub run_sum : ℕ → ℕ → LaterTree → ℕ → LaterTree → NameTypes → StreamType → Environment → Run
   run_sum z x l y m types r env =
-      sum_run r (env z) (λ p. run_later l (put x (sum_left (types z)) types) r (put x p env)) (λ p. run_later m (put y (sum_right (types z)) types) r (put y p env))
+      sum_run r (env z) (λ p. run_later l (put x (sum_left (types z)) types) r (put x p env))
+      (λ p. run_later m (put y (sum_right (types z)) types) r (put y p env))
 
   -- a case on a star
   abbrev pub run_star : ℕ → LaterTree → ℕ → ℕ → LaterTree → NameTypes → StreamType → Environment → Run
   run_star z l y ys m types r env =
-      star_run r (env z) (run_later l types r env) (λ p q. run_later m (put ys (star_items (types z)) (put y (star_item (types z)) types)) r (put ys q (put y p env)))
+      star_run r (env z) (run_later l types r env)
+      (λ p q. run_later m (put ys (star_items (types z)) (put y (star_item (types z)) types)) r (put ys q (put y p env)))
 
   -- a wait
   abbrev pub run_wait : ℕ → LaterTree → NameTypes → StreamType → Environment → Run
@@ -79,12 +81,14 @@ module _ (funs : ℕ → CoreBody) where
     run_state (let_par_state x y z a) types r env =
         run_state a (put y (par_right (types z)) (put x (par_left (types z)) types)) r (put y (right_part (env z)) (put x (left_part (env z)) env))
     run_state (let_cat_state x y z a) types r env =
-        run_state a (put y (cat_second (types z)) (put x (cat_first (types z)) types)) r (put y (second_part (cat_second (types z)) (env z)) (put x (first_part (env z)) env))
+        run_state a (put y (cat_second (types z)) (put x (cat_first (types z)) types)) r
+        (put y (second_part (cat_second (types z)) (env z)) (put x (first_part (env z)) env))
     run_state (sum_state z t held x l y m) types r env = run_sum z x l y m (types_held held) r (with_held held env)
     run_state (star_state z t held l y ys m) types r env = run_star z l y ys m (types_held held) r (with_held held env)
     run_state (wait_state x t held l) types r env = run_wait x l (types_held held) r (with_held held env)
     run_state (frame_state args s) types r env =
-        frame_run (run_arguments args types env) (run_state s (types_of_arguments args) r (value_at eps_emp (argument_names args) (run_arguments args types env).outs))
+        frame_run (run_arguments args types env)
+        (run_state s (types_of_arguments args) r (value_at eps_emp (argument_names args) (run_arguments args types env).outs))
 
     -- the runs of arguments
     pub run_arguments : ArgumentTrees → NameTypes → Environment → Runs

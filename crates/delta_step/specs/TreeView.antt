@@ -12,11 +12,22 @@ use Rattle.delta_step.specs.declared.machine.Tree.{Tree}
 
 -- its program, its state without marks, its place, and what it counts
 abbrev pub view_of : Tree → MachineView
-view_of m = record { program = core_of m.core.value; budget = m.budget; state = without_marks (state_in m.state.value); place = place_in (awaited_in m.awaited.value); events = m.events; spent = m.spent }
+view_of m =
+    record {
+      program = core_of m.core.value;
+      budget = m.budget;
+      state = without_marks (state_in m.state.value);
+      place = place_in
+          (awaited_in m.awaited.value);
+      events = m.events;
+      spent = m.spent;
+    }
 
 -- it stands for its program after the word, by a state that can hold no more than the program
 abbrev pub TreeStands : Tree → List StreamEvent → Type 0
-TreeStands m word = KeepsBelow (core_of m.core.value) m.budget (state_in m.state.value) (awaited_in m.awaited.value) (type_of m.input.value) (type_of m.output.value) m.events m.spent word
+TreeStands m word =
+    KeepsBelow (core_of m.core.value) m.budget (state_in m.state.value) (awaited_in m.awaited.value) (type_of m.input.value) (type_of m.output.value)
+    m.events m.spent word
 
 -- and so as machines have to
 abbrev pub tree_stands_after : (m : Tree) (word : List StreamEvent) → TreeStands m word → StandsAfter (view_of m) word

@@ -12,5 +12,6 @@ event_of-stream_event_of a h =
     let start : 63 - length (drop a.start a.steps) ≡ a.start =
     ap (λ n. 63 - n) (length-drop a.start a.steps) ∙ ap (λ n. 63 - (n - a.start)) h.len ∙ sub-sub_self h.start in
     let steps : replicate (63 - length (drop a.start a.steps)) Left ++ drop a.start a.steps ≡ a.steps =
-    ap (λ n. replicate n Left ++ drop a.start a.steps) start ∙ ap (λ unused. unused ++ drop a.start a.steps) (sym h.unused) ∙ take-append-drop a.start a.steps in
+    ap (λ n. replicate n Left ++ drop a.start a.steps) start ∙ ap (λ unused. unused ++ drop a.start a.steps) (sym h.unused)
+    ∙ take-append-drop a.start a.steps in
     λ i. record { steps = steps i; start = start i; leaf = a.leaf }

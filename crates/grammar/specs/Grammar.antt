@@ -18,11 +18,15 @@ place_of (t ∷ rest) = t.at
 -- the tokens are derived by the rule, and stand for the value
 pub data Derives (L : Language) (G : Grammar L) : (s : Sort L.Thing) → Rule L s → List (TokenOf L) → Value L s → Type 0 where
   by_token : {is : L.Terminal → Bool} {t : TokenOf L} → is t.kind ≡ true → Derives L G token (one_of is) (t ∷ []) t
-  by_part : {p : L.Part} {u : List (TokenOf L)} {v : Value L (L.stands_for p)} → Derives L G (L.stands_for p) (G.rule_of p) u v → Derives L G (L.stands_for p) (part p) u v
-  by_both : {s t : Sort L.Thing} {a : Rule L s} {b : Rule L t} {u w : List (TokenOf L)} {x : Value L s} {y : Value L t} → Derives L G s a u x → Derives L G t b w y → Derives L G (pair s t) (both a b) (u ++ w) (x, y)
+  by_part : {p : L.Part} {u : List (TokenOf L)} {v : Value L (L.stands_for p)} → Derives L G (L.stands_for p) (G.rule_of p) u v
+      → Derives L G (L.stands_for p) (part p) u v
+  by_both : {s t : Sort L.Thing} {a : Rule L s} {b : Rule L t} {u w : List (TokenOf L)} {x : Value L s} {y : Value L t} → Derives L G s a u x
+      → Derives L G t b w y → Derives L G (pair s t) (both a b) (u ++ w) (x, y)
   by_left : {s : Sort L.Thing} {a b : Rule L s} {u : List (TokenOf L)} {x : Value L s} → Derives L G s a u x → Derives L G s (either a b) u x
   by_right : {s : Sort L.Thing} {a b : Rule L s} {u : List (TokenOf L)} {x : Value L s} → Derives L G s b u x → Derives L G s (either a b) u x
   by_none : {s : Sort L.Thing} {a : Rule L s} → Derives L G (option s) (maybe a) [] None
   by_some : {s : Sort L.Thing} {a : Rule L s} {u : List (TokenOf L)} {x : Value L s} → Derives L G s a u x → Derives L G (option s) (maybe a) u (Some x)
-  by_placed : {s : Sort L.Thing} {a : Rule L s} {u : List (TokenOf L)} {x : Value L s} → Derives L G s a u x → Derives L G (pair place s) (placed a) u (place_of u, x)
-  by_make : {s t : Sort L.Thing} {f : Value L s → Value L t} {a : Rule L s} {u : List (TokenOf L)} {x : Value L s} → Derives L G s a u x → Derives L G t (make f a) u (f x)
+  by_placed : {s : Sort L.Thing} {a : Rule L s} {u : List (TokenOf L)} {x : Value L s} → Derives L G s a u x
+      → Derives L G (pair place s) (placed a) u (place_of u, x)
+  by_make : {s t : Sort L.Thing} {f : Value L s → Value L t} {a : Rule L s} {u : List (TokenOf L)} {x : Value L s} → Derives L G s a u x
+      → Derives L G t (make f a) u (f x)

@@ -75,13 +75,16 @@ abbrev pub judge : (ℕ → Option HistType) → HistExpr → Option HistType �
 judge env (variable x) w = and_then (at_name x (env x)) (λ t. found w t)
 judge env (literal n) w = found w int_type
 judge env unit_expr w = found w unit_type
-judge env (reckoned o a b) w = and_then (found w (type_of_op o)) (λ t. and_then (judge env a (Some int_type)) (λ _. and_then (judge env b (Some int_type)) (λ _. good t)))
+judge env (reckoned o a b) w =
+    and_then (found w (type_of_op o)) (λ t. and_then (judge env a (Some int_type)) (λ _. and_then (judge env b (Some int_type)) (λ _. good t)))
 judge env (pair_expr a b) w = of_pair w (λ s t. and_then (judge env a s) (λ u. and_then (judge env b t) (λ v. good (pair_type u v))))
 judge env (first_expr a) w = and_then (judge env a None) (λ p. in_pair p (λ s t. found w s))
 judge env (second_expr a) w = and_then (judge env a None) (λ p. in_pair p (λ s t. found w t))
 judge env (left_expr a) w = of_sum w (λ s t. and_then (judge env a (Some s)) (λ u. good (sum_type u t)))
 judge env (right_expr a) w = of_sum w (λ s t. and_then (judge env a (Some t)) (λ u. good (sum_type s u)))
-judge env (choice a x b y c) w = and_then (judge env a None) (λ p. in_sum p (λ s t. and_then (judge (put x (Some s) env) b w) (λ r. judge (put y (Some t) env) c (Some r))))
+judge env (choice a x b y c) w =
+    and_then (judge env a None) (λ p. in_sum p (λ s t. and_then (judge (put x (Some s) env) b w) (λ r. judge (put y (Some t) env) c (Some r))))
 judge env nil_expr w = of_list w (λ s. good (list_type s))
 judge env (cons_expr a b) w = of_items w (λ s. and_then (judge env a s) (λ u. judge env b (Some (list_type u))))
-judge env (fold_expr a i x y b) w = and_then (judge env a None) (λ p. in_list p (λ s. and_then (judge env i w) (λ r. judge (put y (Some s) (put x (Some r) env)) b (Some r))))
+judge env (fold_expr a i x y b) w =
+    and_then (judge env a None) (λ p. in_list p (λ s. and_then (judge env i w) (λ r. judge (put y (Some s) (put x (Some r) env)) b (Some r))))

@@ -39,7 +39,8 @@ HasTypes env past = (x : ℕ) (t : HistType) → env x ≡ Some t → HasType t 
 -- an expression that the rules give a type has a value of it
 abbrev pub ValueHasType : Type 0
 ValueHasType =
-    (env : ℕ → Option HistType) (past : ℕ → HistValue) → HasTypes env past → (e : HistExpr) (w : Option HistType) (t : HistType) → Gives env e w t → HasType t (value e past)
+    (env : ℕ → Option HistType) (past : ℕ → HistValue) → HasTypes env past → (e : HistExpr) (w : Option HistType) (t : HistType) → Gives env e w t
+    → HasType t (value e past)
 
 -- the value of an expression depends on what stands at its free names alone
 abbrev pub ValueOfFreeNames : Type 0
@@ -68,9 +69,11 @@ ValueOfRenaming = (scope : ℕ → Option ℕ) (e f : HistExpr) → IsRenaming s
 -- and the same is judged of them
 abbrev pub JudgeOfRenaming : Type 0
 JudgeOfRenaming =
-    (scope : ℕ → Option ℕ) (e f : HistExpr) → IsRenaming scope e f → (p q : ℕ → Option HistType) → AgreeAlong scope p q → (w : Option HistType) → IsJudgedAlike scope p (judge p e w) (judge q f w)
+    (scope : ℕ → Option ℕ) (e f : HistExpr) → IsRenaming scope e f → (p q : ℕ → Option HistType) → AgreeAlong scope p q → (w : Option HistType)
+    → IsJudgedAlike scope p (judge p e w) (judge q f w)
 
 -- so the rules give them the same types
 abbrev pub GivesOfRenaming : Type 0
 GivesOfRenaming =
-    (scope : ℕ → Option ℕ) (e f : HistExpr) → IsRenaming scope e f → (p q : ℕ → Option HistType) → AgreeAlong scope p q → (w : Option HistType) (t : HistType) → Gives p e w t ↔ Gives q f w t
+    (scope : ℕ → Option ℕ) (e f : HistExpr) → IsRenaming scope e f → (p q : ℕ → Option HistType) → AgreeAlong scope p q
+    → (w : Option HistType) (t : HistType) → Gives p e w t ↔ Gives q f w t

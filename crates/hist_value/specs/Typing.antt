@@ -28,15 +28,26 @@ pub data Gives : (ℕ → Option HistType) → HistExpr → Option HistType → 
   gives_variable : {env : ℕ → Option HistType} {x : ℕ} {w : Option HistType} {t : HistType} → env x ≡ Some t → Agrees w t → Gives env (variable x) w t
   gives_literal : {env : ℕ → Option HistType} {n : _} {w : Option HistType} → Agrees w int_type → Gives env (literal n) w int_type
   gives_unit : {env : ℕ → Option HistType} {w : Option HistType} → Agrees w unit_type → Gives env unit_expr w unit_type
-  gives_reckoned : {env : ℕ → Option HistType} {o : Op} {a b : HistExpr} {w : Option HistType} → Gives env a (Some int_type) int_type → Gives env b (Some int_type) int_type → Agrees w (type_of_op o) → Gives env (reckoned o a b) w (type_of_op o)
-  gives_pair : {env : ℕ → Option HistType} {a b : HistExpr} {s t : HistType} → Gives env a None s → Gives env b None t → Gives env (pair_expr a b) None (pair_type s t)
-  gives_wanted_pair : {env : ℕ → Option HistType} {a b : HistExpr} {s t : HistType} → Gives env a (Some s) s → Gives env b (Some t) t → Gives env (pair_expr a b) (Some (pair_type s t)) (pair_type s t)
-  gives_first : {env : ℕ → Option HistType} {a : HistExpr} {w : Option HistType} {s t : HistType} → Gives env a None (pair_type s t) → Agrees w s → Gives env (first_expr a) w s
-  gives_second : {env : ℕ → Option HistType} {a : HistExpr} {w : Option HistType} {s t : HistType} → Gives env a None (pair_type s t) → Agrees w t → Gives env (second_expr a) w t
-  gives_left : {env : ℕ → Option HistType} {a : HistExpr} {s t : HistType} → Gives env a (Some s) s → Gives env (left_expr a) (Some (sum_type s t)) (sum_type s t)
-  gives_right : {env : ℕ → Option HistType} {a : HistExpr} {s t : HistType} → Gives env a (Some t) t → Gives env (right_expr a) (Some (sum_type s t)) (sum_type s t)
-  gives_choice : {env : ℕ → Option HistType} {a b c : HistExpr} {x y : ℕ} {w : Option HistType} {s t r : HistType} → Gives env a None (sum_type s t) → Gives (put x (Some s) env) b w r → Gives (put y (Some t) env) c (Some r) r → Gives env (choice a x b y c) w r
+  gives_reckoned : {env : ℕ → Option HistType} {o : Op} {a b : HistExpr} {w : Option HistType} → Gives env a (Some int_type) int_type
+      → Gives env b (Some int_type) int_type → Agrees w (type_of_op o) → Gives env (reckoned o a b) w (type_of_op o)
+  gives_pair : {env : ℕ → Option HistType} {a b : HistExpr} {s t : HistType} → Gives env a None s → Gives env b None t
+      → Gives env (pair_expr a b) None (pair_type s t)
+  gives_wanted_pair : {env : ℕ → Option HistType} {a b : HistExpr} {s t : HistType} → Gives env a (Some s) s → Gives env b (Some t) t
+      → Gives env (pair_expr a b) (Some (pair_type s t)) (pair_type s t)
+  gives_first : {env : ℕ → Option HistType} {a : HistExpr} {w : Option HistType} {s t : HistType} → Gives env a None (pair_type s t) → Agrees w s
+      → Gives env (first_expr a) w s
+  gives_second : {env : ℕ → Option HistType} {a : HistExpr} {w : Option HistType} {s t : HistType} → Gives env a None (pair_type s t) → Agrees w t
+      → Gives env (second_expr a) w t
+  gives_left : {env : ℕ → Option HistType} {a : HistExpr} {s t : HistType} → Gives env a (Some s) s
+      → Gives env (left_expr a) (Some (sum_type s t)) (sum_type s t)
+  gives_right : {env : ℕ → Option HistType} {a : HistExpr} {s t : HistType} → Gives env a (Some t) t
+      → Gives env (right_expr a) (Some (sum_type s t)) (sum_type s t)
+  gives_choice : {env : ℕ → Option HistType} {a b c : HistExpr} {x y : ℕ} {w : Option HistType} {s t r : HistType} → Gives env a None (sum_type s t)
+      → Gives (put x (Some s) env) b w r → Gives (put y (Some t) env) c (Some r) r → Gives env (choice a x b y c) w r
   gives_nil : {env : ℕ → Option HistType} {s : HistType} → Gives env nil_expr (Some (list_type s)) (list_type s)
-  gives_cons : {env : ℕ → Option HistType} {a b : HistExpr} {s : HistType} → Gives env a None s → Gives env b (Some (list_type s)) (list_type s) → Gives env (cons_expr a b) None (list_type s)
-  gives_wanted_cons : {env : ℕ → Option HistType} {a b : HistExpr} {s : HistType} → Gives env a (Some s) s → Gives env b (Some (list_type s)) (list_type s) → Gives env (cons_expr a b) (Some (list_type s)) (list_type s)
-  gives_fold : {env : ℕ → Option HistType} {a i b : HistExpr} {x y : ℕ} {w : Option HistType} {s r : HistType} → Gives env a None (list_type s) → Gives env i w r → Gives (put y (Some s) (put x (Some r) env)) b (Some r) r → Gives env (fold_expr a i x y b) w r
+  gives_cons : {env : ℕ → Option HistType} {a b : HistExpr} {s : HistType} → Gives env a None s → Gives env b (Some (list_type s)) (list_type s)
+      → Gives env (cons_expr a b) None (list_type s)
+  gives_wanted_cons : {env : ℕ → Option HistType} {a b : HistExpr} {s : HistType} → Gives env a (Some s) s
+      → Gives env b (Some (list_type s)) (list_type s) → Gives env (cons_expr a b) (Some (list_type s)) (list_type s)
+  gives_fold : {env : ℕ → Option HistType} {a i b : HistExpr} {x y : ℕ} {w : Option HistType} {s r : HistType} → Gives env a None (list_type s)
+      → Gives env i w r → Gives (put y (Some s) (put x (Some r) env)) b (Some r) r → Gives env (fold_expr a i x y b) w r

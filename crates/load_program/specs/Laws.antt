@@ -25,7 +25,8 @@ pub record CoreFitsLoad : Type 0 where
 -- before any event a program makes one call at most, at each event of the word one more at most, and none at a level above 0
 pub record IsLight (c : CoreProgram) (word : List StreamEvent) : Type 0 where
   pub first : calls_of c (input_of c []) ≤ 1
-  pub one_more : (before rest : List StreamEvent) (x : StreamEvent) → word ≡ before ++ x ∷ rest → calls_of c (input_of c (before ++ x ∷ [])) ≤ calls_of c (input_of c before) + 1
+  pub one_more : (before rest : List StreamEvent) (x : StreamEvent) → word ≡ before ++ x ∷ rest
+      → calls_of c (input_of c (before ++ x ∷ [])) ≤ calls_of c (input_of c before) + 1
   pub flat : (before rest : List StreamEvent) → word ≡ before ++ rest → level_of c (input_of c before) ≡ 0
 
 -- the load's program is so on the load

@@ -28,16 +28,21 @@ BeginsBelow =
 -- most, what can hold no more than the program
 abbrev pub GoesOnBelow : Type 0
 GoesOnBelow =
-    (c : CoreProgram) (budget : ℕ) (s : StateTree) (a : AwaitedTree) (input output : StreamType) (events spent : ℕ) (w : List StreamEvent) (x : StreamEvent) → KeepsBelow c budget s a input output events spent w
-    → Admits (after_word w (input_type c)) x → events < 2 ^ 42 → (run_on c s output (entries_on a (one_of x input))).calls ≤ 1000000 → IsBelow c (state_on c s output (entries_on a (one_of x input))) (w ++ x ∷ [])
+    (c : CoreProgram) (budget : ℕ) (s : StateTree) (a : AwaitedTree) (input output : StreamType) (events spent : ℕ) (w : List StreamEvent)
+    (x : StreamEvent) → KeepsBelow c budget s a input output events spent w
+    → Admits (after_word w (input_type c)) x → events < 2 ^ 42 → (run_on c s output (entries_on a (one_of x input))).calls ≤ 1000000
+    → IsBelow c (state_on c s output (entries_on a (one_of x input))) (w ++ x ∷ [])
 
 -- and so can a state that the machine's becomes by rewritings
 abbrev pub SimplerBelow : Type 0
 SimplerBelow =
-    (c : CoreProgram) (budget : ℕ) (s t : StateTree) (a : AwaitedTree) (input output : StreamType) (events spent : ℕ) (word : List StreamEvent) → KeepsBelow c budget s a input output events spent word → SimplerBy output s t
+    (c : CoreProgram) (budget : ℕ) (s t : StateTree) (a : AwaitedTree) (input output : StreamType) (events spent : ℕ) (word : List StreamEvent)
+    → KeepsBelow c budget s a input output events spent word → SimplerBy output s t
     → IsBelow c t word
 
 -- a machine whose state can hold no more than its program holds n events at most, where that is the program's bound
 -- with numbers that no body passes, and below the limit
 abbrev pub StaysHolding : Type 0
-StaysHolding = (m : MachineView) (word : List StreamEvent) (numbers : ℕ → Bound) (n : ℕ) → StaysBelow m word → AreEnough m.program numbers → main_bound m.program numbers ⊑ Some n → n < limit → capped (events_held m.state) ≤ n
+StaysHolding =
+    (m : MachineView) (word : List StreamEvent) (numbers : ℕ → Bound) (n : ℕ) → StaysBelow m word → AreEnough m.program numbers
+    → main_bound m.program numbers ⊑ Some n → n < limit → capped (events_held m.state) ≤ n

@@ -27,6 +27,7 @@ pub record StaysBelow (m : MachineView) (word : List StreamEvent) : Type 0 where
   pub below : IsBelow m.program stands.marked word
 
 -- a machine keeps all that machines have to (`KeepsAll`), and its state can hold no more than its program
-pub record KeepsBelow (c : CoreProgram) (budget : ℕ) (s : StateTree) (a : AwaitedTree) (input output : StreamType) (events spent : ℕ) (word : List StreamEvent) : Type 0 where
+pub record KeepsBelow (c : CoreProgram) (budget : ℕ) (s : StateTree) (a : AwaitedTree) (input output : StreamType) (events spent : ℕ)
+    (word : List StreamEvent) : Type 0 where
   pub keeps : KeepsAll c budget s a input output events spent word
   pub below : IsBelow c s word

@@ -11,7 +11,8 @@ use Rattle.machine_parts.specs.AwaitedTree.{AwaitedTree, left_of, place_in}
 
 -- after the word, a machine of the program c with this state, awaiting so much, with this left of the types of its
 -- input and its output, keeps what it has to
-pub record KeepsAll (c : CoreProgram) (budget : ℕ) (s : StateTree) (a : AwaitedTree) (input output : StreamType) (events spent : ℕ) (word : List StreamEvent) : Type 0 where
+pub record KeepsAll (c : CoreProgram) (budget : ℕ) (s : StateTree) (a : AwaitedTree) (input output : StreamType) (events spent : ℕ)
+    (word : List StreamEvent) : Type 0 where
   pub keeps : Keeps c s (input_of c word) input output events word
   pub awaits : a ≡ left_of c.main.params (input_of c word)
   pub is_place : place_in a ≡ place_at c.main.params (input_of c word)

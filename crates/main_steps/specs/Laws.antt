@@ -48,15 +48,18 @@ abbrev pub KeepsFirst : Type 0
 KeepsFirst = (c : CoreProgram) → IsRunnable c → (first_run_on c (first_entries c)).calls ≤ 1000000 → KeptFirst c
 
 -- what a machine keeps after the event x, and that its run on the event is the answer
-pub record KeptNext (c : CoreProgram) (s : StateTree) (came : StreamPrefix) (input output : StreamType) (events : ℕ) (w : List StreamEvent) (x : StreamEvent) : Type 0 where
+pub record KeptNext (c : CoreProgram) (s : StateTree) (came : StreamPrefix) (input output : StreamType) (events : ℕ) (w : List StreamEvent)
+    (x : StreamEvent) : Type 0 where
   pub answers : (run_on c s output (next_entries c came input x)).out ≡ answer_to c w x
-  pub keeps : Keeps c (state_on c s output (next_entries c came input x)) (join came (one_of x input)) (der (one_of x input) input) (der (run_on c s output (next_entries c came input x)).out output) (suc events) (w ++ x ∷ [])
+  pub keeps : Keeps c (state_on c s output (next_entries c came input x)) (join came (one_of x input)) (der (one_of x input) input)
+      (der (run_on c s output (next_entries c came input x)).out output) (suc events) (w ++ x ∷ [])
 
 -- it does so where it kept what it keeps after w, x is admitted, fewer than 2^42 events came, and the run makes a
 -- million calls at most
 abbrev pub KeepsNext : Type 0
 KeepsNext =
-    (c : CoreProgram) (s : StateTree) (came : StreamPrefix) (input output : StreamType) (events : ℕ) (w : List StreamEvent) (x : StreamEvent) → Keeps c s came input output events w → Admits input x → events < 2 ^ 42
+    (c : CoreProgram) (s : StateTree) (came : StreamPrefix) (input output : StreamType) (events : ℕ) (w : List StreamEvent) (x : StreamEvent)
+    → Keeps c s came input output events w → Admits input x → events < 2 ^ 42
     → (run_on c s output (next_entries c came input x)).calls ≤ 1000000 → KeptNext c s came input output events w x
 
 -- more calls, or a greater level, than a number in the run of the state are so in the program
@@ -67,5 +70,6 @@ pub record TellsCost (c : CoreProgram) (s : StateTree) (came : StreamPrefix) (in
 -- so a machine that stops for them stops for the program's
 abbrev pub StopsForProgram : Type 0
 StopsForProgram =
-    (c : CoreProgram) (s : StateTree) (came : StreamPrefix) (input output : StreamType) (events : ℕ) (w : List StreamEvent) (x : StreamEvent) → Keeps c s came input output events w → Admits input x
+    (c : CoreProgram) (s : StateTree) (came : StreamPrefix) (input output : StreamType) (events : ℕ) (w : List StreamEvent) (x : StreamEvent)
+    → Keeps c s came input output events w → Admits input x
     → TellsCost c s came input output w x

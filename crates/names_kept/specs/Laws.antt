@@ -26,4 +26,6 @@ pub record StandsTidy (c : CoreProgram) (n : ℕ) (p : StreamPrefix) (s : StateT
 
 -- so does what it becomes by rewritings
 abbrev pub SimplerStaysTidy : Type 0
-SimplerStaysTidy = (c : CoreProgram) (n : ℕ) (p : StreamPrefix) (a b : StateTree) → All (IsTypedBody c.funs) c.funs → IsPrefix (input_type c) p → StandsTidy c n p a → SimplerBy (output_left c p) a b → StandsTidy c n p b
+SimplerStaysTidy =
+    (c : CoreProgram) (n : ℕ) (p : StreamPrefix) (a b : StateTree) → All (IsTypedBody c.funs) c.funs → IsPrefix (input_type c) p → StandsTidy c n p a
+    → SimplerBy (output_left c p) a b → StandsTidy c n p b

@@ -11,7 +11,8 @@ Keeps now name bytes = (files : List ℕ → List ℕ) → now ≡ Some files �
 -- where the old files are told, the new ones are told, and each name but this one stands for what it stood for
 abbrev pub ChangesOnly : Option (List ℕ → List ℕ) → Option (List ℕ → List ℕ) → List ℕ → Type 0
 ChangesOnly old new name =
-    (files : List ℕ → List ℕ) → old ≡ Some files → (later : List ℕ → List ℕ) × (new ≡ Some later) × ((other : List ℕ) → other ≢ name → later other ≡ files other)
+    (files : List ℕ → List ℕ) → old ≡ Some files → (later : List ℕ → List ℕ) × (new ≡ Some later)
+    × ((other : List ℕ) → other ≢ name → later other ≡ files other)
 
 -- this file has this name
 abbrev pub has_name : String Global × Vec ℕ Global → List ℕ → Bool

@@ -37,18 +37,24 @@ FirstHolds = (c : CoreProgram) (numbers : ℕ → Bound) → IsRunnable c → Ar
 
 -- after any more of the input d, what follows a state that stands for the program can hold no more than the state
 abbrev pub StepHolds : Type 0
-StepHolds = (c : CoreProgram) (numbers : ℕ → Bound) (n : ℕ) (p d : StreamPrefix) (s : StateTree) → IsRunnable c → AreEnough c numbers → IsPrefix (input_type c) p → IsPrefix (der p (input_type c)) d → StandsFor c n p s → rest_calls c p s d ≤ n
+StepHolds =
+    (c : CoreProgram) (numbers : ℕ → Bound) (n : ℕ) (p d : StreamPrefix) (s : StateTree) → IsRunnable c → AreEnough c numbers
+    → IsPrefix (input_type c) p → IsPrefix (der p (input_type c)) d → StandsFor c n p s → rest_calls c p s d ≤ n
     → bound_after c numbers (join p d) (next_state c p s d) ⊑ bound_after c numbers p s
 
 -- after one event more, at which it makes a million calls at most, what follows can hold no more
 abbrev pub EventHolds : Type 0
-EventHolds = (c : CoreProgram) (numbers : ℕ → Bound) (w : List StreamEvent) (x : StreamEvent) (s : StateTree) → IsRunnable c → AreEnough c numbers → IsWord (input_type c) w → Admits (after_word w (input_type c)) x → length w < 2 ^ 42
+EventHolds =
+    (c : CoreProgram) (numbers : ℕ → Bound) (w : List StreamEvent) (x : StreamEvent) (s : StateTree) → IsRunnable c → AreEnough c numbers
+    → IsWord (input_type c) w → Admits (after_word w (input_type c)) x → length w < 2 ^ 42
     → StandsFor c (depth_after (length w)) (input_of c w) s → calls_of_state c w s x ≤ 1000000
     → bound_after c numbers (input_of c (w ++ x ∷ [])) (state_after_event c w s x) ⊑ bound_after c numbers (input_of c w) s
 
 -- a typed and settled state with a bound of n at most, n below the limit, holds n events at most
 abbrev pub SettledHolds : Type 0
-SettledHolds = (funs : List CoreBody) (counts : ℕ → Bool) (numbers : ℕ → Bound) (c : Context) (s : StateTree) (r : StreamType) (n : ℕ) → HasStateType funs counts c s r → IsTrue (is_settled s r)
+SettledHolds =
+    (funs : List CoreBody) (counts : ℕ → Bool) (numbers : ℕ → Bound) (c : Context) (s : StateTree) (r : StreamType) (n : ℕ)
+    → HasStateType funs counts c s r → IsTrue (is_settled s r)
     → state_bound funs numbers s c ⊑ Some n → n < limit → events_held (without_marks s) ≤ n
 
 -- a machine stands for its program after a word, by a state with a bound of n at most
@@ -58,7 +64,8 @@ pub record IsWithin (m : MachineView) (word : List StreamEvent) (numbers : ℕ �
 
 -- such a machine holds n events at most, where n is below the limit
 abbrev pub MachineHolds : Type 0
-MachineHolds = (m : MachineView) (word : List StreamEvent) (numbers : ℕ → Bound) (n : ℕ) → IsWithin m word numbers n → n < limit → capped (events_held m.state) ≤ n
+MachineHolds =
+    (m : MachineView) (word : List StreamEvent) (numbers : ℕ → Bound) (n : ℕ) → IsWithin m word numbers n → n < limit → capped (events_held m.state) ≤ n
 
 -- where no number of a program's functions grows any more, no body passes its function's number
 abbrev pub NumbersAreEnough : Type 0

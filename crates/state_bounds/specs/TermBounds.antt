@@ -56,7 +56,8 @@ module _ (funs : ℕ → CoreBody) (counts : ℕ → Bool) (numbers : ℕ → Bo
         bound_of a (put y (cat_second (types z)) (put x (cat_first (types z)) types)) (put_before x y (place_like y z (place_like x z before)))
     bound_of (case_sum_term z t x a y b) types before =
         greater (case_room types before z (free_names (case_sum_term z t x a y b)))
-        (greater (bound_of a (put x (sum_left (types z)) types) (place_like x z before)) (bound_of b (put y (sum_right (types z)) types) (place_like y z before)))
+        (greater (bound_of a (put x (sum_left (types z)) types) (place_like x z before))
+        (bound_of b (put y (sum_right (types z)) types) (place_like y z before)))
     bound_of (case_star_term z t a y ys b) types before =
         greater (case_room types before z (free_names (case_star_term z t a y ys b)))
         (greater (bound_of a types before)

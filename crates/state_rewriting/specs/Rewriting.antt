@@ -29,15 +29,20 @@ module _ (names : List ℕ) (R : StreamType → StateTree → StateTree → Type
       in_first : {r : StreamType} {a b : StateTree} {l : LaterTree} → Replaced (cat_first r) a b → Replaced r (cat_state a l) (cat_state b l)
       in_bound : {r s : StreamType} {x : ℕ} {a b e : StateTree} → Replaced s a b → Replaced r (let_state x s a e) (let_state x s b e)
       in_let : {r s : StreamType} {x : ℕ} {a b e : StateTree} → holds x names ≡ false → Replaced r a b → Replaced r (let_state x s e a) (let_state x s e b)
-      in_let_par : {r : StreamType} {x y z : ℕ} {a b : StateTree} → holds x names ≡ false → holds y names ≡ false → holds z names ≡ false → Replaced r a b → Replaced r (let_par_state x y z a) (let_par_state x y z b)
-      in_let_cat : {r : StreamType} {x y z : ℕ} {a b : StateTree} → holds x names ≡ false → holds y names ≡ false → holds z names ≡ false → Replaced r a b → Replaced r (let_cat_state x y z a) (let_cat_state x y z b)
-      in_arguments : {r : StreamType} {args others : ArgumentTrees} {a : StateTree} → ReplacedArgument args others → Replaced r (frame_state args a) (frame_state others a)
+      in_let_par : {r : StreamType} {x y z : ℕ} {a b : StateTree} → holds x names ≡ false → holds y names ≡ false → holds z names ≡ false
+          → Replaced r a b → Replaced r (let_par_state x y z a) (let_par_state x y z b)
+      in_let_cat : {r : StreamType} {x y z : ℕ} {a b : StateTree} → holds x names ≡ false → holds y names ≡ false → holds z names ≡ false
+          → Replaced r a b → Replaced r (let_cat_state x y z a) (let_cat_state x y z b)
+      in_arguments : {r : StreamType} {args others : ArgumentTrees} {a : StateTree} → ReplacedArgument args others
+          → Replaced r (frame_state args a) (frame_state others a)
       in_body : {r : StreamType} {args : ArgumentTrees} {a b : StateTree} → names ≡ [] → Replaced r a b → Replaced r (frame_state args a) (frame_state args b)
 
     -- the same in one of the arguments
     pub data ReplacedArgument : ArgumentTrees → ArgumentTrees → Type 0 where
-      at_first : {x : ℕ} {t : StreamType} {a b : StateTree} {args : ArgumentTrees} → Replaced t a b → ReplacedArgument (argument_before x t a args) (argument_before x t b args)
-      at_other : {x : ℕ} {t : StreamType} {a : StateTree} {args others : ArgumentTrees} → ReplacedArgument args others → ReplacedArgument (argument_before x t a args) (argument_before x t a others)
+      at_first : {x : ℕ} {t : StreamType} {a b : StateTree} {args : ArgumentTrees} → Replaced t a b
+          → ReplacedArgument (argument_before x t a args) (argument_before x t b args)
+      at_other : {x : ℕ} {t : StreamType} {a : StateTree} {args others : ArgumentTrees} → ReplacedArgument args others
+          → ReplacedArgument (argument_before x t a args) (argument_before x t a others)
 
   -- the second state is the first after any number of such replacements, one after the other
   pub data ReplacedBy : StreamType → StateTree → StateTree → Type 0 where
@@ -106,19 +111,25 @@ pub data Rewritten : StreamType → StateTree → StateTree → Type 0 where
   -- a binding whose name isn't used
   unused : {r s : StreamType} {x : ℕ} {a b : StateTree} → holds x (free_in_state b) ≡ false → Rewritten r (let_state x s a b) b
   -- a destructuring neither of whose names is used, of a pair and of a sequence
-  unused_pair : {r : StreamType} {x y z : ℕ} {a : StateTree} → holds x (free_in_state a) ≡ false → holds y (free_in_state a) ≡ false → Rewritten r (let_par_state x y z a) a
-  unused_row : {r : StreamType} {x y z : ℕ} {a : StateTree} → holds x (free_in_state a) ≡ false → holds y (free_in_state a) ≡ false → Rewritten r (let_cat_state x y z a) a
+  unused_pair : {r : StreamType} {x y z : ℕ} {a : StateTree} → holds x (free_in_state a) ≡ false → holds y (free_in_state a) ≡ false
+      → Rewritten r (let_par_state x y z a) a
+  unused_row : {r : StreamType} {x y z : ℕ} {a : StateTree} → holds x (free_in_state a) ≡ false → holds y (free_in_state a) ≡ false
+      → Rewritten r (let_cat_state x y z a) a
   -- the arguments of a parameter that isn't used
-  unused_argument : {r : StreamType} {args : ArgumentTrees} {a : StateTree} (u : ℕ) → holds u (free_in_state a) ≡ false → Rewritten r (frame_state args a) (frame_state (without_argument u args) a)
+  unused_argument : {r : StreamType} {args : ArgumentTrees} {a : StateTree} (u : ℕ) → holds u (free_in_state a) ≡ false
+      → Rewritten r (frame_state args a) (frame_state (without_argument u args) a)
   -- y is bound to z: z is put in for y at one place
-  alias : {r s : StreamType} {y z : ℕ} {a b : StateTree} → Replaced (y ∷ z ∷ []) (IsAlias y z) r a b → Rewritten r (let_state y s (var_state z) a) (let_state y s (var_state z) b)
+  alias : {r s : StreamType} {y z : ℕ} {a b : StateTree} → Replaced (y ∷ z ∷ []) (IsAlias y z) r a b
+      → Rewritten r (let_state y s (var_state z) a) (let_state y s (var_state z) b)
   -- x and y are the parts of z: z is put in for the pair of them at one place
-  pair : {r : StreamType} {x y z : ℕ} {a b : StateTree} → x ≢ y → y ≢ z → Replaced (x ∷ y ∷ z ∷ []) (IsPair x y z) r a b → Rewritten r (let_par_state x y z a) (let_par_state x y z b)
+  pair : {r : StreamType} {x y z : ℕ} {a b : StateTree} → x ≢ y → y ≢ z → Replaced (x ∷ y ∷ z ∷ []) (IsPair x y z) r a b
+      → Rewritten r (let_par_state x y z a) (let_par_state x y z b)
   -- a binding whose name is all that follows
   renamed : {r s : StreamType} {x : ℕ} {a : StateTree} → Rewritten r (let_state x s a (var_state x)) a
   -- a call that is the whole body of another one: both become one. Its arguments are names or finished, and
   -- no argument outside that is neither is passed on twice, since it would then run twice
-  frames : {r : StreamType} {args inner : ArgumentTrees} {a : StateTree} → are_plain inner ≡ true → stand_once args (names_passed inner) ≡ true → Rewritten r (frame_state args (frame_state inner a)) (frame_state (composed args inner) a)
+  frames : {r : StreamType} {args inner : ArgumentTrees} {a : StateTree} → are_plain inner ≡ true → stand_once args (names_passed inner) ≡ true
+      → Rewritten r (frame_state args (frame_state inner a)) (frame_state (composed args inner) a)
 
 -- of a state with this type left, the second is the first with one of its parts rewritten
 abbrev pub Simpler : StreamType → StateTree → StateTree → Type 0

@@ -15,7 +15,8 @@ use Rattle.table_feed.specs.Mixing.{AreWords, ArePrefixes, pre_beside, beside, n
 
 -- a good table is a value of the past of its type
 abbrev pub TableIsValue : Type 0
-TableIsValue = (columns file : ℕ) (bytes : List ℕ) → 1 ≤ columns → table_fault columns file bytes ≡ None → HasType (past (row_type columns)) (table_value (table_of bytes))
+TableIsValue =
+    (columns file : ℕ) (bytes : List ℕ) → 1 ≤ columns → table_fault columns file bytes ≡ None → HasType (past (row_type columns)) (table_value (table_of bytes))
 
 -- in whatever order words are mixed, the mixed word is a word
 abbrev pub MixedIsWord : Type 0
@@ -48,7 +49,8 @@ AreRows columns rows = (1 ≤ columns) × All (λ row. (length row ≡ columns) 
 
 -- what is written of rows is a good table, where it isn't too long
 abbrev pub TextIsGood : Type 0
-TextIsGood = (columns file : ℕ) (rows : List (List ℤ)) → AreRows columns rows → length (rows_text rows) ≤ 1048576 → table_fault columns file (rows_text rows) ≡ None
+TextIsGood =
+    (columns file : ℕ) (rows : List (List ℤ)) → AreRows columns rows → length (rows_text rows) ≤ 1048576 → table_fault columns file (rows_text rows) ≡ None
 
 -- and it is read as these rows
 abbrev pub TextIsRead : Type 0

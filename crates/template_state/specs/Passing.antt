@@ -16,7 +16,9 @@ IsTakenFrom args u others = (x : ℕ) → (is_plain (argument_at args u) || not 
 
 -- the second arguments pass on just what the first do, once s was passed on
 abbrev pub ServesAfter : ArgumentTrees → StateTree → ArgumentTrees → Type 0
-ServesAfter args s others = (x : ℕ) (t : StreamType) (inner : ArgumentTrees) → passes_once args (names_passed (argument_before x t s inner)) ≡ true → (passes_once others (names_passed inner) ≡ true) × (composed others inner ≡ composed args inner)
+ServesAfter args s others =
+    (x : ℕ) (t : StreamType) (inner : ArgumentTrees) → passes_once args (names_passed (argument_before x t s inner)) ≡ true
+    → (passes_once others (names_passed inner) ≡ true) × (composed others inner ≡ composed args inner)
 
 -- the arguments of the parameters that are in the list
 abbrev pub only_used : List ℕ → ArgumentTrees → ArgumentTrees
