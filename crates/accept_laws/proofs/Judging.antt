@@ -22,8 +22,8 @@ use Rattle.delta_meaning.proofs.KeptTypes.{elaborated_has_types}
 use Rattle.text_laws.proofs.NamesOfTrees.{trees_are_named}
 use Rattle.accept_laws.proofs.NameCounts.{program_names, function_count}
 use Rattle.delta_meaning.proofs.Counts.{each_node_has_place}
-use Rattle.delta_end.specs.declared.refusal.Refusal.{Refusal}
-use Rattle.delta_end.specs.declared.refusal.RefusalName.TheVariants.{WideOutput}
+use Rattle.program_refusal.specs.declared.refusal.Refusal.{Refusal}
+use Rattle.program_refusal.specs.declared.refusal.RefusalName.TheVariants.{WideOutput}
 use Rattle.program_text.specs.ProgramText.{IsTextOf, IsRefusedFor}
 use Rattle.checked_program.specs.Naming.{refusal, refusal_of, name_of_rule}
 use Rattle.checked_program.specs.Acceptance.{IsAcceptedAs, IsRefusedAs, IsWritable, IsRefusedToWrite}

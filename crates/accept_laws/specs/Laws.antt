@@ -8,7 +8,7 @@ use Rattle.core_term.specs.Typing.{IsTypedCore}
 use Rattle.delta_print.specs.Canonical.{canonical_text}
 use Rattle.delta_meaning.specs.Elaborated.{elaborate}
 use Rattle.delta_elab.specs.Accepted.{IsAccepted}
-use Rattle.delta_end.specs.declared.refusal.Refusal.{Refusal}
+use Rattle.program_refusal.specs.declared.refusal.Refusal.{Refusal}
 use Rattle.program_text.specs.ProgramText.{IsTextOf}
 use Rattle.checked_program.specs.Acceptance.{IsAcceptedAs, IsRefusedAs, IsWritable, IsRefusedToWrite}
 use Rattle.accept_laws.specs.ReadAgain.{IsReadWell}

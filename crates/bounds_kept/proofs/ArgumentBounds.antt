@@ -1,18 +1,19 @@
 -- What arguments can hold where some are left out, and where those of two calls become one: an argument that may
 -- hold something is passed on once at most, so it counts once at most.
-use Rattle.std.proofs.Common.{◌≡◌, ◌∙◌, ℕ, Bool, true, false, true≢false, not, ◌&&◌, ◌||◌, ◌⊎◌, inl, inr, List, [], ◌∷◌, eqb, if◌then◌else◌, ap, refl, subst, sym, ⊎_elim, arith}
+use Rattle.std.proofs.Common.{◌≡◌, ◌∙◌, ℕ, Bool, true, false, true≢false, not, ◌||◌, ◌⊎◌, inl, inr, List, [], ◌∷◌, eqb, if◌then◌else◌, ap, refl, subst, sym, ⊎_elim, arith}
 use Rattle.std.proofs.lemmas.Bool.{eqb-true}
-use Rattle.std.specs.Prelude.{Some, None, is_some}
+use Rattle.std.specs.Prelude.{Some, None}
 use Rattle.bunch.specs.Names.{holds}
 use Rattle.core_term.specs.CoreTerm.{CoreBody}
 use Rattle.core_term.specs.FreeNames.{without}
-use Rattle.core_term.specs.Typing.{Context, AllBefore}
-use Rattle.core_term.proofs.Sides.{and_first, and_second, or_split, holds-head, eqb-same}
-use Rattle.delta_state.specs.StateTree.{StateTree, ArgumentTrees, sink, var_state, no_arguments, argument_before, argument_names, argument_at, free_in_state}
-use Rattle.delta_state.specs.StateTyping.{marks_of_arguments, context_of_arguments}
-use Rattle.state_rewriting.specs.Rewriting.{is_plain, are_plain, names_passed, at_most_once, stand_once, passed_on, composed, without_argument}
+use Rattle.core_term.specs.Typing.{Context}
+use Rattle.core_term.proofs.Sides.{and_first, and_second, or_split, eqb-same}
+use Rattle.delta_state.specs.StateTree.{StateTree, ArgumentTrees, sink, var_state, no_arguments, argument_before, argument_at, free_in_state}
+use Rattle.delta_state.specs.StateTyping.{context_of_arguments}
+use Rattle.state_rewriting.specs.Rewriting.{is_plain, are_plain, names_passed, at_most_once, stand_once, composed, without_argument}
 use Rattle.state_rewriting.proofs.OtherNames.{apart_from}
-use Rattle.state_rewriting.proofs.FittingParts.{row_at}
+use Rattle.state_rewriting.proofs.ArgumentsLeftOut.{names_without, marks_without, at_without}
+use Rattle.state_rewriting.proofs.FramesJoined.{composed_names, composed_marks, composed_at, plain_at, passed_before}
 use Rattle.state_bounds.specs.Bounds.{Bound, both, ◌⊑◌, total}
 use Rattle.state_bounds.specs.StateBounds.{state_bound, argument_bounds}
 use Rattle.state_bounds.proofs.BoundOrder.{at_most_same, at_most_next, both_at_most, nothing_at_most, beside_nothing, total_at_most}
@@ -20,78 +21,21 @@ use Rattle.state_bounds.proofs.StatesWithMoreFacts.{Roomy}
 use Rattle.bounds_kept.proofs.CappedBounds.{beside_right, total_capped, arguments_capped}
 use Rattle.bounds_kept.proofs.LowerParts.{roomy_body}
 
--- of a parameter both arguments have the same
-record SameOf (y : ℕ) (args others : ArgumentTrees) : Type 0 where
-  pub names : holds y (argument_names args) ≡ holds y (argument_names others)
-  pub marks : marks_of_arguments args y ≡ marks_of_arguments others y
-  pub at : argument_at args y ≡ argument_at others y
-
--- so it is of another one than u where the arguments of u are left out
-same_without : (u : ℕ) (args : ArgumentTrees) (y : ℕ) → eqb y u ≡ false → SameOf y args (without_argument u args)
-same_without u no_arguments y n = record { names = refl; marks = refl; at = refl }
-same_without u (argument_before x t s args) y n = go (eqb x u) refl (same_without u args y n)
-  where
-    go : (b : Bool) → eqb x u ≡ b → SameOf y args (without_argument u args) → SameOf y (argument_before x t s args) (if b then without_argument u args else argument_before x t s (without_argument u args))
-    go true k i =
-        let other : eqb y x ≡ false = ap (λ w. eqb y w) (eqb-true x u k) ∙ n in
-        record {
-          names = ap (λ o. o || holds y (argument_names args)) other ∙ i.names;
-          marks = ap (λ o. if o then Some t else marks_of_arguments args y) other ∙ i.marks;
-          at = ap (λ o. if o then s else argument_at args y) other ∙ i.at;
-        }
-    go false k i = record { names = ap (λ o. eqb y x || o) i.names; marks = ap (λ o. if eqb y x then Some t else o) i.marks; at = ap (λ o. if eqb y x then s else o) i.at }
-
--- and a body that doesn't use u has no fewer facts without them
+-- a body that doesn't use u has no fewer facts without them
 pub roomy_without : (u : ℕ) (args : ArgumentTrees) (c : Context) (xs : List ℕ) → holds u xs ≡ false → Roomy xs (context_of_arguments c args) (context_of_arguments c (without_argument u args))
 roomy_without u args c xs n =
-    roomy_body xs args (without_argument u args) c c (λ y m. (same y m).marks) (λ y m. (same y m).names)
-    (λ y z m o h v w i j. h v w (ap (λ s. holds v (free_in_state s)) (same y m).at ∙ i) (ap (λ s. holds w (free_in_state s)) (same z o).at ∙ j))
+    roomy_body xs args (without_argument u args) c c (λ y m. marks_without u args y (other y m)) (λ y m. names_without u args y (other y m))
+    (λ y z m o h v w i j. h v w (ap (λ s. holds v (free_in_state s)) (at_without u args y (other y m)) ∙ i) (ap (λ s. holds w (free_in_state s)) (at_without u args z (other z o)) ∙ j))
   where
-    same : (y : ℕ) → holds y xs ≡ true → SameOf y args (without_argument u args)
-    same y m = same_without u args y (apart_from u y xs n m)
-
--- of each parameter composed arguments have what is passed on to the inner ones
-record IsComposedOf (args inner : ArgumentTrees) (y : ℕ) : Type 0 where
-  pub names : holds y (argument_names (composed args inner)) ≡ holds y (argument_names inner)
-  pub marks : marks_of_arguments (composed args inner) y ≡ marks_of_arguments inner y
-  pub at : argument_at (composed args inner) y ≡ passed_on args (argument_at inner y)
-
-composed_of : (args inner : ArgumentTrees) (y : ℕ) → IsComposedOf args inner y
-composed_of args no_arguments y = record { names = refl; marks = refl; at = refl }
-composed_of args (argument_before x t s inner) y =
-    let i = composed_of args inner y in
-    record { names = ap (λ o. eqb y x || o) i.names; marks = ap (λ o. if eqb y x then Some t else o) i.marks; at = chosen (eqb y x) i.at }
-  where
-    chosen : (b : Bool) → argument_at (composed args inner) y ≡ passed_on args (argument_at inner y) → (if b then passed_on args s else argument_at (composed args inner) y) ≡ passed_on args (if b then s else argument_at inner y)
-    chosen true e = refl
-    chosen false e = e
-
--- where all arguments are names or finished, each is
-plain_at : (inner : ArgumentTrees) (u : ℕ) → are_plain inner ≡ true → is_plain (argument_at inner u) ≡ true
-plain_at no_arguments u p = refl
-plain_at (argument_before x t s inner) u p = go (eqb u x) (plain_at inner u (and_second (is_plain s) (are_plain inner) p))
-  where
-    go : (b : Bool) → is_plain (argument_at inner u) ≡ true → is_plain (if b then s else argument_at inner u) ≡ true
-    go true k = and_first (is_plain s) (are_plain inner) p
-    go false k = k
-
--- what stands before another thing in the outer body is passed on to what does so outside
-passed_before : (args : ArgumentTrees) (c : Context) (p q : StateTree) → is_plain p ≡ true → is_plain q ≡ true → AllBefore (context_of_arguments c args) (free_in_state p) (free_in_state q) → AllBefore c (free_in_state (passed_on args p)) (free_in_state (passed_on args q))
-passed_before args c (sink t) q m n h x y i j = absurd (true≢false (sym i))
-passed_before args c (var_state u) (sink t) m n h x y i j = absurd (true≢false (sym j))
-passed_before args c (var_state u) (var_state v) m n h x y i j =
-    let k = h u v (holds-head u []) (holds-head v []) in
-    let o = and_second (is_some (marks_of_arguments args u) && is_some (marks_of_arguments args v)) _ k in
-    row_at c (free_in_state (argument_at args u)) (free_in_state (argument_at args v)) (and_second (holds u (argument_names args) && holds v (argument_names args)) _ o) x y i j
-passed_before args c (var_state u) _ m n h x y i j = absurd (true≢false (sym n))
-passed_before args c _ q m n h x y i j = absurd (true≢false (sym m))
+    other : (y : ℕ) → holds y xs ≡ true → eqb y u ≡ false
+    other y m = apart_from u y xs n m
 
 -- so the inner body has no fewer facts in the one call
 pub roomy_composed : (args inner : ArgumentTrees) (c : Context) (xs : List ℕ) → are_plain inner ≡ true → Roomy xs (context_of_arguments (context_of_arguments c args) inner) (context_of_arguments c (composed args inner))
 roomy_composed args inner c xs p =
-    roomy_body xs inner (composed args inner) (context_of_arguments c args) c (λ u m. sym (composed_of args inner u).marks) (λ u m. sym (composed_of args inner u).names)
-    (λ u v m n h x y i j. passed_before args c (argument_at inner u) (argument_at inner v) (plain_at inner u p) (plain_at inner v p) h x y (sym (ap (λ s. holds x (free_in_state s)) (composed_of args inner u).at) ∙ i)
-    (sym (ap (λ s. holds y (free_in_state s)) (composed_of args inner v).at) ∙ j))
+    roomy_body xs inner (composed args inner) (context_of_arguments c args) c (λ u m. sym (ap (λ f. f u) (composed_marks args inner))) (λ u m. sym (ap (λ ns. holds u ns) (composed_names args inner)))
+    (λ u v m n h x y i j. passed_before args c (argument_at inner u) (argument_at inner v) (plain_at inner u p) (plain_at inner v p) h x y (sym (ap (λ s. holds x (free_in_state s)) (composed_at args inner u)) ∙ i)
+    (sym (ap (λ s. holds y (free_in_state s)) (composed_at args inner v)) ∙ j))
 
 -- two bounds beside a third one, in the other order
 both_swap : (a b k : Bound) → both a (both k b) ⊑ both k (both a b)

@@ -1,6 +1,5 @@
 -- The lemmas.
 pub mod CappedBounds
-pub mod NamesThatServe
 pub mod LowerParts
 pub mod NamesPutIn
 pub mod ArgumentBounds

@@ -18,7 +18,7 @@ use Rattle.state_bounds.specs.Bounds.{Bound, ◌⊑◌}
 use Rattle.state_bounds.specs.StateBounds.{code_bound, state_bound, argument_bounds}
 use Rattle.state_bounds.proofs.BoundOrder.{at_most_same, both_at_most, greater_at_most}
 use Rattle.state_bounds.proofs.StatesWithMoreFacts.{Roomy, state_at_most}
-use Rattle.bounds_kept.proofs.NamesThatServe.{AllServe, serve_let, serve_parts, serve_fact, serve_body, still_served, still_before, still_placed}
+use Rattle.state_rewriting.proofs.NamesThatServe.{AllServe, serve_let, serve_parts, serve_fact, serve_body, still_served, still_before, still_placed}
 
 -- a called body has the types of the names of the list, and no fewer facts between them, where other arguments
 -- have the same parameters among them, and stand before one another where the first did

@@ -19,13 +19,9 @@ use Rattle.delta_state.specs.MachineView.{input_of}
 use Rattle.state_steps.proofs.Seeing.{Sees}
 use Rattle.state_rewriting.specs.Rewriting.{Rewritten, finished, unused, unused_pair, unused_row, unused_argument, alias, pair, renamed, frames, Simpler, SimplerBy, as_it_is, one_more, composed, without_argument}
 use Rattle.state_rewriting.proofs.HiddenNames.{without_name, let_facts, without_parts, without_row}
-use Rattle.state_rewriting.proofs.FittingParts.{Fits, FitsLocally, fits}
-use Rattle.state_rewriting.proofs.BindingsLeftOut.{NoOther, finished_fits, unused_fits, unused_pair_fits, unused_row_fits, renamed_fits}
-use Rattle.state_rewriting.proofs.AliasPutIn.{alias_fits}
-use Rattle.state_rewriting.proofs.PairPutIn.{pair_fits}
-use Rattle.state_rewriting.proofs.ArgumentsLeftOut.{dropped_fits}
-use Rattle.state_rewriting.proofs.FramesJoined.{frames_fit}
-use Rattle.state_rewriting.proofs.SimplerStates.{simpler_stands_for}
+use Rattle.state_rewriting.proofs.FittingParts.{fits}
+use Rattle.state_rewriting.proofs.BindingsLeftOut.{NoOther}
+use Rattle.state_rewriting.proofs.SimplerStates.{rewritten_fits, rewritings_fit, simpler_stands_for}
 use Rattle.state_bounds.specs.Bounds.{Bound, ◌⊑◌}
 use Rattle.state_bounds.specs.StateBounds.{state_bound, argument_bounds}
 use Rattle.state_bounds.specs.Laws.{bound_after}
@@ -47,18 +43,6 @@ seen_is_roomy xs c e s h = record { types = λ x m. at x m (c.types x) refl (s.a
     at x m (Some t) k i = k ∙ sym (h.types x t m k)
 
 module _ (funs : List CoreBody) (counts : ℕ → Bool) where
-  -- what each rewriting puts in fits
-  rewriting_fits : (r : StreamType) (a b : StateTree) → Rewritten r a b → (c : Context) → HasStateType funs counts c a r → is_settled a r ≡ true → Fits funs counts NoOther c r a b
-  rewriting_fits r a b (finished n) c t i = finished_fits funs counts c r a n
-  rewriting_fits r a b (unused {s = s} {x = x} {a = q} n) c t i = unused_fits funs counts c r s x q b n t i
-  rewriting_fits r a b (unused_pair {x = x} {y = y} {z = z} n m) c t i = unused_pair_fits funs counts c r x y z b n m t i
-  rewriting_fits r a b (unused_row {x = x} {y = y} {z = z} n m) c t i = unused_row_fits funs counts c r x y z b n m t i
-  rewriting_fits r a b (unused_argument {args = args} {a = q} u n) c t i = dropped_fits funs counts c r args q u n t i
-  rewriting_fits r a b (alias {s = s} {y = y} {z = z} {a = p} {b = q} h) c t i = alias_fits funs counts y z c r s p q h t i
-  rewriting_fits r a b (pair {x = x} {y = y} {z = z} {a = p} {b = q} n m h) c t i = pair_fits funs counts x y z c r p q n m h t i
-  rewriting_fits r a b (renamed {s = s} {x = x}) c t i = renamed_fits funs counts c r s x b t i
-  rewriting_fits r a b (frames {args = args} {inner = inner} {a = q} p o) c t i = frames_fit funs counts c r args inner q p t i
-
   module _ (numbers : ℕ → Bound) where
     -- a state that is typed in a context can hold no more in one that has as much of its free names
     seen_at_most : (s : StateTree) (c e : Context) (r : StreamType) → HasStateType funs counts c s r → Sees (free_in_state s) c e → state_bound funs numbers s e ⊑ state_bound funs numbers s c
@@ -89,23 +73,11 @@ module _ (funs : List CoreBody) (counts : ℕ → Bool) where
     rewritings_lower : LowersLocally funs counts numbers NoOther [] Rewritten
     rewritings_lower = record {
       named = λ w v n. absurd n;
-      local = λ r a b h c k t i. record { free = (rewriting_fits r a b h c t i).free; bound = rewriting_holds r a b h c t i };
+      local = λ r a b h c k t i. record { free = (rewritten_fits funs counts r a b h c tt t i).free; bound = rewriting_holds r a b h c t i };
     }
 
 pub simpler_holds_no_more : SimplerHoldsNoMore
 simpler_holds_no_more funs counts numbers c r a b t i h = (lowers (rewritings_lower funs counts numbers) h c (λ w v n. absurd n) t i).bound
-
--- the rewritings fit locally, without names
-rewritings_fit : (funs : List CoreBody) (counts : ℕ → Bool) → FitsLocally funs counts [] Rewritten NoOther (λ c. Unit {0})
-rewritings_fit funs counts = record {
-  named = λ w v n. absurd n;
-  serves = λ c k w v n. absurd n;
-  known_let = λ c x s us k n. tt;
-  known_parts = λ c x y z s t k n m o. tt;
-  known_fact = λ c x y k n m. tt;
-  known_body = λ c args e k. tt;
-  local = λ r a b h c k t i. rewriting_fits funs counts r a b h c t i;
-}
 
 -- the type left is kept as a variable while the rewritings are gone through
 pub simpler_keeps_bound : SimplerKeepsBound

@@ -1,37 +1,26 @@
 -- Derived bodies and programs are typed.
-use Rattle.std.proofs.Common.{◌≡◌, ◌∙◌, ℕ, suc, zero, true, false, true≢false, List, [], ◌∷◌, ◌++◌, inl, inr, if◌then◌else◌, ap, refl, sym, length}
+use Rattle.std.proofs.Common.{◌≡◌, ◌∙◌, ℕ, true, false, true≢false, List, ◌++◌, inl, inr, if◌then◌else◌, ap, refl, sym, length}
 use Rattle.std.specs.Prelude.{Some, None, slice_index_or}
 use Rattle.std.specs.List.{All}
-use Rattle.std.proofs.lemmas.List.Elements.{All-nil, All-cons}
 use Rattle.stream_type.specs.StreamType.{StreamType}
-use Rattle.bunch.specs.Names.{holds, put}
+use Rattle.bunch.specs.Names.{put}
 use Rattle.bunch.specs.BunchTree.{BunchTree, empty, leaf, comma, semi, leaf_names, IsDistinct}
 use Rattle.core_term.specs.CoreTerm.{CoreBody, no_body, fun_at, past_names}
-use Rattle.core_term.specs.FreeNames.{bound_names, is_distinct, IsBoundOnce}
+use Rattle.core_term.specs.FreeNames.{bound_names, IsBoundOnce}
 use Rattle.core_term.specs.Environment.{untyped}
 use Rattle.core_term.specs.Agreement.{types_in}
 use Rattle.core_term.specs.Inert.{is_inert_fun}
 use Rattle.core_term.specs.Typing.{context_of, past_params, IsTypedBody}
 use Rattle.core_term.proofs.Sides.{by_left, by_right, put-same}
-use Rattle.core_term.proofs.BoundOnce.{distinct_left, distinct_right, distinct_apart}
-use Rattle.core_term.proofs.TypedRuns.{at_index}
+use Rattle.core_term.proofs.BoundOnce.{distinct_left, distinct_right, parts_apart, distinct_bunch}
+use Rattle.core_term.proofs.TypedRuns.{at_index, all_at}
 use Rattle.bunch_rules.specs.Derivation.{HasLeaf, eps_rule, IsDerivedBody}
 use Rattle.bunch_rules.specs.Laws.{Serves, AreDistinct, DerivedIsTyped, DerivedBodyIsTyped, DerivedProgramIsTyped}
-use Rattle.bunch_rules.proofs.Replacing.{leaf_is_name, unless_true}
+use Rattle.bunch_rules.proofs.Replacing.{leaf_is_name}
 use Rattle.bunch_rules.proofs.Derivations.{typed}
 
 pub derived_is_typed : DerivedIsTyped
 derived_is_typed funs counts known g e r c distinct i v d n = typed funs counts distinct i c v d n
-
-pub parts_apart : (xs ys : List ℕ) → is_distinct (xs ++ ys) ≡ true → (x : ℕ) → holds x ys ≡ true → holds x xs ≡ false
-parts_apart xs ys h x m = unless_true (holds x xs) (λ e. distinct_apart xs ys h x e m)
-
--- a bunch without a name twice is distinct
-distinct_bunch : (b : BunchTree) → is_distinct (leaf_names b) ≡ true → IsDistinct b
-distinct_bunch empty h = tt
-distinct_bunch (leaf x t) h = tt
-distinct_bunch (comma a b) h = (distinct_bunch a (distinct_left (leaf_names a) (leaf_names b) h), distinct_bunch b (distinct_right (leaf_names a) (leaf_names b) h), parts_apart (leaf_names a) (leaf_names b) h)
-distinct_bunch (semi a b) h = (distinct_bunch a (distinct_left (leaf_names a) (leaf_names b) h), distinct_bunch b (distinct_right (leaf_names a) (leaf_names b) h), parts_apart (leaf_names a) (leaf_names b) h)
 
 -- in a distinct bunch a leaf has the type of its name
 type_of_leaf : (g : BunchTree) → IsDistinct g → (x : ℕ) (t : StreamType) → HasLeaf g x t → types_in g x ≡ t
@@ -58,11 +47,6 @@ derived_body_is_typed funs texts b distinct o i =
     let once = distinct_right (past_names b) (leaf_names b.params ++ bound_names b.body) o.is_once in
     typed funs (is_inert_fun funs) distinct i (context_of b) (serves_params b (distinct_params texts b o)) (distinct_params texts b o)
     (record { once = distinct_right (leaf_names b.params) (bound_names b.body) once; new = parts_apart (leaf_names b.params) (bound_names b.body) once })
-
--- what is true at each place of a list is true of all of it
-all_at : {A : Type 0} (P : A → Type 0) (d : A) (xs : List A) → ((i : ℕ) → P (slice_index_or xs i d)) → All P xs
-all_at P d [] f = All-nil P
-all_at P d (x ∷ xs) f = All-cons P x xs (f zero) (all_at P d xs (λ i. f (suc i)))
 
 -- of two things that are true of all of a list
 all_of_both : {A : Type 0} (P Q R : A → Type 0) (d : A) (xs : List A) → ((a : A) → P a → Q a → R a) → P d → Q d → All P xs → All Q xs → All R xs

@@ -12,8 +12,8 @@ use Rattle.core_term.proofs.Unbroken.{typed_is_unbroken}
 use Rattle.delta_meaning.specs.Faults.{Fault}
 use Rattle.delta_meaning.specs.NodePlaces.{program_places}
 use Rattle.delta_meaning.specs.Elaborated.{elaborate}
-use Rattle.delta_end.specs.declared.refusal.Refusal.{Refusal}
-use Rattle.delta_end.specs.declared.refusal.RefusalName.TheVariants.{WideOutput}
+use Rattle.program_refusal.specs.declared.refusal.Refusal.{Refusal}
+use Rattle.program_refusal.specs.declared.refusal.RefusalName.TheVariants.{WideOutput}
 use Rattle.program_text.specs.ProgramText.{IsTextOf, IsRefusedFor}
 use Rattle.program_text.proofs.OneAnswer.{program_is_one, programs_are_not_refused}
 use Rattle.program_text.proofs.OneAnswer.{refusal_is_one as text_refusal_is_one}

@@ -10,8 +10,8 @@ use Rattle.delta_check.specs.Faults.{cause_of}
 use Rattle.delta_elab.specs.Accepted.{IsUntyped}
 use Rattle.delta_meaning.specs.Faults.{Fault}
 use Rattle.delta_meaning.specs.Elaborated.{elaborate}
-use Rattle.delta_end.specs.declared.refusal.Refusal.{Refusal}
-use Rattle.delta_end.specs.declared.refusal.RefusalName.{RefusalName}
+use Rattle.program_refusal.specs.declared.refusal.Refusal.{Refusal}
+use Rattle.program_refusal.specs.declared.refusal.RefusalName.{RefusalName}
 use Rattle.program_text.specs.ProgramText.{IsTextOf}
 use Rattle.checked_program.specs.Naming.{refusal, refusal_of, name_of_rule}
 use Rattle.checked_program.specs.Acceptance.{IsMisnamed, IsMistyped}

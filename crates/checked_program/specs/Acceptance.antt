@@ -11,8 +11,8 @@ use Rattle.delta_meaning.specs.Faults.{Fault}
 use Rattle.delta_meaning.specs.NodePlaces.{program_places}
 use Rattle.delta_meaning.specs.Elaborated.{elaborate}
 use Rattle.delta_elab.specs.Accepted.{IsAccepted}
-use Rattle.delta_end.specs.declared.refusal.Refusal.{Refusal}
-use Rattle.delta_end.specs.declared.refusal.RefusalName.TheVariants.{WideOutput}
+use Rattle.program_refusal.specs.declared.refusal.Refusal.{Refusal}
+use Rattle.program_refusal.specs.declared.refusal.RefusalName.TheVariants.{WideOutput}
 use Rattle.program_text.specs.declared.fault.TextFault.{TextFault}
 use Rattle.program_text.specs.declared.fault.TextFault.TheVariants.{Memory, Refused}
 use Rattle.program_text.specs.ProgramText.{IsTextOf, IsRefusedFor}

@@ -2,9 +2,9 @@
 use Rattle.std.specs.Prelude.{ℕ}
 use Rattle.core_term.specs.TypeFaults.{Cause, unbound_name, other_type, out_of_order, jumpy, wait_null, other_arity, history_fault, not_stream}
 use Rattle.delta_meaning.specs.Faults.{Fault, unbound, no_function, no_type, too_tall, too_wide}
-use Rattle.delta_end.specs.declared.refusal.Refusal.{Refusal}
-use Rattle.delta_end.specs.declared.refusal.RefusalName.{RefusalName}
-use Rattle.delta_end.specs.declared.refusal.RefusalName.TheVariants.{Unbound, NoFunction, NoType, TooTall, TooWide, Mismatch, OutOfOrder, Jumpy, WaitNull, Arity, History, NotStream}
+use Rattle.program_refusal.specs.declared.refusal.Refusal.{Refusal}
+use Rattle.program_refusal.specs.declared.refusal.RefusalName.{RefusalName}
+use Rattle.program_refusal.specs.declared.refusal.RefusalName.TheVariants.{Unbound, NoFunction, NoType, TooTall, TooWide, Mismatch, OutOfOrder, Jumpy, WaitNull, Arity, History, NotStream}
 
 -- this name, at this place
 abbrev pub refusal : RefusalName → ℕ → Refusal

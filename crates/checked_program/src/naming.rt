@@ -7,7 +7,7 @@ ghost use Rattle.checked_program.specs.Naming.{refusal_of as name_of_fault, name
 
 use delta_check::TypeCause;
 use delta_elab::ElabFault;
-use delta_end::{Refusal, RefusalName};
+use program_refusal::{Refusal, RefusalName};
 
 // This name, at this place.
 fn refusal(name: RefusalName, at: u32) -> Option<Refusal>

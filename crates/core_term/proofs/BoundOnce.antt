@@ -5,7 +5,7 @@ use Rattle.std.proofs.lemmas.Bool.{eqb-true}
 use Rattle.std.specs.Prelude.{is_some, Some, None}
 use Rattle.stream_type.specs.StreamType.{StreamType}
 use Rattle.bunch.specs.Names.{holds}
-use Rattle.bunch.specs.BunchTree.{leaf_names, stands_before}
+use Rattle.bunch.specs.BunchTree.{BunchTree, empty, leaf, comma, semi, leaf_names, IsDistinct, stands_before}
 use Rattle.bunch.specs.Facts.{Facts}
 use Rattle.core_term.specs.CoreTerm.{CoreTerm, CoreTerms, CoreBody, CoreProgram, past_names, fun_at, no_body}
 use Rattle.core_term.specs.FreeNames.{without, free_names, free_in_terms, bound_in_exprs, bound_names, bound_in_terms, is_distinct, IsBoundOnce, IsCore}
@@ -58,6 +58,21 @@ distinct_apart (z ∷ zs) ys d x m n = go (distinct_apart zs ys (distinct_tail z
     go : (holds x zs ≡ true → holds x ys ≡ true → ⊥) → (c : Bool) → eqb x z ≡ c → (c || holds x zs) ≡ true → ⊥
     go f true e k = not_again z (zs ++ ys) d (holds-right z zs ys (subst (λ w. holds w ys ≡ true) (eqb-true x z e) n))
     go f false e k = f k n
+
+-- of two lists without a name twice each name of the second isn't in the first
+pub parts_apart : (xs ys : List ℕ) → is_distinct (xs ++ ys) ≡ true → (x : ℕ) → holds x ys ≡ true → holds x xs ≡ false
+parts_apart xs ys h x m = go (holds x xs) refl
+  where
+    go : (c : Bool) → holds x xs ≡ c → c ≡ false
+    go true e = absurd (distinct_apart xs ys h x e m)
+    go false e = refl
+
+-- so a bunch without a name twice is distinct
+pub distinct_bunch : (b : BunchTree) → is_distinct (leaf_names b) ≡ true → IsDistinct b
+distinct_bunch empty h = tt
+distinct_bunch (leaf x t) h = tt
+distinct_bunch (comma a b) h = (distinct_bunch a (distinct_left (leaf_names a) (leaf_names b) h), distinct_bunch b (distinct_right (leaf_names a) (leaf_names b) h), parts_apart (leaf_names a) (leaf_names b) h)
+distinct_bunch (semi a b) h = (distinct_bunch a (distinct_left (leaf_names a) (leaf_names b) h), distinct_bunch b (distinct_right (leaf_names a) (leaf_names b) h), parts_apart (leaf_names a) (leaf_names b) h)
 
 once_left : (f g b c : List ℕ) → Once (f ++ g) (b ++ c) → Once f b
 once_left f g b c h = record { distinct = distinct_left b c h.distinct; apart = λ x m n. h.apart x (holds-left x f g m) (holds-left x b c n) }

@@ -16,6 +16,10 @@ pub mod Without
 pub mod FreeRuns
 pub mod TypedTerms
 pub mod Parameters
+pub mod ParamTypes
+pub mod StarForms
+pub mod RunsInTurn
+pub mod ValueEntries
 pub mod GrowingRuns
 pub mod Monotone
 pub mod TypedRuns

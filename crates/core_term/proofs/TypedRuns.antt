@@ -3,7 +3,7 @@ use Rattle.std.proofs.Common.{◌≡◌, ◌∙◌, ℕ, zero, suc, Bool, true, 
 use Rattle.std.specs.Prelude.{Option, Some, None, is_some, unwrap_or, slice_index_or, ◌||◌, ⊤}
 use Rattle.std.proofs.lemmas.Bool.{eqb-true}
 use Rattle.std.specs.List.{All}
-use Rattle.std.proofs.lemmas.List.Elements.{All-head, All-tail}
+use Rattle.std.proofs.lemmas.List.Elements.{All-nil, All-cons, All-head, All-tail}
 use Rattle.stream_type.specs.StreamType.{StreamType, eps, par, cat, sum, star}
 use Rattle.stream_prefix.specs.StreamPrefix.{StreamPrefix, eps_emp, IsPrefix, IsPart}
 use Rattle.stream_prefix.proofs.Derivations.{Derives, derives, is_prefix, eps_has_emp}
@@ -33,10 +33,12 @@ use Rattle.core_term.proofs.Splits.{split_is_typed, split_keeps_parts}
 pub record AreStreams (c : Context) (xs : List ℕ) : Type 0 where
   pub at : (x : ℕ) → holds x xs ≡ true → is_some (c.types x) ≡ true
 
-streams_both : (c : Context) (xs ys : List ℕ) → AreStreams c xs → AreStreams c ys → AreStreams c (xs ++ ys)
+-- two lists of stream names in a row are one
+pub streams_both : (c : Context) (xs ys : List ℕ) → AreStreams c xs → AreStreams c ys → AreStreams c (xs ++ ys)
 streams_both c xs ys h k = record { at = λ x m. ⊎_elim (λ l. h.at x l) (λ r. k.at x r) (holds-split x xs ys m) }
 
-streams_more : (c : Context) (z : ℕ) (s : StreamType) (xs : List ℕ) → c.types z ≡ Some s → AreStreams c xs → AreStreams c (z ∷ xs)
+-- and so is a list with a stream name in front
+pub streams_more : (c : Context) (z : ℕ) (s : StreamType) (xs : List ℕ) → c.types z ≡ Some s → AreStreams c xs → AreStreams c (z ∷ xs)
 streams_more c z s xs e h = record { at = λ x m. go x (eqb x z) refl m }
   where
     go : (x : ℕ) (b : Bool) → eqb x z ≡ b → (b || holds x xs) ≡ true → is_some (c.types x) ≡ true
@@ -44,7 +46,7 @@ streams_more c z s xs e h = record { at = λ x m. go x (eqb x z) refl m }
     go x false k m = h.at x m
 
 -- what is free under a new name is so outside, but for the name
-streams_without : (c : Context) (x : ℕ) (s : StreamType) (o : Facts) (xs : List ℕ) → AreStreams (with_name x s o c) xs → AreStreams c (without x xs)
+pub streams_without : (c : Context) (x : ℕ) (s : StreamType) (o : Facts) (xs : List ℕ) → AreStreams (with_name x s o c) xs → AreStreams c (without x xs)
 streams_without c x s o xs h = record { at = λ y m. go y (eqb y x) (differs-kept y x xs m) (h.at y (holds-kept y x xs m)) }
   where
     go : (y : ℕ) (b : Bool) → b ≡ false → is_some (if b then Some s else c.types y) ≡ true → is_some (c.types y) ≡ true
@@ -152,6 +154,11 @@ pub at_index : {A : Type 0} (P : A → Type 0) (d : A) (xs : List A) → All P x
 at_index P d [] h k i = k
 at_index P d (x ∷ xs) h k zero = All-head P x xs h
 at_index P d (x ∷ xs) h k (suc i) = at_index P d xs (All-tail P x xs h) k i
+
+-- what is true at each place of a list is true of all of it
+pub all_at : {A : Type 0} (P : A → Type 0) (d : A) (xs : List A) → ((i : ℕ) → P (slice_index_or xs i d)) → All P xs
+all_at P d [] f = All-nil P
+all_at P d (x ∷ xs) f = All-cons P x xs (f zero) (all_at P d xs (λ i. f (suc i)))
 
 -- the context of a body, over all names
 pub extends_body : (b : CoreBody) → Extends (context_of b) (types_in b.params) (past_params b.past)

@@ -38,13 +38,14 @@ use Rattle.core_term.proofs.Splits.{split_of_whole}
 pub record WholeOn (xs : List ℕ) (d : Environment) : Type 0 where
   pub at : IsWholeOn xs d
 
-whole_left : (xs ys : List ℕ) (d : Environment) → WholeOn (xs ++ ys) d → WholeOn xs d
+-- so are those of each part of the list
+pub whole_left : (xs ys : List ℕ) (d : Environment) → WholeOn (xs ++ ys) d → WholeOn xs d
 whole_left xs ys d h = record { at = λ x m. h.at x (holds-left x xs ys m) }
 
-whole_right : (xs ys : List ℕ) (d : Environment) → WholeOn (xs ++ ys) d → WholeOn ys d
+pub whole_right : (xs ys : List ℕ) (d : Environment) → WholeOn (xs ++ ys) d → WholeOn ys d
 whole_right xs ys d h = record { at = λ x m. h.at x (holds-right x xs ys m) }
 
-whole_tail : (z : ℕ) (xs : List ℕ) (d : Environment) → WholeOn (z ∷ xs) d → WholeOn xs d
+pub whole_tail : (z : ℕ) (xs : List ℕ) (d : Environment) → WholeOn (z ∷ xs) d → WholeOn xs d
 whole_tail z xs d h = record { at = λ x m. h.at x (holds-tail x z xs m) }
 
 pub whole_put : (x : ℕ) (p : StreamPrefix) (d : Environment) (xs : List ℕ) → IsTrue (is_maximal p) → WholeOn (without x xs) d → WholeOn xs (put x p d)

@@ -91,51 +91,6 @@ abbrev mutual
   bound_in_terms no_terms = []
   bound_in_terms (term_before e es) = bound_names e ++ bound_in_terms es
 
--- the names that stand in a historical expression, bound or used
-abbrev pub names_in_expr : HistExpr → List ℕ
-names_in_expr (variable x) = x ∷ []
-names_in_expr (literal n) = []
-names_in_expr unit_expr = []
-names_in_expr (reckoned o a b) = names_in_expr a ++ names_in_expr b
-names_in_expr (pair_expr a b) = names_in_expr a ++ names_in_expr b
-names_in_expr (first_expr a) = names_in_expr a
-names_in_expr (second_expr a) = names_in_expr a
-names_in_expr (left_expr a) = names_in_expr a
-names_in_expr (right_expr a) = names_in_expr a
-names_in_expr (choice a x b y c) = names_in_expr a ++ ((x ∷ names_in_expr b) ++ (y ∷ names_in_expr c))
-names_in_expr nil_expr = []
-names_in_expr (cons_expr a b) = names_in_expr a ++ names_in_expr b
-names_in_expr (fold_expr a s x y b) = names_in_expr a ++ (names_in_expr s ++ (x ∷ (y ∷ names_in_expr b)))
-
-abbrev pub names_in_exprs : List HistExpr → List ℕ
-names_in_exprs [] = []
-names_in_exprs (m ∷ ms) = names_in_expr m ++ names_in_exprs ms
-
-abbrev mutual
-  -- the names that stand in a term, bound or used
-  pub names_in : CoreTerm → List ℕ
-  names_in (var_term x) = x ∷ []
-  names_in eps_term = []
-  names_in unit_term = []
-  names_in nil_term = []
-  names_in (past_term m) = names_in_expr m
-  names_in (par_term a b) = names_in a ++ names_in b
-  names_in (cat_term a b) = names_in a ++ names_in b
-  names_in (cons_term a b) = names_in a ++ names_in b
-  names_in (inl_term a) = names_in a
-  names_in (inr_term a) = names_in a
-  names_in (let_term x s a b) = x ∷ (names_in a ++ names_in b)
-  names_in (let_par_term x y z a) = x ∷ (y ∷ (z ∷ names_in a))
-  names_in (let_cat_term x y z a) = x ∷ (y ∷ (z ∷ names_in a))
-  names_in (case_sum_term z t x a y b) = z ∷ ((x ∷ names_in a) ++ (y ∷ names_in b))
-  names_in (case_star_term z t a y ys b) = z ∷ (names_in a ++ (y ∷ (ys ∷ names_in b)))
-  names_in (wait_term x t a) = x ∷ names_in a
-  names_in (call_term f ms es) = names_in_exprs ms ++ names_in_terms es
-
-  pub names_in_terms : CoreTerms → List ℕ
-  names_in_terms no_terms = []
-  names_in_terms (term_before e es) = names_in e ++ names_in_terms es
-
 -- the names that a body binds: its parameters of both kinds, and those inside
 abbrev pub names_bound_by : CoreBody → List ℕ
 names_bound_by b = past_names b ++ (leaf_names b.params ++ bound_names b.body)
@@ -154,19 +109,6 @@ nodes_of_bodies (b ∷ bs) = node_count b.body + nodes_of_bodies bs
 pub record IsBoundOnce (texts : ℕ) (b : CoreBody) : Type 0 where
   pub is_once : IsTrue (is_distinct (names_bound_by b))
   pub has_text : (x : ℕ) → holds x (names_bound_by b) ≡ true → x < texts
-
--- the names that stand in a body, its parameters too
-abbrev pub names_of_body : CoreBody → List ℕ
-names_of_body b = past_names b ++ (leaf_names b.params ++ names_in b.body)
-
--- each name that stands in a body, bound or only used, has a text
-abbrev pub AreNamed : ℕ → CoreBody → Type 0
-AreNamed texts b = (x : ℕ) → holds x (names_of_body b) ≡ true → x < texts
-
--- the same of every body of a program
-pub record HasTexts (c : CoreProgram) : Type 0 where
-  pub funs_named : All (AreNamed (length c.texts)) c.funs
-  pub main_named : AreNamed (length c.texts) c.main
 
 -- what each program keeps: every body binds each name at most once, each bound name has a text, the
 -- main program has no historical parameters, and there are fewer than 2^32 nodes

@@ -6,6 +6,7 @@ pub mod Environment
 pub mod Agreement
 pub mod Split
 pub mod Parts
+pub mod Params
 pub mod Run
 pub mod Meaning
 pub mod Level

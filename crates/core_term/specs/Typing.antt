@@ -13,7 +13,7 @@ use Rattle.stream_type.specs.StreamType.{StreamType, eps, one, cat, par, sum, st
 use Rattle.bunch.specs.Names.{put, holds}
 use Rattle.bunch.specs.BunchTree.{leaf_names, stands_before}
 use Rattle.bunch.specs.Facts.{Facts, place_like, place_let, put_before}
-use Rattle.hist_value.specs.HistType.{HistType, unit_type, past}
+use Rattle.hist_value.specs.HistType.{HistType, past}
 use Rattle.hist_value.specs.HistExpr.{HistExpr}
 use Rattle.hist_value.specs.Typing.{Gives}
 use Rattle.core_term.specs.CoreTerm.{CoreTerm, CoreTerms, CoreBody, CoreProgram, var_term, eps_term, unit_term, nil_term, past_term, par_term, cat_term, cons_term, inl_term, inr_term, let_term, let_par_term, let_cat_term, case_sum_term, case_star_term, wait_term, call_term, no_terms, term_before, leaf_types, past_types, fun_at, is_there}
@@ -37,10 +37,6 @@ type_at c x = unwrap_or (c.types x) eps
 -- the types of all names, as the meaning takes them
 abbrev pub types_of : Context → NameTypes
 types_of c x = type_at c x
-
--- the types of all historical names; any other name counts as of the type of the unit value
-abbrev pub pasts_of : Context → ℕ → HistType
-pasts_of c x = unwrap_or (c.past x) unit_type
 
 -- whether x and y are stream variables and x stands before y
 abbrev pub is_before : Context → ℕ → ℕ → Bool

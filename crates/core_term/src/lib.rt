@@ -6,8 +6,11 @@ mod checked;
 mod copying;
 pub mod laws;
 mod names;
+pub mod params;
+pub mod parts;
 mod program;
 mod reading;
+pub mod stars;
 mod term;
 
 pub use checked::Checked;

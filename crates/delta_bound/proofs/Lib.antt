@@ -1,6 +1,4 @@
 -- The lemmas.
-pub mod Known
-pub mod ParamTypes
 pub mod Totals
 pub mod ListPlaces
 pub mod Calls

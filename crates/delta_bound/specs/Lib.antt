@@ -1,5 +1,4 @@
 -- What the contracts cite.
-pub mod Scopes
 pub mod BoundIn
 pub mod Unsized
 pub mod Refusals

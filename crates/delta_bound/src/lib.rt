@@ -3,14 +3,12 @@
 
 mod bounding;
 mod differing;
-mod forms;
 pub mod laws;
 mod programs;
 mod reach;
 mod refusal;
 mod rooms;
 mod rounds;
-mod scope;
 mod searching;
 mod sizes;
 mod terms;

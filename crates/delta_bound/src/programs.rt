@@ -8,9 +8,9 @@ ghost use Rattle.state_bounds.specs.ProgramBound.{reached_marks};
 ghost use Rattle.delta_bound.specs.Unsized.{told, unsized_in, unsized_from, program_unsized};
 
 use crate::reach::marked;
-use crate::scope::Scope;
 use crate::searching::{Unsized, first_unsized};
 use core_term::{Body, Core};
+use delta_check::Scope;
 use std::alloc::Global;
 use stream_type::Memory;
 

@@ -9,13 +9,13 @@ ghost use Rattle.core_term.specs.Typing.{type_at, types_of};
 ghost use Rattle.state_bounds.specs.Bounds.{total};
 ghost use Rattle.state_bounds.specs.TermBounds.{room_of, case_room, wait_room};
 ghost use Rattle.state_bounds.specs.ProgramBound.{first_large};
-ghost use Rattle.delta_bound.specs.Scopes.{context_in};
+ghost use Rattle.delta_check.specs.Scopes.{context_in};
 ghost use Rattle.delta_bound.specs.Unsized.{case_unsized, wait_unsized};
 
-use crate::scope::{Scope, before, stream_type};
 use crate::sizes::{both, size};
 use bunch::Name;
 use core_term::{Node, free};
+use delta_check::{Scope, before, stream_type};
 use std::alloc::Global;
 use stream_type::{Memory, Ty};
 

@@ -7,15 +7,15 @@ ghost use Rattle.core_term.specs.FreeNames.{free_names};
 ghost use Rattle.core_term.specs.TypeFaults.{first_some};
 ghost use Rattle.core_term.specs.Typing.{with_let};
 ghost use Rattle.delta_check.specs.Counting.{counts_in};
-ghost use Rattle.delta_bound.specs.Scopes.{context_in};
+ghost use Rattle.delta_check.specs.Scopes.{context_in};
 ghost use Rattle.delta_bound.specs.Unsized.{placed, told, case_unsized, wait_unsized, unsized_of, unsized_among};
 
-use crate::forms::{cases, items, sides, steps};
 use crate::rooms::{first_of_case, first_of_wait, type_or};
-use crate::scope::Scope;
 use crate::terms::let_placed;
 use bunch::Name;
+use core_term::parts::{cat_types, par_types, star_types, sum_types};
 use core_term::{Core, Node, Term};
+use delta_check::Scope;
 use std::alloc::Global;
 use stream_type::{Memory, Ty};
 
@@ -50,26 +50,26 @@ pub fn first_unsized<'a>(
         Term::Inl(a) | Term::Inr(a) => first_unsized(alloc, a, scope, c, marks),
         Term::Let(x, s, a, b) => of_let(alloc, *x, s, a, b, scope, c, marks),
         Term::LetPar(x, y, z, a) => {
-            let (s, t) = sides(type_or(&*scope, *z, &Ty::Eps), &Ty::Eps);
+            let (s, t) = par_types(type_or(&*scope, *z, &Ty::Eps), &Ty::Eps);
             let left = Scope::Like(*x, s, *z, &*scope);
             first_unsized(alloc, a, &Scope::Like(*y, t, *z, &left), c, marks)
         }
         Term::LetCat(x, y, z, a) => {
-            let (s, t) = steps(type_or(&*scope, *z, &Ty::Eps), &Ty::Eps);
+            let (s, t) = cat_types(type_or(&*scope, *z, &Ty::Eps), &Ty::Eps);
             let first = Scope::Like(*x, s, *z, &*scope);
             let pair = Scope::Like(*y, t, *z, &first);
             first_unsized(alloc, a, &Scope::Fact(*x, *y, &pair), c, marks)
         }
         Term::CaseSum(z, _, x, a, y, b) => {
             let own = of_case(alloc, n, *z, &*scope)?;
-            let (s, t) = cases(type_or(&*scope, *z, &Ty::Eps), &Ty::Eps);
+            let (s, t) = sum_types(type_or(&*scope, *z, &Ty::Eps), &Ty::Eps);
             let left = Scope::Like(*x, s, *z, &*scope);
             let right = Scope::Like(*y, t, *z, &*scope);
             of_two(alloc, own, a, &left, b, &right, c, marks)
         }
         Term::CaseStar(z, _, a, y, ys, b) => {
             let own = of_case(alloc, n, *z, &*scope)?;
-            let (item, rest) = items(type_or(&*scope, *z, &Ty::Eps), &Ty::Eps);
+            let (item, rest) = star_types(type_or(&*scope, *z, &Ty::Eps), &Ty::Eps);
             let front = Scope::Like(*y, item, *z, &*scope);
             let pair = Scope::Like(*ys, rest, *z, &front);
             let ordered = Scope::Fact(*y, *ys, &pair);

@@ -7,14 +7,13 @@ ghost use Rattle.core_term.specs.Typing.{with_name, with_let};
 ghost use Rattle.delta_check.specs.Counting.{counts_in};
 ghost use Rattle.state_bounds.specs.ProgramBound.{number_at};
 ghost use Rattle.delta_bound.specs.BoundIn.{bound_in, bounds_in};
-ghost use Rattle.delta_bound.specs.Scopes.{context_in, place_known};
+ghost use Rattle.delta_check.specs.Scopes.{context_in, place_known};
 
-use crate::forms::{cases, items, sides, steps};
 use crate::rooms::{room_of_case, room_of_wait, type_or};
-use crate::scope::{Placed, Scope, place_of_let};
 use crate::sizes::{both, greater};
+use core_term::parts::{cat_types, par_types, star_types, sum_types};
 use core_term::{Core, Node, Term, free};
-use delta_check::inert;
+use delta_check::{Placed, Scope, inert, place_of_let};
 use std::alloc::Global;
 use stream_type::{Memory, Ty};
 
@@ -53,19 +52,19 @@ pub fn term_bound<'a>(
             Ok(both(first, second))
         }
         Term::LetPar(x, y, z, a) => {
-            let (s, t) = sides(type_or(&*scope, *z, &Ty::Eps), &Ty::Eps);
+            let (s, t) = par_types(type_or(&*scope, *z, &Ty::Eps), &Ty::Eps);
             let left = Scope::Like(*x, s, *z, &*scope);
             term_bound(alloc, a, &Scope::Like(*y, t, *z, &left), c, marks, numbers)
         }
         Term::LetCat(x, y, z, a) => {
-            let (s, t) = steps(type_or(&*scope, *z, &Ty::Eps), &Ty::Eps);
+            let (s, t) = cat_types(type_or(&*scope, *z, &Ty::Eps), &Ty::Eps);
             let first = Scope::Like(*x, s, *z, &*scope);
             let pair = Scope::Like(*y, t, *z, &first);
             term_bound(alloc, a, &Scope::Fact(*x, *y, &pair), c, marks, numbers)
         }
         Term::CaseSum(z, _, x, a, y, b) => {
             let room = room_of_case(alloc, n, *z, scope)?;
-            let (s, t) = cases(type_or(&*scope, *z, &Ty::Eps), &Ty::Eps);
+            let (s, t) = sum_types(type_or(&*scope, *z, &Ty::Eps), &Ty::Eps);
             let left = Scope::Like(*x, s, *z, &*scope);
             let first = term_bound(alloc, a, &left, c, marks, numbers)?;
             let right = Scope::Like(*y, t, *z, &*scope);
@@ -75,7 +74,7 @@ pub fn term_bound<'a>(
         Term::CaseStar(z, _, a, y, ys, b) => {
             let room = room_of_case(alloc, n, *z, scope)?;
             let first = term_bound(alloc, a, scope, c, marks, numbers)?;
-            let (item, rest) = items(type_or(&*scope, *z, &Ty::Eps), &Ty::Eps);
+            let (item, rest) = star_types(type_or(&*scope, *z, &Ty::Eps), &Ty::Eps);
             let front = Scope::Like(*y, item, *z, &*scope);
             let pair = Scope::Like(*ys, rest, *z, &front);
             let second = term_bound(alloc, b, &Scope::Fact(*y, *ys, &pair), c, marks, numbers)?;

@@ -11,7 +11,7 @@ use Rattle.core_term.specs.Agreement.{types_in}
 use Rattle.core_term.specs.CoreTerm.{no_terms, eps_term, term_of, terms_from}
 use Rattle.core_term.specs.Typing.{Context, argument_of}
 use Rattle.core_term.specs.TypeFaults.{first_pair}
-use Rattle.delta_check.specs.Params.{param_type}
+use Rattle.core_term.specs.Params.{param_type}
 
 -- no argument stands at a name where there is none
 pub argument_of-none : (names : List ℕ) (u : ℕ) → argument_of names no_terms u ≡ eps_term

@@ -1,6 +1,5 @@
 -- The lemmas.
 pub mod Places
-pub mod ParamTypes
 pub mod Rounds
 pub mod Entries
 pub mod Once

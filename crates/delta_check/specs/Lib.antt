@@ -1,6 +1,5 @@
 -- What the contracts cite.
 pub mod Counting
-pub mod Params
 pub mod Passing
 pub mod Refused
 pub mod Faults

@@ -15,13 +15,13 @@ ghost use Rattle.delta_check.specs.Faults.{TellsFirst, TellsPlace};
 ghost use Rattle.delta_check.specs.Scopes.{context_in, place_known};
 
 use crate::fault::TypeFault;
-use crate::forms::{cases, items, sides, steps};
 use crate::inertness::{inert, inert_funs};
 use crate::input_type::input_of;
 use crate::params::type_at;
 use crate::rules::broken;
 use crate::scope::{Placed, Scope, place_of_let, stream_type};
 use bunch::{Bunch, Name};
+use core_term::parts::{cat_types, par_types, star_types, sum_types};
 use core_term::{Body, Checked, Core, Node, Term, body_of, free};
 use std::alloc::Global;
 use stream_type::{Memory, Ty};
@@ -159,28 +159,28 @@ fn check_parts<'a>(
     match term {
         Term::Var(_) | Term::Eps | Term::Unit | Term::Nil | Term::Past(_) => Ok(number),
         Term::Par(a, b) => {
-            let (s, t) = sides(&*r, &Ty::Eps);
+            let (s, t) = par_types(&*r, &Ty::Eps);
             check_two(alloc, a, s, scope, b, t, scope, c, marks, number)
         }
         Term::Cat(a, b) => {
-            let (s, t) = steps(&*r, &Ty::Eps);
+            let (s, t) = cat_types(&*r, &Ty::Eps);
             check_two(alloc, a, s, scope, b, t, scope, c, marks, number)
         }
         Term::Cons(a, b) => {
-            let (item, rest) = items(&*r, &Ty::Eps);
+            let (item, rest) = star_types(&*r, &Ty::Eps);
             check_two(alloc, a, item, scope, b, rest, scope, c, marks, number)
         }
         Term::Inl(a) => {
-            let (s, _) = cases(&*r, &Ty::Eps);
+            let (s, _) = sum_types(&*r, &Ty::Eps);
             check_node(alloc, a, s, scope, c, marks, number)
         }
         Term::Inr(a) => {
-            let (_, t) = cases(&*r, &Ty::Eps);
+            let (_, t) = sum_types(&*r, &Ty::Eps);
             check_node(alloc, a, t, scope, c, marks, number)
         }
         Term::Let(x, s, a, b) => check_let(alloc, *x, s, a, b, r, scope, c, marks, number),
         Term::LetPar(x, y, z, a) => {
-            let (s, t) = sides(type_or(&*scope, *z, &Ty::Eps), &Ty::Eps);
+            let (s, t) = par_types(type_or(&*scope, *z, &Ty::Eps), &Ty::Eps);
             let left = Scope::Like(*x, s, *z, &*scope);
             check_node(
                 alloc,
@@ -193,19 +193,19 @@ fn check_parts<'a>(
             )
         }
         Term::LetCat(x, y, z, a) => {
-            let (s, t) = steps(type_or(&*scope, *z, &Ty::Eps), &Ty::Eps);
+            let (s, t) = cat_types(type_or(&*scope, *z, &Ty::Eps), &Ty::Eps);
             let first = Scope::Like(*x, s, *z, &*scope);
             let both = Scope::Like(*y, t, *z, &first);
             check_node(alloc, a, r, &Scope::Fact(*x, *y, &both), c, marks, number)
         }
         Term::CaseSum(z, _, x, a, y, b) => {
-            let (s, t) = cases(type_or(&*scope, *z, &Ty::Eps), &Ty::Eps);
+            let (s, t) = sum_types(type_or(&*scope, *z, &Ty::Eps), &Ty::Eps);
             let left = Scope::Like(*x, s, *z, &*scope);
             let right = Scope::Like(*y, t, *z, &*scope);
             check_two(alloc, a, r, &left, b, r, &right, c, marks, number)
         }
         Term::CaseStar(z, _, a, y, ys, b) => {
-            let (item, rest) = items(type_or(&*scope, *z, &Ty::Eps), &Ty::Eps);
+            let (item, rest) = star_types(type_or(&*scope, *z, &Ty::Eps), &Ty::Eps);
             let first = Scope::Like(*y, item, *z, &*scope);
             let both = Scope::Like(*ys, rest, *z, &first);
             let ordered = Scope::Fact(*y, *ys, &both);

@@ -17,3 +17,5 @@ mod scope;
 pub use checking::check;
 pub use fault::{TypeCause, TypeFault};
 pub use inertness::{inert, inert_funs};
+pub use passing::first_jumpy;
+pub use scope::{Known, Placed, Scope, before, place_of_let, stream_type};

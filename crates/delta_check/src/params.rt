@@ -1,14 +1,13 @@
-//! What the parameters of a function say of one argument: its type, by place and by name.
+//! What the parameters of a function say of one argument: its type, by place, and whether there is one for it.
 
-ghost use Rattle.std.specs.Prelude.{◌≡◌, map, ◌+◌, ◌<◌, length, slice_get, ◌==◌, option_map, IfOk, IfErr, IfSome, IfNone, Some};
+ghost use Rattle.std.specs.Prelude.{◌≡◌, map, ◌+◌, ◌<◌, length, slice_get, ◌==◌, IfOk, IfErr, IfSome, IfNone, Some};
 ghost use Rattle.stream_type.specs.StreamType.{type_of};
 ghost use Rattle.bunch.specs.BunchTree.{tree_of};
 ghost use Rattle.hist_value.specs.HistExpr.{expr_of};
 ghost use Rattle.core_term.specs.CoreTerm.{leaf_types, term_of, terms_from, core_body_of};
 ghost use Rattle.core_term.specs.Inert.{has_arity};
-ghost use Rattle.delta_check.specs.Params.{param_type};
 
-use bunch::{Bunch, Name};
+use bunch::Bunch;
 use core_term::{Body, Node};
 use hist_value::Expr;
 use stream_type::Ty;
@@ -53,21 +52,5 @@ fn left_of(params: &Bunch, n: usize) -> Option<usize>
         Bunch::Empty => Some(n),
         Bunch::Leaf(_, _) => n.checked_sub(1),
         Bunch::Comma(a, b) | Bunch::Semi(a, b) => left_of(b, left_of(a, n)?),
-    }
-}
-
-/// The type of the parameter with the name `x`, or None where there is none: `param_type` in
-/// `specs/Params.antt`.
-#[tactic(auto, using(crate::proofs::ParamTypes::param_types))]
-pub fn type_of_name(params: &Bunch, x: Name) -> Option<&Ty>
-    ensures { option_map (λ t. type_of t.now) result ≡ param_type (tree_of params.now) x.0 }
-{
-    match params {
-        Bunch::Empty => None,
-        Bunch::Leaf(y, t) => { if x.0 == y.0 { Some(t) } else { None } }
-        Bunch::Comma(a, b) | Bunch::Semi(a, b) => match type_of_name(a, x) {
-            Some(t) => Some(t),
-            None => type_of_name(b, x),
-        },
     }
 }

@@ -15,9 +15,9 @@ ghost use Rattle.delta_check.specs.Scopes.{context_in};
 
 use crate::inertness::inert;
 use crate::orders::unordered;
-use crate::params::type_of_name;
 use crate::scope::Scope;
 use bunch::{Bunch, Name, before, names};
+use core_term::params::type_of_name;
 use core_term::{Body, Core, Node};
 use std::alloc::Global;
 use stream_type::{Memory, Ty};

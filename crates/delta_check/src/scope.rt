@@ -7,9 +7,9 @@ ghost use Rattle.bunch.specs.Names.{numbers_of};
 ghost use Rattle.bunch.specs.Facts.{before_let, after_let};
 ghost use Rattle.delta_check.specs.Scopes.{context_in, known_at, before_by, after_by, IsKnown};
 
-use crate::params::type_of_name;
 use bunch::Name;
 use core_term::Body;
+use core_term::params::type_of_name;
 use std::alloc::Global;
 use stream_type::{Memory, Ty};
 

@@ -28,6 +28,7 @@ use crate::told::Told;
 use core_term::{Checked, Core};
 use delta_state::{Machine, Place, State, StepRefusal};
 use event_word::Event;
+use in_place::go_behind;
 use machine_bounds::Bounded;
 use machine_parts::awaited::{Awaited, entries, go_on, whole};
 use machine_parts::boxes::{copy_boxed, event_boxed, left_boxed};
@@ -235,12 +236,10 @@ fn advance(alloc: Global, machine: &mut Coded, next: &Prefix, run: Told) -> Resu
     ensures spent { OnOk result (machine.new.spent ≡ run.calls) }
     ensures answer { IfOk result (λ p. prefix_of p ≡ (told run).out) }
 {
-    let output = left_boxed(alloc, &machine.output, &run.output)?;
-    let input = left_boxed(alloc, &machine.input, next)?;
+    go_behind(alloc, &mut machine.output, &run.output)?;
+    go_behind(alloc, &mut machine.input, next)?;
     go_on(alloc, &mut machine.awaited, next)?;
-    settle(alloc, &mut machine.state, &output)?;
-    machine.output = output;
-    machine.input = input;
+    settle(alloc, &mut machine.state, &machine.output)?;
     machine.events += 1;
     machine.spent = run.calls;
     Ok(Box::into_inner(run.output))

@@ -24,8 +24,9 @@ use crate::told::{
     AllTold, Gone, Told, both, bound, first, framed, none_told, quiet, second, told_before,
 };
 use bunch::Name;
+use in_place::go_behind;
 use machine_parts::entry::Entry;
-use machine_parts::holding::{left as left_of, more};
+use machine_parts::holding::hold;
 use machine_parts::levels::{after_head, inside, on_arguments};
 use machine_parts::parts::{
     Cut, Sided, Taken, cat_types, copied, cut_taken, first_part, items_after, nothing_yet,
@@ -197,8 +198,7 @@ fn step_let<'a>(
     let after = after_head(is_name, &head.output, levels);
     let inner = Scope::Stream(x, &*t, &head.output, &*scope);
     let body = step(alloc, code, &inner, b, r, left - head.calls, after)?;
-    let over = left_of(alloc, t, &head.output)?;
-    *t = over;
+    go_behind(alloc, t, &head.output)?;
     Ok(bound(is_name, head, body)?)
 }
 
@@ -549,16 +549,6 @@ fn goes(begun: Begun) -> Gone
     }
 }
 
-// What comes is put behind what is held.
-#[inline(never)]
-fn hold<'a>(alloc: Global, held: &mut Vec<Entry>, scope: &'a Scope<'a>) -> Result<(), Memory>
-    ensures { OnOk result (map entry_in held.new.items ≡ held_more (map entry_in held.old.items) (streams_in scope.now)) }
-{
-    let longer = more(alloc, held, scope)?;
-    *held = longer;
-    Ok(())
-}
-
 // `let (x; y) = z` round what is left, once what came of z, of this type, is known.
 fn cut(
     alloc: Global,
@@ -601,8 +591,8 @@ fn keep(
     ensures ty { OnOk result (type_of t.new ≡ der (prefix_of told.output.value) (type_of t.old)) }
     ensures found { OnOk result (map entry_in found.new.items ≡ map entry_in found.old.items ++ record { name = x.0; type = type_of t.old; prefix = prefix_of told.output.value } ∷ []) }
 {
-    let over = left_of(alloc, t, &told.output)?;
-    let ty = mem::replace(t, over);
+    let ty = stream_type::copy(alloc, t)?;
+    go_behind(alloc, t, &told.output)?;
     let prefix = Box::into_inner(told.output);
     found.push(Entry {
         name: x,

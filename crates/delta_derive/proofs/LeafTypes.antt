@@ -7,7 +7,7 @@ use Rattle.bunch.specs.BunchTree.{BunchTree, empty, leaf, comma, semi, leaf_name
 use Rattle.bunch.proofs.NameLists.{holds-append}
 use Rattle.core_term.specs.Agreement.{types_in}
 use Rattle.core_term.specs.TypeFaults.{first_some}
-use Rattle.delta_check.specs.Params.{param_type}
+use Rattle.core_term.specs.Params.{param_type}
 use Rattle.delta_check.proofs.Arguments.{param_type-some, param_type-none}
 use Rattle.delta_derive.specs.Rearranged.{leaf_type}
 

@@ -7,10 +7,10 @@ use Rattle.bunch.specs.BunchTree.{leaf_names}
 use Rattle.core_term.specs.CoreTerm.{CoreBody, past_names}
 use Rattle.core_term.specs.FreeNames.{bound_names, IsBoundOnce}
 use Rattle.core_term.specs.Inert.{is_inert_fun}
-use Rattle.core_term.proofs.BoundOnce.{distinct_right}
+use Rattle.core_term.proofs.BoundOnce.{distinct_right, parts_apart}
 use Rattle.bunch_rules.specs.Laws.{BindsNew}
 use Rattle.bunch_rules.specs.Written.{Line, WritesBody, WritesBodies, no_bodies, body_first}
-use Rattle.bunch_rules.proofs.Programs.{parts_apart, distinct_params}
+use Rattle.bunch_rules.proofs.Programs.{distinct_params}
 use Rattle.delta_derive.specs.declared.fault.DeriveFault.{DeriveFault}
 use Rattle.delta_derive.specs.LineText.{lines_in}
 use Rattle.delta_derive.specs.Claims.{Claim, body_claim, body_claims, program_claims}

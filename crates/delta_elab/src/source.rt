@@ -149,7 +149,7 @@ fn place_of(functions: &[Source<'_>], f: Name) -> usize
 }
 
 /// The type of the parameter at the place `i`, or how many places `i` is past the last parameter.
-#[tactic(auto, using(crate::proofs::Places::places))]
+#[tactic(auto, using(delta_check::proofs::Places::places))]
 pub fn type_at(params: &Bunch, i: usize) -> Result<&Ty, usize>
     ensures there { IfOk result (λ t. slice_get (leaf_types (tree_of params.now)) i ≡ Some (type_of t.now)) }
     ensures past { IfErr result (λ j. j + length (leaf_types (tree_of params.now)) ≡ i) }

@@ -1,13 +1,14 @@
 -- Worked examples: the lines of some ends.
-use Rattle.std.proofs.Common.{◌≡◌, ℕ, List, [], ◌∷◌, ◌++◌, Some, refl, ap, ◌∙◌, arith}
+use Rattle.std.proofs.Common.{◌≡◌, ℕ, List, [], ◌∷◌, ◌++◌, Some, refl, ap, ap₂, ◌∙◌, arith}
 use Rattle.std.specs.Prelude.{codes}
 use Rattle.std.proofs.lemmas.Fmt.{decimal_step, decimal_digit}
 use Rattle.event_word.specs.declared.fault.EventFault.TheVariants.{Ended}
 use Rattle.event_frame.specs.declared.fault.FrameFault.TheVariants.{Truncated}
-use Rattle.delta_end.specs.declared.refusal.RefusalName.TheVariants.{Expected}
-use Rattle.delta_end.specs.declared.refusal.Refusal.{Refusal}
+use Rattle.program_refusal.specs.declared.refusal.RefusalName.TheVariants.{Expected}
+use Rattle.program_refusal.specs.declared.refusal.Refusal.{Refusal}
 use Rattle.delta_end.specs.declared.objection.BoundName.TheVariants.{Cycle}
-use Rattle.delta_end.specs.declared.objection.Objection.TheVariants.{Bound}
+use Rattle.delta_end.specs.declared.objection.TableName.TheVariants.{BadNumber}
+use Rattle.delta_end.specs.declared.objection.Objection.TheVariants.{Bound, Table}
 use Rattle.delta_end.specs.declared.end.InputFault.TheVariants.{Frame, Event}
 use Rattle.delta_end.specs.declared.end.End.TheVariants.{Input, Refused, Objected}
 use Rattle.delta_end.specs.Note.{note_of}
@@ -24,3 +25,8 @@ note_of_program = ap (λ (digits : List ℕ). (codes "delta: program refused: " 
 
 note_of_bound : note_of (Objected (Bound Cycle 4)) ≡ codes "delta: no bound: Cycle at 4\n"
 note_of_bound = ap (λ (digits : List ℕ). (codes "delta: no bound: " ++ codes "Cycle") ++ (codes " at " ++ digits ++ 10 ∷ [])) (decimal_digit 4 (omega arith))
+
+note_of_table : note_of (Objected (Table BadNumber 0 1)) ≡ codes "delta: table refused: BadNumber in 0 at 1\n"
+note_of_table =
+    ap₂ (λ (file row : List ℕ). (codes "delta: table refused: " ++ codes "BadNumber") ++ ((codes " in " ++ file) ++ (codes " at " ++ row ++ 10 ∷ [])))
+    (decimal_digit 0 (omega arith)) (decimal_digit 1 (omega arith))

@@ -1,20 +1,21 @@
 -- The line that tells how a command ended.
 use Rattle.std.specs.Prelude.{◌≡◌, ℕ, List, [], ◌∷◌, ◌++◌, Option, Some, None, codes, decimal}
 use Rattle.port.specs.Told.{Grows}
+use Rattle.program_refusal.specs.RefusalName.{refusal_name}
 use Rattle.event_word.specs.declared.fault.EventFault.{EventFault}
 use Rattle.event_word.specs.declared.fault.EventFault.TheVariants.{Ended, WrongStep, WrongLeaf, EarlyCut}
 use Rattle.event_frame.specs.declared.fault.FrameFault.{FrameFault}
 use Rattle.event_frame.specs.declared.fault.FrameFault.TheVariants.{BadMagic, LongPath, BadStep, BadLeaf, Truncated}
 use Rattle.event_text.specs.declared.fault.LineFault.{LineFault}
 use Rattle.event_text.specs.declared.fault.LineFault.TheVariants.{BadWord, BigNumber as BigNumberOfLine, LongPath as LongPathOfLine, NoLeaf, Extra}
-use Rattle.delta_end.specs.declared.refusal.RefusalName.{RefusalName}
-use Rattle.delta_end.specs.declared.refusal.RefusalName.TheVariants.{LongText, BadUtf8, BadChar, BigNumber, Deep as DeepMarks, Expected, Twice, Many, NoMain, Unbound, NoFunction, NoType, TooTall, TooWide, Mismatch, OutOfOrder, Jumpy, WaitNull, Arity, History, NotStream, WideOutput}
 use Rattle.delta_end.specs.declared.objection.DerivationName.{DerivationName}
 use Rattle.delta_end.specs.declared.objection.DerivationName.TheVariants as derivation
 use Rattle.delta_end.specs.declared.objection.BoundName.{BoundName}
 use Rattle.delta_end.specs.declared.objection.BoundName.TheVariants.{Unbounded, Cycle, Large}
+use Rattle.delta_end.specs.declared.objection.TableName.{TableName}
+use Rattle.delta_end.specs.declared.objection.TableName.TheVariants as table
 use Rattle.delta_end.specs.declared.objection.Objection.{Objection}
-use Rattle.delta_end.specs.declared.objection.Objection.TheVariants.{Derivation, Bound}
+use Rattle.delta_end.specs.declared.objection.Objection.TheVariants.{Derivation, Bound, Table}
 use Rattle.delta_end.specs.declared.end.InputFault.{InputFault}
 use Rattle.delta_end.specs.declared.end.InputFault.TheVariants.{Frame, Event, Line, LongLine}
 use Rattle.delta_end.specs.declared.end.End.{End}
@@ -61,31 +62,6 @@ place_of (Event fault at) = at
 place_of (Line fault at) = at
 place_of (LongLine at) = at
 
--- the name of a fault of a program
-abbrev pub refusal_name : RefusalName → List ℕ
-refusal_name LongText = codes "LongText"
-refusal_name BadUtf8 = codes "BadUtf8"
-refusal_name BadChar = codes "BadChar"
-refusal_name BigNumber = codes "BigNumber"
-refusal_name DeepMarks = codes "Deep"
-refusal_name Expected = codes "Expected"
-refusal_name Twice = codes "Twice"
-refusal_name Many = codes "Many"
-refusal_name NoMain = codes "NoMain"
-refusal_name Unbound = codes "Unbound"
-refusal_name NoFunction = codes "NoFunction"
-refusal_name NoType = codes "NoType"
-refusal_name TooTall = codes "TooTall"
-refusal_name TooWide = codes "TooWide"
-refusal_name Mismatch = codes "Mismatch"
-refusal_name OutOfOrder = codes "OutOfOrder"
-refusal_name Jumpy = codes "Jumpy"
-refusal_name WaitNull = codes "WaitNull"
-refusal_name Arity = codes "Arity"
-refusal_name History = codes "History"
-refusal_name NotStream = codes "NotStream"
-refusal_name WideOutput = codes "WideOutput"
-
 -- the name of a derivation's fault
 abbrev pub derivation_name : DerivationName → List ℕ
 derivation_name derivation.LongText = codes "LongText"
@@ -101,14 +77,27 @@ bound_name Unbounded = codes "Unbounded"
 bound_name Cycle = codes "Cycle"
 bound_name Large = codes "Large"
 
+-- the name of why tables are refused
+abbrev pub table_name : TableName → List ℕ
+table_name table.Shape = codes "Shape"
+table_name table.Long = codes "Long"
+table_name table.Ragged = codes "Ragged"
+table_name table.BadNumber = codes "BadNumber"
+
 -- what is refused or stopped, by which name and at which place
 abbrev pub refusal_note : List ℕ → List ℕ → ℕ → List ℕ
 refusal_note what name at = (what ++ name) ++ (codes " at " ++ decimal at ++ 10 ∷ [])
+
+-- why tables are refused, by the numbers of the file and of the row
+abbrev pub table_note : List ℕ → ℕ → ℕ → List ℕ
+table_note name file row =
+    (codes "delta: table refused: " ++ name) ++ ((codes " in " ++ decimal file) ++ (codes " at " ++ decimal row ++ 10 ∷ []))
 
 -- what is said against a program
 abbrev pub objection_note : Objection → List ℕ
 objection_note (Derivation name at) = refusal_note (codes "delta: derivation refused: ") (derivation_name name) at
 objection_note (Bound name at) = refusal_note (codes "delta: no bound: ") (bound_name name) at
+objection_note (Table name file row) = table_note (table_name name) file row
 
 -- the line; none at the end of a command that did all it was to do
 abbrev pub note_of : End → List ℕ

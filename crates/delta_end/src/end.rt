@@ -4,10 +4,10 @@ ghost use Rattle.std.specs.Prelude.{◌≡◌};
 ghost use Rattle.delta_end.specs.End.{status_of};
 
 use crate::objection::Objection;
-use crate::refusal::Refusal;
 use event_frame::FrameFault;
 use event_text::LineFault;
 use event_word::EventFault;
+use program_refusal::Refusal;
 
 /// What is wrong with an input, and the place of it in bytes.
 #[derive(Clone, Copy, Debug, PartialEq, Eq)]
@@ -71,6 +71,7 @@ impl End {
             End::Long => 9,
             End::Objected(Objection::Derivation(_, _)) => 11,
             End::Objected(Objection::Bound(_, _)) => 12,
+            End::Objected(Objection::Table(_, _, _)) => 13,
         }
     }
 }

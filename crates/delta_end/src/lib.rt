@@ -5,11 +5,9 @@ mod answering;
 mod end;
 mod name;
 mod objection;
-mod refusal;
 mod telling;
 
 pub use answering::answer;
 pub use end::{End, InputFault};
-pub use objection::{BoundName, DerivationName, Objection};
-pub use refusal::{Refusal, RefusalName};
+pub use objection::{BoundName, DerivationName, Objection, TableName};
 pub use telling::note;

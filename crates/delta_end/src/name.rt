@@ -1,11 +1,10 @@
 //! The names of faults, as notes tell them.
 
 ghost use Rattle.std.specs.Prelude.{◌≡◌};
-ghost use Rattle.delta_end.specs.Note.{frame_name as name_of_frame, event_name as name_of_event, line_name as name_of_line, refusal_name as name_of_refusal, derivation_name as name_of_derivation, bound_name as name_of_bound, name_of as name_of_input};
+ghost use Rattle.delta_end.specs.Note.{frame_name as name_of_frame, event_name as name_of_event, line_name as name_of_line, derivation_name as name_of_derivation, bound_name as name_of_bound, table_name as name_of_table, name_of as name_of_input};
 
 use crate::end::InputFault;
-use crate::objection::{BoundName, DerivationName};
-use crate::refusal::RefusalName;
+use crate::objection::{BoundName, DerivationName, TableName};
 use event_frame::FrameFault;
 use event_text::LineFault;
 use event_word::EventFault;
@@ -60,36 +59,6 @@ pub fn input_name(fault: InputFault) -> &'static [u8]
     }
 }
 
-/// The name of a program's fault.
-pub fn refusal_name(name: RefusalName) -> &'static [u8]
-    ensures { result.now ≡ name_of_refusal name }
-{
-    match name {
-        RefusalName::LongText => b"LongText",
-        RefusalName::BadUtf8 => b"BadUtf8",
-        RefusalName::BadChar => b"BadChar",
-        RefusalName::BigNumber => b"BigNumber",
-        RefusalName::Deep => b"Deep",
-        RefusalName::Expected => b"Expected",
-        RefusalName::Twice => b"Twice",
-        RefusalName::Many => b"Many",
-        RefusalName::NoMain => b"NoMain",
-        RefusalName::Unbound => b"Unbound",
-        RefusalName::NoFunction => b"NoFunction",
-        RefusalName::NoType => b"NoType",
-        RefusalName::TooTall => b"TooTall",
-        RefusalName::TooWide => b"TooWide",
-        RefusalName::Mismatch => b"Mismatch",
-        RefusalName::OutOfOrder => b"OutOfOrder",
-        RefusalName::Jumpy => b"Jumpy",
-        RefusalName::WaitNull => b"WaitNull",
-        RefusalName::Arity => b"Arity",
-        RefusalName::History => b"History",
-        RefusalName::NotStream => b"NotStream",
-        RefusalName::WideOutput => b"WideOutput",
-    }
-}
-
 /// The name of a derivation's fault.
 pub fn derivation_name(name: DerivationName) -> &'static [u8]
     ensures { result.now ≡ name_of_derivation name }
@@ -112,5 +81,17 @@ pub fn bound_name(name: BoundName) -> &'static [u8]
         BoundName::Unbounded => b"Unbounded",
         BoundName::Cycle => b"Cycle",
         BoundName::Large => b"Large",
+    }
+}
+
+/// The name of why tables are refused.
+pub fn table_name(name: TableName) -> &'static [u8]
+    ensures { result.now ≡ name_of_table name }
+{
+    match name {
+        TableName::Shape => b"Shape",
+        TableName::Long => b"Long",
+        TableName::Ragged => b"Ragged",
+        TableName::BadNumber => b"BadNumber",
     }
 }

@@ -28,6 +28,19 @@ pub enum BoundName {
     Large,
 }
 
+/// Why no tables can be fed to a program.
+#[derive(Clone, Copy, Debug, PartialEq, Eq)]
+pub enum TableName {
+    /// The program's types aren't those of so many tables.
+    Shape,
+    /// A file is too long.
+    Long,
+    /// A row has another number of fields than its table has columns.
+    Ragged,
+    /// A field is no number.
+    BadNumber,
+}
+
 /// What is said against a program whose text is good, by name and place.
 #[derive(Clone, Copy, Debug, PartialEq, Eq)]
 pub enum Objection {
@@ -35,4 +48,7 @@ pub enum Objection {
     Derivation(DerivationName, u32),
     /// It has no bound. The place counts the bytes of its text before, and is 0 where there is none.
     Bound(BoundName, u32),
+    /// The tables for it are refused. The numbers are those of the file and of the row, from 0, and 0 where there
+    /// is none.
+    Table(TableName, u32, u32),
 }

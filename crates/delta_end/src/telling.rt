@@ -2,14 +2,15 @@
 
 ghost use Rattle.std.specs.Prelude.{◌≡◌, ◌++◌, [], ◌∷◌, List, IsOk, codes, decimal};
 ghost use Rattle.port.specs.Faults.{HasCause};
-ghost use Rattle.delta_end.specs.Note.{note_of, name_of, refusal_name as name_of_refusal, refusal_note, objection_note, place_of, Says};
+ghost use Rattle.program_refusal.specs.RefusalName.{refusal_name as name_of_refusal};
+ghost use Rattle.delta_end.specs.Note.{note_of, name_of, refusal_note, table_note, objection_note, place_of, Says};
 
 use crate::end::{End, InputFault};
-use crate::name::{bound_name, derivation_name, input_name, refusal_name};
+use crate::name::{bound_name, derivation_name, input_name, table_name};
 use crate::objection::Objection;
-use crate::refusal::Refusal;
 use event_frame::FrameFault;
 use port::{IoFault, Sink};
+use program_refusal::{Refusal, refusal_name};
 
 // Writes all of a text, or a part of it at an error.
 fn say<N: Sink>(sink: &mut N, text: &[u8]) -> Result<(), IoFault>
@@ -121,6 +122,39 @@ fn say_fault<N: Sink>(sink: &mut N, fault: InputFault) -> Result<(), IoFault>
     say_refusal(sink, b"delta: input refused: ", name, fault.place())
 }
 
+// Writes the number of a file.
+fn say_file<N: Sink>(sink: &mut N, file: u64) -> Result<(), IoFault>
+    ensures said { Says (N.told sink.old) (N.told sink.new) (codes " in " ++ decimal file) (IsOk result) }
+    ensures cause { HasCause result (N.faults sink.old) (N.faults sink.new) }
+{
+    match say(sink, b" in ") {
+        Ok(()) => say_number(sink, file),
+        Err(fault) => Err(fault),
+    }
+}
+
+// Writes the number of a file and that of a row of it, and ends the line.
+fn say_row<N: Sink>(sink: &mut N, file: u64, row: u64) -> Result<(), IoFault>
+    ensures said { Says (N.told sink.old) (N.told sink.new) ((codes " in " ++ decimal file) ++ (codes " at " ++ decimal row ++ 10 ∷ [])) (IsOk result) }
+    ensures cause { HasCause result (N.faults sink.old) (N.faults sink.new) }
+{
+    match say_file(sink, file) {
+        Ok(()) => say_place(sink, row),
+        Err(fault) => Err(fault),
+    }
+}
+
+// Writes why tables are refused, and where.
+fn say_table<N: Sink>(sink: &mut N, name: &[u8], file: u64, row: u64) -> Result<(), IoFault>
+    ensures said { Says (N.told sink.old) (N.told sink.new) (table_note name.now file row) (IsOk result) }
+    ensures cause { HasCause result (N.faults sink.old) (N.faults sink.new) }
+{
+    match say_both(sink, b"delta: table refused: ", name) {
+        Ok(()) => say_row(sink, file, row),
+        Err(fault) => Err(fault),
+    }
+}
+
 // Writes what is said against a program.
 fn say_objection<N: Sink>(sink: &mut N, what: Objection) -> Result<(), IoFault>
     ensures said { Says (N.told sink.old) (N.told sink.new) (objection_note what) (IsOk result) }
@@ -134,6 +168,10 @@ fn say_objection<N: Sink>(sink: &mut N, what: Objection) -> Result<(), IoFault>
         Objection::Bound(name, at) => {
             let name = bound_name(name);
             say_refusal(sink, b"delta: no bound: ", name, u64::from(at))
+        }
+        Objection::Table(name, file, row) => {
+            let name = table_name(name);
+            say_table(sink, name, u64::from(file), u64::from(row))
         }
     }
 }

@@ -7,7 +7,7 @@ use Rattle.core_term.specs.declared.term.Term.{Term, Row_of-Node, end_of-Node, m
 use Rattle.core_term.specs.declared.term.Term.TheVariants.{Var, Eps, Unit as IsUnit, Past, Par', Cat', Inl', Inr', Nil, Cons', Let', LetPar', LetCat', CaseSum', CaseStar', Wait', Call'}
 use Rattle.core_term.specs.CoreTerm.{term_in, terms_of, term_count, places_in, places_among, node_count, node_counts}
 use Rattle.delta_state.specs.StateTree.{argument_names}
-use Rattle.kept_state.specs.KeptBytes.{short_bytes, long_bytes, list_bytes, bool_bytes, type_bytes, expr_bytes, known_bytes, held_name_bytes, behind, inside, node_bytes, term_bytes, terms_bytes, later_bytes, nodes_in_state, nodes_in_arguments, state_bytes, arguments_bytes, kept_bytes}
+use Rattle.kept_state.specs.KeptBytes.{short_bytes, long_bytes, list_bytes, bool_bytes, type_bytes, expr_bytes, known_bytes, held_name_bytes, places_behind, inside, node_bytes, term_bytes, terms_bytes, later_bytes, nodes_in_state, nodes_in_arguments, state_bytes, arguments_bytes, kept_bytes}
 use Rattle.delta_keep.specs.declared.kept.Waiting.{Waiting}
 use Rattle.delta_keep.specs.declared.kept.Kept.{Kept}
 use Rattle.delta_keep.specs.declared.kept.KeptState.{KeptState, Row_of-Argument, end_of-Argument, more_of-Argument}
@@ -54,18 +54,18 @@ pub front_node : (i : ℕ) (a : Term) (ps more : List ℕ) → ((rest : List ℕ
 front_node i a ps more h e = ap (λ qs. node_bytes qs (term_bytes (term_in a) (inside qs))) e ∙ ap (λ bs. short_bytes i ++ bs) (h more)
 
 -- the places behind it
-behind_node : (i : ℕ) (a : Term) (ps more : List ℕ) → ps ≡ (i ∷ places_in a) ++ more → behind (term_in a) ps ≡ more
-behind_node i a ps more e = ap (behind (term_in a)) e ∙ drop_first (node_count (term_in a)) (i ∷ places_in a) more (count_in a)
+behind_node : (i : ℕ) (a : Term) (ps more : List ℕ) → ps ≡ (i ∷ places_in a) ++ more → places_behind (term_in a) ps ≡ more
+behind_node i a ps more e = ap (places_behind (term_in a)) e ∙ drop_first (node_count (term_in a)) (i ∷ places_in a) more (count_in a)
 
 -- a node behind another
 next_node : (i : ℕ) (a : Term) (j : ℕ) (b : Term) (ps more : List ℕ) → ((rest : List ℕ) → term_bytes (term_in b) (places_in b ++ rest) ≡ written_term b) → ps ≡ (i ∷ places_in a) ++ ((j ∷ places_in b) ++ more)
-    → node_bytes (behind (term_in a) ps) (term_bytes (term_in b) (inside (behind (term_in a) ps))) ≡ short_bytes j ++ written_term b
-next_node i a j b ps more h e = front_node j b (behind (term_in a) ps) more h (behind_node i a ps ((j ∷ places_in b) ++ more) e)
+    → node_bytes (places_behind (term_in a) ps) (term_bytes (term_in b) (inside (places_behind (term_in a) ps))) ≡ short_bytes j ++ written_term b
+next_node i a j b ps more h e = front_node j b (places_behind (term_in a) ps) more h (behind_node i a ps ((j ∷ places_in b) ++ more) e)
 
 -- both nodes of a form
 two_nodes : (i : ℕ) (a : Term) (j : ℕ) (b : Term) (more : List ℕ) → ((rest : List ℕ) → term_bytes (term_in a) (places_in a ++ rest) ≡ written_term a) → ((rest : List ℕ) → term_bytes (term_in b) (places_in b ++ rest) ≡ written_term b)
     → let ps = ((i ∷ places_in a) ++ (j ∷ places_in b)) ++ more in
-    node_bytes ps (term_bytes (term_in a) (inside ps)) ++ node_bytes (behind (term_in a) ps) (term_bytes (term_in b) (inside (behind (term_in a) ps))) ≡ (short_bytes i ++ written_term a) ++ (short_bytes j ++ written_term b)
+    node_bytes ps (term_bytes (term_in a) (inside ps)) ++ node_bytes (places_behind (term_in a) ps) (term_bytes (term_in b) (inside (places_behind (term_in a) ps))) ≡ (short_bytes i ++ written_term a) ++ (short_bytes j ++ written_term b)
 two_nodes i a j b more h k =
     let ps = ((i ∷ places_in a) ++ (j ∷ places_in b)) ++ more in
     let e : ps ≡ (i ∷ places_in a) ++ ((j ∷ places_in b) ++ more) = place_first i (places_in a) (j ∷ places_in b) more in
@@ -117,13 +117,13 @@ placed_later : (l : Waiting) (more : List ℕ) → later_bytes (later_of l) (pla
 placed_later l more = ap (λ bs. (short_bytes l.code.value.at ++ bs) ++ (list_bytes known_bytes (map known_of l.past.items) ++ long_bytes l.depth)) (placed_term l.code.value.term more)
 
 -- the places behind it
-behind_later : (l : Waiting) (more : List ℕ) → behind (later_of l).term (places_of_later l ++ more) ≡ more
+behind_later : (l : Waiting) (more : List ℕ) → places_behind (later_of l).term (places_of_later l ++ more) ≡ more
 behind_later l more = behind_node l.code.value.at l.code.value.term (places_of_later l ++ more) more refl
 
 -- code behind other code
-next_later : (l m : Waiting) (more : List ℕ) → later_bytes (later_of m) (behind (later_of l).term ((places_of_later l ++ places_of_later m) ++ more)) ≡ written_later m
+next_later : (l m : Waiting) (more : List ℕ) → later_bytes (later_of m) (places_behind (later_of l).term ((places_of_later l ++ places_of_later m) ++ more)) ≡ written_later m
 next_later l m more =
-    ap (λ ps. later_bytes (later_of m) (behind (later_of l).term ps)) (append_assoc (places_of_later l) (places_of_later m) more)
+    ap (λ ps. later_bytes (later_of m) (places_behind (later_of l).term ps)) (append_assoc (places_of_later l) (places_of_later m) more)
     ∙ (ap (later_bytes (later_of m)) (behind_later l (places_of_later m ++ more)) ∙ placed_later m more)
 
 -- code at the front

@@ -1,12 +1,12 @@
 -- Lemmas for the evaluator: calls, and arguments one after the other.
-use Rattle.std.proofs.Common.{◌≡◌, ℕ, zero, suc, ◌+◌, ◌-◌, ◌*◌, ◌<◌, ◌≤◌, ◌^◌, Bool, true, false, ◌&&◌, ◌||◌, List, [], ◌∷◌, refl, sym, ap, ◌∙◌, append_assoc, arith}
+use Rattle.std.proofs.Common.{◌≡◌, ℕ, zero, suc, ◌-◌, ◌<◌, ◌^◌, Bool, true, false, ◌&&◌, ◌||◌, List, [], ◌∷◌, refl, sym, ap, ◌∙◌, append_assoc, arith}
 use Rattle.std.proofs.lemmas.List.{append-nil}
-use Rattle.std.proofs.Math.Nat.{suc-mul}
 use Rattle.std.proofs.Math.Bool.{and_assoc}
 use Rattle.stream_prefix.specs.StreamPrefix.{StreamPrefix, is_maximal}
 use Rattle.hist_value.specs.HistValue.{HistValue}
 use Rattle.core_term.specs.Run.{Run, Runs, no_runs, run_before, one_call}
 use Rattle.core_term.specs.Meaning.{horizon}
+use Rattle.core_term.proofs.RunsInTurn.{body_weighs_less}
 use Rattle.delta_meaning.specs.SourceBody.{SourceBody}
 use Rattle.delta_meaning.specs.SourceMeaning.{source_call_at, source_body_run}
 use Rattle.delta_meaning.specs.Evaluated.{runs_after, runs_joined}
@@ -52,14 +52,6 @@ joined_first as' = same_runs (runs_joined no_runs as') as' refl (omega arith) (o
 
 -- for functions over arguments
 pub ruleset joined = (joined_none, joined_after, joined_first)
-
--- a body, with one call less, weighs less than its call
-pub body_weighs_less : (d h w : ℕ) → 0 < d → w ≤ h → (d - 1) * suc h + w < d * suc h + 1
-body_weighs_less zero h w p q = absurd (omega (arith, p))
-body_weighs_less (suc d) h w p q =
-    let e : suc d - 1 ≡ d = omega arith in
-    let m : suc d * suc h ≡ d * suc h + suc h = suc-mul d (suc h) in
-    rw (e, m) (omega (arith, q))
 
 -- for functions over calls
 pub ruleset bodies = (call_with_depth, body_weighs_less)

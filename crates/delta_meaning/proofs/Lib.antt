@@ -11,7 +11,6 @@ pub mod Counts
 pub mod Limits
 pub mod KeptTypes
 pub mod FreeStreams
-pub mod StarForms
 pub mod Scopes
 pub mod Splittings
 pub mod Evaluations

@@ -1,9 +1,10 @@
--- Runs of equal parts are equal; and where more calls are made than were left, after a part or in it, so it is in the whole.
-use Rattle.std.proofs.Common.{◌≡◌, ℕ, ◌+◌, ◌-◌, ◌<◌, ◌≤◌, Bool, true, false, true≢false, List, [], ◌∷◌, map, if◌then◌else◌, refl, sym, ap, ◌∙◌, subst, arith}
+-- What stands after a head, branches, arguments and calls: runs of equal parts are equal, and where more calls are
+-- made than were left in a part, so they are in the whole.
+use Rattle.std.proofs.Common.{◌≡◌, ℕ, ◌+◌, ◌-◌, ◌<◌, ◌≤◌, Bool, true, false, List, [], ◌∷◌, map, if◌then◌else◌, refl, sym, ap, ◌∙◌, subst, arith}
 use Rattle.bunch.specs.declared.name.Name.{Name}
 use Rattle.stream_type.specs.declared.ty.Ty.{Ty}
 use Rattle.stream_type.specs.StreamType.{StreamType, type_of, eps}
-use Rattle.stream_prefix.specs.StreamPrefix.{StreamPrefix, cat_fst, emp, eps_emp, is_maximal}
+use Rattle.stream_prefix.specs.StreamPrefix.{StreamPrefix, eps_emp}
 use Rattle.bunch.specs.Names.{value_at}
 use Rattle.bunch.specs.BunchTree.{tree_of, leaf_names}
 use Rattle.hist_value.specs.HistValue.{HistValue, unit_value, left_of, list_of}
@@ -13,53 +14,17 @@ use Rattle.core_term.specs.CoreTerm.{leaf_types, typed_names_of}
 use Rattle.core_term.specs.Environment.{Environment, NameTypes, by_side}
 use Rattle.core_term.specs.Agreement.{types_in}
 use Rattle.core_term.specs.Meaning.{Past, no_past, Calls}
-use Rattle.core_term.specs.Run.{Run, Runs, quiet, relabel, cat_run, cat_run_at, let_run, wait_run, no_runs, run_before, call_run}
+use Rattle.core_term.specs.Run.{Run, Runs, let_run, no_runs, run_before, call_run}
+use Rattle.core_term.specs.Params.{names_in}
 use Rattle.delta_meaning.specs.TypeNames.{TypeNames}
 use Rattle.delta_meaning.specs.KnownTypes.{names_known}
 use Rattle.delta_meaning.specs.SourceBody.{SourceBody}
 use Rattle.delta_meaning.specs.SourceMeaning.{is_name, if_run, source_run, arguments_run, source_body_run, source_past}
 use Rattle.delta_meaning.specs.Evaluated.{is_left, runs_after, runs_joined, first_type, other_types}
-use Rattle.delta_meaning.specs.Scope.{names_in}
 use Rattle.delta_meaning.specs.Functions.{body_of}
 use Rattle.delta_meaning.specs.declared.functions.Function.{Function}
 use Rattle.delta_meaning.proofs.Evaluations.{joined_after, joined_first}
 use Rattle.delta_meaning.proofs.MainRuns.{params_have_types}
-
--- after a part that was run
-pub spent_after : (a x : Run) (n left : ℕ) → a ≡ x → a.calls ≤ left → left - a.calls < n → left < x.calls + n
-spent_after a x n left e l h = let c : a.calls ≡ x.calls = ap (λ (r : Run). r.calls) e in omega (arith, c, l, h)
-
--- the first of two, which isn't whole
-pub cat_run_first : (a x y : Run) → a ≡ x → is_maximal a.out ≡ false → relabel cat_fst a ≡ cat_run x y
-cat_run_first a x y e m = subst (λ (z : Run). relabel cat_fst a ≡ cat_run z y) e (go (is_maximal a.out) m)
-  where
-    go : (w : Bool) → w ≡ false → relabel cat_fst a ≡ cat_run_at w a y
-    go false h = refl
-    go true h = absurd (true≢false h)
-
--- the first of two, which is whole, and the second
-pub cat_run_both : (a b x y : Run) → a ≡ x → b ≡ y → is_maximal a.out ≡ true → cat_run_at true a b ≡ cat_run x y
-cat_run_both a b x y e h m = ap (cat_run_at true a) h ∙ subst (λ (z : Run). cat_run_at true a y ≡ cat_run z y) e (go (is_maximal a.out) m)
-  where
-    go : (w : Bool) → w ≡ true → cat_run_at true a y ≡ cat_run_at w a y
-    go true h = refl
-    go false h = absurd (true≢false (sym h))
-
--- in the first of two
-pub cat_spent_first : (x y : Run) (left : ℕ) → left < x.calls → left < (cat_run x y).calls
-cat_spent_first x y left h = go (is_maximal x.out)
-  where
-    go : (w : Bool) → left < (cat_run_at w x y).calls
-    go true = omega (arith, h)
-    go false = h
-
--- in the second of two
-pub cat_spent_second : (a x y : Run) (left : ℕ) → a ≡ x → is_maximal a.out ≡ true → a.calls ≤ left → left - a.calls < y.calls → left < (cat_run x y).calls
-cat_spent_second a x y left e m l h = subst (λ (z : Run). left < (cat_run z y).calls) e (go (is_maximal a.out) m)
-  where
-    go : (w : Bool) → w ≡ true → left < (cat_run_at w a y).calls
-    go true q = omega (arith, l, h)
-    go false q = absurd (true≢false (sym q))
 
 -- what stands after a head, by the head's type and what it gives
 pub let_runs : (body : StreamType → Run → Run) (b c : Bool) (a x r : Run) (s t : StreamType) → b ≡ c → a ≡ x → s ≡ t → r ≡ body s a → let_run b a r ≡ let_run c x (body t x)
@@ -70,16 +35,6 @@ pub let_spent : (body : StreamType → Run → Run) (a x r : Run) (s t : StreamT
 let_spent body a x r s t left e h k l m =
     let n : r.calls ≡ (body s a).calls = ap (λ (z : Run). z.calls) k in
     subst (λ (z : Run). left < z.calls + (body t z).calls) e (subst (λ (q : StreamType). left < a.calls + (body q a).calls) h (omega (arith, l, m, n)))
-
--- a wait whose subject is whole
-pub wait_run_over : (w : Bool) (r : StreamType) (a : Run) → w ≡ true → a ≡ wait_run r w a
-wait_run_over true r a h = refl
-wait_run_over false r a h = absurd (true≢false (sym h))
-
--- a wait whose subject isn't whole
-pub wait_run_waits : (w : Bool) (r : StreamType) (a : Run) → w ≡ false → quiet (emp r) ≡ wait_run r w a
-wait_run_waits false r a h = refl
-wait_run_waits true r a h = absurd (true≢false h)
 
 -- a list is no value of the left side of a sum
 pub list_is_not_left : (vs : List HistValue) → is_left (list_of vs) ≡ false
@@ -140,9 +95,3 @@ body_runs functions call f b vs ps xs ts past e n m k =
     let f3 : Past → Run = λ l. source_run functions call (names_known f.known.items) (expression_of f.body.now) (types_in (tree_of f.params)) (type_of f.result) (value_at eps_emp (leaf_names (tree_of f.params)) ps) l in
     let f4 : SourceBody → Run = λ l. source_body_run functions call l vs ps in
     ap f1 t ∙ (ap f2 s ∙ (ap f3 p ∙ ap f4 e))
-
--- for functions over a wait
-pub ruleset waits = (wait_run_over, wait_run_waits)
-
--- for functions over two expressions, of which the second waits
-pub ruleset in_turn = (spent_after, cat_run_first, cat_run_both, cat_spent_first, cat_spent_second)

@@ -1,7 +1,6 @@
 -- What the evaluator's scopes stand for.
-use Rattle.std.specs.Prelude.{ℕ, List, map}
-use Rattle.stream_type.specs.declared.ty.Ty.{Ty}
-use Rattle.stream_type.specs.StreamType.{StreamType, type_of, eps}
+use Rattle.std.specs.Prelude.{ℕ, map}
+use Rattle.stream_type.specs.StreamType.{type_of, eps}
 use Rattle.stream_prefix.specs.StreamPrefix.{eps_emp}
 use Rattle.stream_prefix.specs.Tree.{prefix_of}
 use Rattle.bunch.specs.declared.name.Name.{Name}
@@ -11,17 +10,10 @@ use Rattle.hist_value.specs.HistValue.{HistValue, hist_value_of}
 use Rattle.hist_value.specs.Environment.{environment_of}
 use Rattle.core_term.specs.Environment.{Environment, NameTypes}
 use Rattle.core_term.specs.Meaning.{Past}
+use Rattle.core_term.specs.Params.{names_in, types_listed}
 use Rattle.delta_meaning.specs.SourceMeaning.{without_value}
 use Rattle.delta_meaning.specs.declared.scope.Scope.{Scope}
 use Rattle.delta_meaning.specs.declared.scope.Scope.TheVariants.{Params, Stream', Waited'}
-
--- the names of parameters
-abbrev pub names_in : List (Name × Ty) → List ℕ
-names_in ps = map (λ p. p.0.0) ps
-
--- the types of parameters
-abbrev pub types_listed : List (Name × Ty) → List StreamType
-types_listed ps = map (λ p. type_of p.1) ps
 
 -- an entry: the number of a name, and its value
 abbrev pub entry_of : Name × Value → ℕ × HistValue

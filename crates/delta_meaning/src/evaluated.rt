@@ -3,14 +3,15 @@
 
 ghost use Rattle.std.specs.Prelude.{◌≡◌, ◌+◌, ◌<◌, ◌^◌, true, IfOk};
 ghost use Rattle.stream_prefix.specs.Tree.{prefix_of};
-ghost use Rattle.stream_prefix.specs.StreamPrefix.{cat_fst, in_left, in_right, star_rest};
+ghost use Rattle.stream_prefix.specs.StreamPrefix.{cat_fst, in_left, in_right};
 ghost use Rattle.core_term.specs.Parts.{as_star};
 ghost use Rattle.core_term.specs.Run.{deeper, quiet, relabel, par_run, cat_run_at, let_run, no_runs, call_run, one_call};
 ghost use Rattle.delta_meaning.specs.SourceMeaning.{typed_run};
 ghost use Rattle.delta_meaning.specs.Evaluated.{run_of, runs_of, runs_after};
 
+use core_term::stars::as_star;
 use std::alloc::Global;
-use stream_prefix::{Prefix, StarEnd};
+use stream_prefix::Prefix;
 use stream_type::Memory;
 
 /// What an evaluation gives. Contracts see it as a `Run` by `run_of` (`specs/Evaluated.antt`).
@@ -114,43 +115,6 @@ pub fn star_run(alloc: Global, a: Evaluated) -> Result<Evaluated, Memory>
         calls: a.calls,
         level: a.level,
     })
-}
-
-// A prefix of an item and the items after it as one of a star.
-#[tactic(auto, using(crate::proofs::StarForms::star_forms))]
-fn as_star(alloc: Global, p: Prefix) -> Result<Prefix, Memory>
-    ensures { IfOk result (λ r. prefix_of r ≡ as_star (prefix_of p)) }
-{
-    match p {
-        Prefix::CatFst(a) => Ok(Prefix::Star(Vec::new(alloc), StarEnd::First(a))),
-        Prefix::CatBoth(a, b) => put_before(alloc, Box::into_inner(a), Box::into_inner(b)),
-        Prefix::EpsEmp
-        | Prefix::OneEmp
-        | Prefix::OneFull
-        | Prefix::IntEmp
-        | Prefix::IntFull(_)
-        | Prefix::Par(_, _)
-        | Prefix::SumEmp
-        | Prefix::Inl(_)
-        | Prefix::Inr(_)
-        | Prefix::Star(_, _) => Ok(p),
-    }
-}
-
-// A whole item before the rest of a star.
-#[tactic(auto, using(crate::proofs::StarForms::star_forms))]
-fn put_before(alloc: Global, item: Prefix, rest: Prefix) -> Result<Prefix, Memory>
-    ensures { IfOk result (λ r. prefix_of r ≡ star_rest (prefix_of item) (prefix_of rest)) }
-{
-    match rest {
-        Prefix::Star(mut more, end) => {
-            let mut items = Vec::new(alloc);
-            items.push(item)?;
-            items.append(&mut more)?;
-            Ok(Prefix::Star(items, end))
-        }
-        _ => Err(Memory),
-    }
 }
 
 /// The left side of a sum. Its only error is want of memory.

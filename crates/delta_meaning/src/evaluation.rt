@@ -17,26 +17,26 @@ ghost use Rattle.delta_meaning.specs.TypeNames.{type_meant};
 ghost use Rattle.delta_meaning.specs.KnownTypes.{names_known};
 ghost use Rattle.delta_meaning.specs.SourceMeaning.{is_name_head, typed_run, if_run};
 ghost use Rattle.delta_meaning.specs.Evaluated.{run_of, runs_of, runs_joined};
-ghost use Rattle.delta_meaning.specs.Scope.{types_listed, past_in};
+ghost use Rattle.core_term.specs.Params.{types_listed};
+ghost use Rattle.delta_meaning.specs.Scope.{past_in};
 ghost use Rattle.delta_meaning.specs.Functions.{calls_at, run_at, head_run_at, head_type_at, run_with_one, run_with_two, run_after, arguments_at};
 
 use crate::evaluated::{
     Arguments, Evaluated, call_run, cat_run, first_run, left_run, let_run, no_arguments, one_call,
     one_more, par_run, quiet, right_run, star_run, typed_run,
 };
-use crate::functions::{Place, function_named, leaves};
+use crate::functions::{Place, function_named};
 use crate::looking::{
     boxed_head_type, first_param, is_left, is_name, is_name_head, name_run, nil_run, nothing_run,
     params_of, past_run, waited,
 };
-use crate::parts::{
-    Sided, Taken, boxed_taken, cat_parts, cat_types, par_parts, par_types, side_taken, star_types,
-    sum_types,
-};
+use crate::parts::{Sided, Taken, boxed_taken, cat_parts, side_taken};
 use crate::refusal::Stop;
 use crate::scope::{Scope, past_of_body, values_in};
 use crate::types::boxed_type;
 use bunch::Name;
+use core_term::params::leaves;
+use core_term::parts::{cat_types, par_parts, par_types, star_types, sum_types};
 use delta_tree::{Exp, Form, Head, HeadForm, Hist, TyExp};
 use hist_value::Value;
 use std::alloc::Global;
@@ -92,7 +92,7 @@ pub fn evaluate<'a>(
 
 // Two expressions at once, each with its expected type.
 #[cycle(evaluate)]
-#[tactic(auto, using(crate::proofs::Runs::spent_after))]
+#[tactic(auto, using(core_term::proofs::RunsInTurn::spent_after))]
 fn evaluate_both<'a>(
     alloc: Global,
     place: &Place<'_>,
@@ -115,7 +115,7 @@ fn evaluate_both<'a>(
 
 // Two expressions one after the other, each with its expected type: the second only once the first is whole.
 #[cycle(evaluate)]
-#[tactic(auto, using(crate::proofs::Runs::in_turn))]
+#[tactic(auto, using(core_term::proofs::RunsInTurn::in_turn))]
 fn evaluate_in_turn<'a>(
     alloc: Global,
     place: &Place<'_>,
@@ -264,7 +264,7 @@ fn evaluate_at_type<'a>(
 
 // A wait, of which the rest is run once the name's stream is whole.
 #[cycle(evaluate)]
-#[tactic(auto, using(crate::proofs::Runs::waits))]
+#[tactic(auto, using(core_term::proofs::RunsInTurn::waits))]
 fn evaluate_wait<'a>(
     alloc: Global,
     place: &Place<'_>,

@@ -1,17 +1,13 @@
 //! The functions of a program as they are meant, and where an evaluation stands among them.
 
-ghost use Rattle.std.specs.Prelude.{◌≡◌, ◌≤◌, ◌++◌, map, IfOk, IfSome, IfNone, OnOk};
-ghost use Rattle.bunch.specs.BunchTree.{tree_of, leaf_names};
-ghost use Rattle.core_term.specs.CoreTerm.{leaf_types};
+ghost use Rattle.std.specs.Prelude.{◌≡◌, ◌≤◌, map, IfSome, IfNone};
 ghost use Rattle.delta_meaning.specs.SourceBody.{function_named, no_function};
 ghost use Rattle.delta_meaning.specs.Functions.{body_of};
-ghost use Rattle.delta_meaning.specs.Scope.{names_in, types_listed};
 ghost use Rattle.delta_meaning.specs.Weights.{weight, heaviest};
 
 use bunch::{Bunch, Name};
 use delta_tree::Exp;
-use std::alloc::Global;
-use stream_type::{Memory, Ty};
+use stream_type::Ty;
 
 /// A function as it is meant. Contracts see it as a `SourceBody` by `body_of` (`specs/Functions.antt`).
 #[derive(Drop)]
@@ -55,35 +51,6 @@ pub fn function_named<'a>(functions: &'a [Function<'a>], f: Name) -> Option<&'a 
             } else {
                 function_named(others, f)
             }
-        }
-    }
-}
-
-/// The stream parameters with their types, from left to right. Its only error is want of memory.
-pub fn leaves(alloc: Global, b: &Bunch) -> Result<Vec<(Name, Ty)>, Memory>
-    ensures names { IfOk result (λ v. names_in v.items ≡ leaf_names (tree_of b.now)) }
-    ensures types { IfOk result (λ v. types_listed v.items ≡ leaf_types (tree_of b.now)) }
-{
-    let mut found = Vec::new(alloc);
-    add_leaves(alloc, b, &mut found)?;
-    Ok(found)
-}
-
-// Adds the parameters of a bunch.
-fn add_leaves(alloc: Global, b: &Bunch, found: &mut Vec<(Name, Ty)>) -> Result<(), Memory>
-    ensures names { OnOk result (names_in found.new.items ≡ names_in found.old.items ++ leaf_names (tree_of b.now)) }
-    ensures types { OnOk result (types_listed found.new.items ≡ types_listed found.old.items ++ leaf_types (tree_of b.now)) }
-{
-    match b {
-        Bunch::Empty => Ok(()),
-        Bunch::Leaf(x, t) => {
-            let t = stream_type::copy(alloc, t)?;
-            found.push((*x, t))?;
-            Ok(())
-        }
-        Bunch::Comma(a, b) | Bunch::Semi(a, b) => {
-            add_leaves(alloc, a, found)?;
-            add_leaves(alloc, b, found)
         }
     }
 }

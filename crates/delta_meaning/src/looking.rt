@@ -10,23 +10,26 @@ ghost use Rattle.hist_value.specs.Wholes.{value_of, full};
 ghost use Rattle.delta_tree.specs.Tree.{expression_of, head_of, hist_of};
 ghost use Rattle.core_term.specs.Run.{quiet};
 ghost use Rattle.core_term.specs.CoreTerm.{leaf_types};
+ghost use Rattle.core_term.specs.Params.{types_listed};
 ghost use Rattle.delta_meaning.specs.TypeNames.{type_meant};
 ghost use Rattle.delta_meaning.specs.KnownTypes.{names_known};
 ghost use Rattle.delta_meaning.specs.SourceMeaning.{is_name, is_name_head, head_type};
 ghost use Rattle.delta_meaning.specs.Evaluated.{is_left, run_of, first_type, other_types};
-ghost use Rattle.delta_meaning.specs.Scope.{types_in, types_listed, streams_in, past_in};
+ghost use Rattle.delta_meaning.specs.Scope.{types_in, streams_in, past_in};
 ghost use Rattle.delta_meaning.specs.Functions.{functions_at};
 
 use crate::evaluated::{Evaluated, quiet};
-use crate::functions::{Place, function_named, leaves};
+use crate::functions::{Place, function_named};
 use crate::refusal::Stop;
 use crate::scope::{Scope, stream_at, type_at, value_in};
 use crate::types::type_meant;
 use bunch::Name;
+use core_term::params::leaves;
+use core_term::stars::over_star;
 use delta_tree::{Exp, Form, Head, HeadForm, Hist};
 use hist_value::{Value, full, value_of};
 use std::alloc::Global;
-use stream_prefix::{Prefix, StarEnd, empty, maximal};
+use stream_prefix::{Prefix, empty, maximal};
 use stream_type::{Memory, Ty};
 
 /// The parameters of a function, or none of one that isn't there. Its only error is want of memory.
@@ -74,11 +77,10 @@ pub fn name_run(alloc: Global, scope: &Scope<'_>, x: Name) -> Result<Evaluated, 
 }
 
 /// The star that is over, as a run without a call.
-#[tactic(auto, using(crate::proofs::StarForms::star_forms))]
 pub fn nil_run(alloc: Global) -> Evaluated
     ensures { run_of result ≡ quiet star_done }
 {
-    quiet(Prefix::Star(Vec::new(alloc), StarEnd::Done))
+    quiet(over_star(alloc))
 }
 
 /// Nothing of a type, as a run without a call. Its only error is want of memory.

@@ -15,12 +15,13 @@ ghost use Rattle.delta_meaning.specs.Functions.{body_of, body_at};
 
 use crate::evaluated::Evaluated;
 use crate::evaluation::evaluate;
-use crate::functions::{Function, Place, leaves};
+use crate::functions::{Function, Place};
 use crate::refusal::{EvalRefusal, Stop};
 use crate::scope::Scope;
 use crate::splitting::parts;
 use crate::types::{boxed_params, boxed_type, params_meant, past_meant, type_meant};
 use bunch::{Bunch, Name};
+use core_term::params::leaves;
 use delta_tree::{Decl, Exp, Fun, Program};
 use std::alloc::Global;
 use stream_prefix::Prefix;

@@ -11,8 +11,9 @@ ghost use Rattle.hist_value.specs.Evaluate.{value};
 ghost use Rattle.delta_tree.specs.Tree.{hist_of};
 ghost use Rattle.core_term.specs.Environment.{by_side};
 ghost use Rattle.core_term.specs.Meaning.{no_past};
+ghost use Rattle.core_term.specs.Params.{names_in, types_listed};
 ghost use Rattle.delta_meaning.specs.SourceMeaning.{written_values};
-ghost use Rattle.delta_meaning.specs.Scope.{names_in, types_listed, entry_of, types_in, streams_in, past_in};
+ghost use Rattle.delta_meaning.specs.Scope.{entry_of, types_in, streams_in, past_in};
 
 use bunch::Name;
 use delta_tree::Hist;

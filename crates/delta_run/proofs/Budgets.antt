@@ -1,21 +1,22 @@
 -- The budgets of runs and of evaluations are small, and so is a load.
-use Rattle.std.proofs.Common.{◌≡◌, ℕ, ◌≤◌, ◌<◌, ◌^◌, Bool, true, false, ◌&&◌, List, [], ◌∷◌, Option, Some, None, refl, subst, arith, if◌then◌else◌}
+use Rattle.std.proofs.Common.{◌≡◌, ℕ, ◌≤◌, ◌<◌, ◌^◌, Bool, true, false, ◌&&◌, List, [], ◌∷◌, length, Option, Some, None, refl, subst, arith, if◌then◌else◌}
 use Rattle.std.specs.Prelude.{IfSome, option_and_then, option_map, nat_le}
 use Rattle.std.specs.Str.Parse.{digits_value}
 use Rattle.std.proofs.lemmas.Bool.{leb-true}
 use Rattle.delta_words.specs.declared.task.Version.{Version}
 use Rattle.delta_words.specs.declared.command.Command.{Command}
-use Rattle.delta_words.specs.declared.command.Command.TheVariants.{Run, Eval, Check, Print, Text, Gen, Bound, Derive}
-use Rattle.delta_words.specs.Numbers.{has_digits, number_within}
+use Rattle.delta_words.specs.declared.command.Command.TheVariants.{Run, Eval, Check, Print, Text, Gen, Bound, Derive, Feed}
+use Rattle.delta_words.specs.Numbers.{has_digits, number_within, schedule_of}
 use Rattle.delta_words.specs.Commands.{command_of, takes_of}
 use Rattle.delta_words.specs.CommandLine.{WrittenLine, line_of}
-use Rattle.delta_words.specs.CommandTask.{CommandTask, run, eval, check, print, text, frames, gen, bound, derive, budget_of, file_of, version_of, file_and_budget, start_and_items, two_files, task_of_line, task_of_command, task_of}
+use Rattle.delta_words.specs.CommandTask.{CommandTask, run, eval, check, print, text, frames, gen, bound, derive, feed, budget_of, file_of, version_of, file_and_budget, start_and_items, two_files, feed_of, task_of_line, task_of_command, task_of}
 
--- a run has a budget of at most 1,000,000, an evaluation one of at most 10,000; a load begins at 999,999 at most, and has at most
+-- a run and a feeding of tables have a budget of at most 1,000,000, an evaluation one of at most 10,000; a load begins at 999,999 at most, and has at most
 -- 10,000,000 items
 abbrev IsSmall : Option CommandTask → Type 0
 IsSmall (Some (eval file budget v)) = budget ≤ 10000
 IsSmall (Some (run file budget v)) = budget ≤ 1000000
+IsSmall (Some (feed file schedule names budget)) = budget ≤ 1000000
 IsSmall (Some (gen start items)) = (start ≤ 999999) × (items ≤ 10000000)
 IsSmall o = Unit {0}
 
@@ -87,6 +88,16 @@ gens (a ∷ b ∷ []) = go (number_within 8 999999 a) (small_number 8 999999 a)
     go (Some n) h = inside n h (number_within 8 10000000 b) (small_number 8 10000000 b)
 gens (a ∷ b ∷ c ∷ words) = tt
 
+feeds : (operands : List (List ℕ)) (o : Option ℕ) → IfSome o (λ n. n ≤ 1000000) → IsSmall (feed_of operands o)
+feeds [] o h = tt
+feeds (file ∷ []) o h = tt
+feeds (file ∷ schedule ∷ tables) None h = tt
+feeds (file ∷ schedule ∷ tables) (Some budget) h = go (schedule_of (length tables) schedule)
+  where
+    go : (o : Option (List ℕ)) → IsSmall (option_map (λ numbers. feed file numbers tables budget) o)
+    go None = tt
+    go (Some numbers) = h
+
 of_line : (c : Command) (line : WrittenLine) → IsSmall (task_of_line c line)
 of_line Run line = runs line
 of_line Eval line = evals line
@@ -96,6 +107,7 @@ of_line Text line = texts (version_of line.v2) line.frames line.v2
 of_line Gen line = gens line.operands
 of_line Bound line = bounds (file_of line.operands)
 of_line Derive line = derivations line.operands
+of_line Feed line = feeds line.operands (budget_of 1000000 1000000 line.budget) (budget_is_small 1000000 1000000 (omega arith) line.budget)
 
 of_command : (words : List (List ℕ)) (c : Command) → IsSmall (task_of_command words c)
 of_command words c = go (line_of (takes_of c) words)
@@ -118,6 +130,9 @@ eval_is_small words file budget v e =
 
 pub run_is_small : (words : List (List ℕ)) (file : List ℕ) (budget : ℕ) (v : Version) → task_of words ≡ Some (run file budget v) → budget ≤ 1000000
 run_is_small words file budget v e = subst IsSmall e (of_words words)
+
+pub feed_is_small : (words : List (List ℕ)) (file schedule : List ℕ) (names : List (List ℕ)) (budget : ℕ) → task_of words ≡ Some (feed file schedule names budget) → budget ≤ 1000000
+feed_is_small words file schedule names budget e = subst IsSmall e (of_words words)
 
 pub load_is_small : (words : List (List ℕ)) (start items : ℕ) → task_of words ≡ Some (gen start items) → (start ≤ 999999) × (items ≤ 10000000)
 load_is_small words start items e = subst IsSmall e (of_words words)

@@ -1,7 +1,7 @@
 -- A command line asks for one thing.
 use Rattle.std.proofs.Common.{◌≡◌, ◌∙◌, ℕ, List, Option, Some, None, sym}
 use Rattle.delta_words.specs.declared.task.Version.{Version}
-use Rattle.delta_words.specs.CommandTask.{CommandTask, run, eval, check, print, gen, bound, derive}
+use Rattle.delta_words.specs.CommandTask.{CommandTask, run, eval, check, print, gen, bound, derive, feed}
 
 -- two runs that it asks for are of one file, with one budget and in one version
 pub same_run : (f g : List ℕ) (b c : ℕ) (v w : Version) → Some (run f b v) ≡ Some (run g c w) → (f ≡ g) × (b ≡ c) × (v ≡ w)
@@ -30,6 +30,10 @@ same_bound f g e = cc
 -- and one program with one derivation
 pub same_derive : (f g p q : List ℕ) → Some (derive f p) ≡ Some (derive g q) → (f ≡ g) × (p ≡ q)
 same_derive f g p q e = (cc, cc)
+
+-- and one program that is fed one list of tables in one order, with one budget
+pub same_feed : (f g s r : List ℕ) (n m : List (List ℕ)) (b c : ℕ) → Some (feed f s n b) ≡ Some (feed g r m c) → (f ≡ g) × (s ≡ r) × (n ≡ m) × (b ≡ c)
+same_feed f g s r n m b c e = (cc, cc, cc, cc)
 
 -- words that ask for something are a command line
 pub asks_something : {o : Option CommandTask} {task : CommandTask} → o ≡ None → o ≡ Some task → ⊥

@@ -12,5 +12,6 @@ pub mod Budgets
 pub mod Checked
 pub mod Bounded
 pub mod Derived
+pub mod Fed
 pub mod Evaluated
 pub mod Owing

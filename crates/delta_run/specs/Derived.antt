@@ -3,7 +3,7 @@ use Rattle.std.specs.Prelude.{◌≡◌, ◌⊎◌, ℕ, List}
 use Rattle.delta_end.specs.declared.end.End.{End}
 use Rattle.delta_end.specs.declared.end.End.TheVariants.{FileFailed}
 use Rattle.delta_end.specs.declared.objection.DerivationName.{DerivationName}
-use Rattle.delta_end.specs.declared.refusal.Refusal.{Refusal}
+use Rattle.program_refusal.specs.declared.refusal.Refusal.{Refusal}
 use Rattle.checked_program.specs.Acceptance.{IsUnelaborated}
 use Rattle.command_derive.specs.Deriving.{IsDerived, IsUnderived, Derives}
 

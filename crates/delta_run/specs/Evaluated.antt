@@ -8,7 +8,7 @@ use Rattle.delta_tree.specs.SyntaxTree.{ProgramTree}
 use Rattle.core_term.specs.CoreTerm.{CoreProgram}
 use Rattle.delta_end.specs.declared.end.End.{End}
 use Rattle.delta_end.specs.declared.end.End.TheVariants.{Refused, FileFailed, Memory}
-use Rattle.delta_end.specs.declared.refusal.Refusal.{Refusal}
+use Rattle.program_refusal.specs.declared.refusal.Refusal.{Refusal}
 use Rattle.delta_loop.specs.Answer.{Adds, IsGood}
 use Rattle.delta_loop.specs.Prompt.{IsPrompt, has_ended}
 use Rattle.checked_program.specs.Acceptance.{IsWritable, IsRefusedToWrite}

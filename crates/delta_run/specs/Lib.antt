@@ -10,6 +10,7 @@ pub mod Generated
 pub mod Checked
 pub mod Bounded
 pub mod Derived
+pub mod Fed
 pub mod Evaluated
 pub mod Outside
 pub mod Ends
@@ -20,5 +21,6 @@ pub mod Prints
 pub mod Gens
 pub mod Bounds
 pub mod Derivations
+pub mod Feeds
 pub mod Lines
 pub mod Owes

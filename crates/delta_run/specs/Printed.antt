@@ -5,7 +5,7 @@ use Rattle.port.specs.Moves.{bytes_read, bytes_written}
 use Rattle.delta_tree.specs.SyntaxTree.{ProgramTree}
 use Rattle.delta_end.specs.declared.end.End.{End}
 use Rattle.delta_end.specs.declared.end.End.TheVariants.{FileFailed}
-use Rattle.delta_end.specs.declared.refusal.Refusal.{Refusal}
+use Rattle.program_refusal.specs.declared.refusal.Refusal.{Refusal}
 use Rattle.program_text.specs.ProgramText.{IsTextOf, IsRefusedFor}
 use Rattle.delta_loop.specs.Answer.{Adds}
 use Rattle.delta_loop.specs.History.{Writes}

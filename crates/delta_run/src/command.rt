@@ -1,9 +1,9 @@
 //! Does what a command line asks for.
 
-ghost use Rattle.std.specs.Prelude.{◌≡◌, ◌≢◌, ◌⊎◌, ◌<◌, ◌≤◌, ◌^◌, [], List, ℕ, Some, None, true, length};
+ghost use Rattle.std.specs.Prelude.{◌≡◌, ◌≢◌, ◌⊎◌, ◌<◌, ◌≤◌, ◌^◌, [], List, ℕ, Some, None, true, length, map, string_bytes};
 ghost use Rattle.delta_end.specs.declared.end.End.{End};
 ghost use Rattle.delta_words.specs.declared.task.Version.{Version as WrittenVersion};
-ghost use Rattle.delta_words.specs.CommandTask.{run, eval, check, print, text, frames, gen, bound, derive};
+ghost use Rattle.delta_words.specs.CommandTask.{run, eval, check, print, text, frames, gen, bound, derive, feed};
 ghost use Rattle.command_text.specs.Conversion.{frames_of_lines, Ran as Converted};
 ghost use Rattle.command_text.specs.Lines.{lines_of_frames};
 ghost use Rattle.delta_loop.specs.Loop.{Ran as Lined};
@@ -12,6 +12,7 @@ ghost use Rattle.delta_run.specs.Generated.{GeneratedLine};
 ghost use Rattle.delta_run.specs.Checked.{ChecksText};
 ghost use Rattle.delta_run.specs.Bounded.{BoundedText};
 ghost use Rattle.delta_run.specs.Derived.{DerivesText};
+ghost use Rattle.delta_run.specs.Fed.{FedText};
 ghost use Rattle.delta_run.specs.Evaluated.{EvaluatedText};
 ghost use Rattle.delta_run.specs.CommandLine.{Asks, AskNothing, frames_of};
 ghost use Rattle.delta_end.specs.End.{FileCause, ReadCause, WriteCause};
@@ -23,6 +24,7 @@ use command_bound::bound_source;
 use command_check::check_source;
 use command_derive::{core_of_text, derive_core};
 use command_eval::eval_source;
+use command_feed::feed_source;
 use command_gen::gen_load;
 use command_print::print_source;
 use command_run::run_source;
@@ -136,6 +138,33 @@ fn derive_file<S: Shelf>(alloc: Global, file: &str, proof: &str, shelf: &mut S) 
     }
 }
 
+// Feeds the tables in files to the program of a file.
+fn feed_file<M: Machine, S: Shelf, L: Link>(
+    alloc: Global,
+    file: &str,
+    schedule: &[u32],
+    tables: &[String],
+    budget: u64,
+    shelf: &mut S,
+    link: &mut L,
+) -> End
+    requires { budget ≤ 1000000 }
+    ensures fed { OfFile (S.holds shelf.old) file.now (λ text. FedText (S.holds shelf.old) text schedule.now (map string_bytes tables.now) budget (L.log link.old) (L.log link.new) result) }
+    ensures reads { Adds (L.log link.old) (L.log link.new) (ReadsWell result) }
+    ensures feeds { result ≢ End.Usage }
+    ensures unread { L.left link.new ≡ L.left link.old }
+    ensures held { S.holds shelf.new ≡ S.holds shelf.old }
+    ensures file { FileCause result (S.faults shelf.old) (S.faults shelf.new) }
+    ensures read { ReadCause result (L.read_faults link.old) (L.read_faults link.new) }
+    ensures write { WriteCause result (L.write_faults link.old) (L.write_faults link.new) }
+{
+    match shelf.read(file) {
+        Ok(text) => feed_source::<M, S, L>(alloc, &text, schedule, tables, budget, shelf, link),
+        Err(IoFault::Memory) => End::Memory,
+        Err(IoFault::Failed) => End::FileFailed,
+    }
+}
+
 // Evaluates the program of a file over a link.
 fn eval_file<S: Shelf, L: Link>(
     alloc: Global,
@@ -200,6 +229,9 @@ pub fn run_command<M: Machine, S: Shelf, L: Link>(
     ensures derived { (file proof : List ℕ) → Asks words.now (derive file proof)
         → OfFile (S.holds shelf.old) file (λ text. OfFile (S.holds shelf.old) proof (λ steps. DerivesText text steps result)) }
     ensures derivation { (file proof : List ℕ) → Asks words.now (derive file proof) → IsUntouched (L.log link.old) (L.log link.new) (L.left link.old) (L.left link.new) }
+    ensures fed { (file schedule : List ℕ) (names : List (List ℕ)) (budget : ℕ) → Asks words.now (feed file schedule names budget)
+        → OfFile (S.holds shelf.old) file (λ text. FedText (S.holds shelf.old) text schedule names budget (L.log link.old) (L.log link.new) result) }
+    ensures feeding { (file schedule : List ℕ) (names : List (List ℕ)) (budget : ℕ) → Asks words.now (feed file schedule names budget) → L.left link.new ≡ L.left link.old }
     ensures generating { (start items : ℕ) → Asks words.now (gen start items) → L.left link.new ≡ L.left link.old }
     ensures held { S.holds shelf.new ≡ S.holds shelf.old }
     ensures file { FileCause result (S.faults shelf.old) (S.faults shelf.new) }
@@ -219,6 +251,9 @@ pub fn run_command<M: Machine, S: Shelf, L: Link>(
         }
         Ok(Task::Bound(file)) => bound_file(alloc, &file, shelf, link),
         Ok(Task::Derive(file, proof)) => derive_file(alloc, &file, &proof, shelf),
+        Ok(Task::Feed(file, schedule, tables, budget)) => {
+            feed_file::<M, S, L>(alloc, &file, &schedule, &tables, budget, shelf, link)
+        }
         Ok(Task::Gen(start, items)) => gen_load::<M, L>(alloc, start, items, link),
         Err(WordsFault::Usage) => End::Usage,
         Err(WordsFault::Memory) => End::Memory,

@@ -20,10 +20,10 @@ use std::alloc::Global;
 /// the input ended and its type is finished, 2 where the words are no command line, 3 where the
 /// program is refused, 4 where the input is, 5 where the program makes more calls than its budget allows or
 /// one at too great a level, 6 where the input's type awaits more at its end, 7 at a fault outside, 8 for
-/// want of memory, 9 for more than 2^40 input bytes, 11 where a derivation is refused, and 12 where the
-/// program has no bound. The words are those after the program's name. The last thing that is written is the
-/// note, a line to the sink that says how the run ended (`note_of` of `specs/Note.antt`). Programs run on the
-/// machine M.
+/// want of memory, 9 for more than 2^40 input bytes, 11 where a derivation is refused, 12 where the program
+/// has no bound, and 13 where it doesn't take the tables. The words are those after the program's name. The
+/// last thing that is written is the note, a line to the sink that says how the run ended (`note_of` of
+/// `specs/Note.antt`). Programs run on the machine M.
 pub fn delta<M: Machine, S: Shelf, L: Link, N: Sink>(
     alloc: Global,
     words: &[String],
@@ -36,8 +36,8 @@ pub fn delta<M: Machine, S: Shelf, L: Link, N: Sink>(
     ensures command { AskNothing words.now → (result ≡ 2) ⊎ (result ≡ 8) }
     ensures untouched { AskNothing words.now → IsUntouched (L.log link.old) (L.log link.new) (L.left link.old) (L.left link.new) }
     // One end stands behind the status, and shows in the counts and the note (`Ends`). To a command line that asks for a
-    // task all is owed that `Owes` says of it: `Runs`, `Evals`, `Checks`, `Prints`, `Gens`, `Bounds`, `Derivations`, `WritesFrames` and
-    // `WritesLines`, each a record of promises.
+    // task all is owed that `Owes` says of it: `Runs`, `Evals`, `Checks`, `Prints`, `Gens`, `Bounds`, `Derivations`, `Feeds`,
+    // `WritesFrames` and `WritesLines`, each a record of promises.
     ensures owed { (end : End)
         × Ends (seen S.holds S.faults L.log L.left L.read_faults L.write_faults N.told N.faults shelf.old link.old notes.old)
         (seen S.holds S.faults L.log L.left L.read_faults L.write_faults N.told N.faults shelf.new link.new notes.new) end result

@@ -1,5 +1,5 @@
 -- What clap's subcommand of each command knows.
-use Rattle.std.proofs.Common.{◌≡◌, ◌<◌, ◌≤◌, List, [], ◌∷◌, Bool, true, false, ◌||◌, cond, refl, codes, Some, arith, ap, ◌∙◌}
+use Rattle.std.proofs.Common.{◌≡◌, ◌<◌, List, [], ◌∷◌, Bool, true, false, ◌||◌, cond, refl, codes, Some, arith, ap, ◌∙◌}
 use Rattle.clap.specs.Faults.{check_fault, default_fault, defaults_fault, given_default_fault}
 use Rattle.clap.specs.Takes.{is_given}
 use Rattle.clap.specs.Kinds.{or_else}
@@ -7,10 +7,10 @@ use Rattle.clap.specs.Simple.{filled, with_index, built_leaf, inherited}
 use Rattle.clap.specs.Walk.{Row, Rule, Text, arg_by_id, arg_by_index, arg_by_long, has_row, with_default}
 use Rattle.clap.specs.Words.{Shape}
 use Rattle.delta_words.specs.declared.command.Command.{Command}
-use Rattle.delta_words.specs.declared.command.Command.TheVariants.{Run, Eval, Check, Print, Text as TextCommand, Gen, Bound, Derive}
+use Rattle.delta_words.specs.declared.command.Command.TheVariants.{Run, Eval, Check, Print, Text as TextCommand, Gen, Bound, Derive, Feed}
 use Rattle.delta_words.specs.declared.command.Takes.{Takes}
 use Rattle.delta_words.specs.Commands.{takes_of}
-use Rattle.delta_words.specs.ClapCommand.{operand_rule, budget_rule, flag_rule, leaf_app, delta_top}
+use Rattle.delta_words.specs.ClapCommand.{operand_rule, rest_rule as several_rule, budget_rule, flag_rule, with_rule_if, leaf_app, delta_top}
 
 -- the arguments once clap has filled in what they leave out
 abbrev pub first_rule : Rule
@@ -18,6 +18,9 @@ first_rule = with_index 1 (filled (operand_rule (codes "FIRST")))
 
 abbrev pub second_rule : Rule
 second_rule = with_index 2 (filled (operand_rule (codes "SECOND")))
+
+abbrev pub rest_rule : Rule
+rest_rule = with_index 3 (filled (several_rule (codes "REST")))
 
 abbrev pub valued_rule : Rule
 valued_rule = with_index 3 (filled (budget_rule (codes "budget")))
@@ -38,6 +41,7 @@ name_of TextCommand = codes "text"
 name_of Gen = codes "gen"
 name_of Bound = codes "bound"
 name_of Derive = codes "derive"
+name_of Feed = codes "feed"
 
 -- a subcommand once it is built
 unfoldable pub leaf_of : Command → Shape
@@ -46,18 +50,22 @@ leaf_of c = built_leaf (inherited delta_top.top (leaf_app (name_of c) (takes_of 
 -- a subcommand that takes so much finds each argument, by its place and its names, and asks for the operands
 pub record Knows (s : Shape) (t : Takes) : Type 0 where
   pub again : s.args_override_self ≡ false
-  pub few : t.operands ≤ 2
+  pub some : 0 < t.most → 0 < t.operands
+  pub both : 1 < t.most → 1 < t.operands
+  pub several : 2 < t.most → 2 < t.operands
   pub index_first : 0 < t.operands → arg_by_index s.rules 1 ≡ Some first_rule
   pub index_second : 1 < t.operands → arg_by_index s.rules 2 ≡ Some second_rule
+  pub index_rest : 2 < t.operands → arg_by_index s.rules 3 ≡ Some rest_rule
   pub id_first : 0 < t.operands → arg_by_id s.rules (codes "FIRST") ≡ Some first_rule
   pub id_second : 1 < t.operands → arg_by_id s.rules (codes "SECOND") ≡ Some second_rule
+  pub id_rest : 2 < t.operands → arg_by_id s.rules (codes "REST") ≡ Some rest_rule
   pub id_budget : t.budget ≡ true → arg_by_id s.rules (codes "budget") ≡ Some valued_rule
   pub long_budget : t.budget ≡ true → arg_by_long s.rules (codes "budget") ≡ Some valued_rule
   pub long_v2 : t.v2 ≡ true → arg_by_long s.rules (codes "v2") ≡ Some v2_rule
   pub long_frames : t.frames ≡ true → arg_by_long s.rules (codes "frames") ≡ Some frames_rule
   pub defaults : (rows : List Row) → defaults_fault rows s.rules ≡ []
   pub asks : (rows : List Row) → (0 < t.operands → is_given (codes "FIRST") rows ≡ true) → (1 < t.operands → is_given (codes "SECOND") rows ≡ true)
-      → check_fault s rows false ≡ []
+      → (2 < t.operands → is_given (codes "REST") rows ≡ true) → check_fault s rows false ≡ []
 
 -- an argument whose default passes, whatever the rows are
 abbrev Passes : Rule → Type 0
@@ -74,6 +82,13 @@ second_passes : Passes second_rule
 second_passes rows = go (has_row (codes "SECOND") rows)
   where
     go : (b : Bool) → cond (b || true) [] (given_default_fault second_rule []) ≡ []
+    go true = refl
+    go false = refl
+
+rest_passes : Passes rest_rule
+rest_passes rows = go (has_row (codes "REST") rows)
+  where
+    go : (b : Bool) → cond (b || true) [] (given_default_fault rest_rule []) ≡ []
     go true = refl
     go false = refl
 
@@ -119,118 +134,172 @@ text_defaults = one_more v2_rule _ v2_passes (one_more frames_rule _ frames_pass
 gen_defaults : (rows : List Row) → defaults_fault rows (first_rule ∷ second_rule ∷ []) ≡ []
 gen_defaults = one_more first_rule _ first_passes (one_more second_rule _ second_passes no_defaults)
 
+feed_defaults : (rows : List Row) → defaults_fault rows (first_rule ∷ second_rule ∷ rest_rule ∷ valued_rule ∷ []) ≡ []
+feed_defaults =
+    one_more first_rule _ first_passes (one_more second_rule _ second_passes (one_more rest_rule _ rest_passes (one_more valued_rule _ valued_passes no_defaults)))
+
 -- the parts of what a subcommand with one operand and the options of `run` knows
 pub knows : (c : Command) → Knows (leaf_of c) (takes_of c)
-unfolding leaf_of
+unfolding leaf_of with_rule_if
 knows Run = record {
   again = refl;
-  few = omega arith;
+  some = λ h. omega (arith, h);
+  both = λ h. omega (arith, h);
+  several = λ h. omega (arith, h);
   index_first = λ _. refl;
   index_second = λ h. absurd (omega arith);
+  index_rest = λ h. absurd (omega arith);
   id_first = λ _. refl;
   id_second = λ h. absurd (omega arith);
+  id_rest = λ h. absurd (omega arith);
   id_budget = λ _. refl;
   long_budget = λ _. refl;
   long_v2 = λ _. refl;
   long_frames = λ h. cc;
   defaults = run_defaults;
-  asks = λ rows first second. (let f = first (omega arith) in simp f);
+  asks = λ rows first second rest. (let f = first (omega arith) in simp f);
 }
 knows Eval = record {
   again = refl;
-  few = omega arith;
+  some = λ h. omega (arith, h);
+  both = λ h. omega (arith, h);
+  several = λ h. omega (arith, h);
   index_first = λ _. refl;
   index_second = λ h. absurd (omega arith);
+  index_rest = λ h. absurd (omega arith);
   id_first = λ _. refl;
   id_second = λ h. absurd (omega arith);
+  id_rest = λ h. absurd (omega arith);
   id_budget = λ _. refl;
   long_budget = λ _. refl;
   long_v2 = λ _. refl;
   long_frames = λ h. cc;
   defaults = run_defaults;
-  asks = λ rows first second. (let f = first (omega arith) in simp f);
+  asks = λ rows first second rest. (let f = first (omega arith) in simp f);
 }
 knows Check = record {
   again = refl;
-  few = omega arith;
+  some = λ h. omega (arith, h);
+  both = λ h. omega (arith, h);
+  several = λ h. omega (arith, h);
   index_first = λ _. refl;
   index_second = λ h. absurd (omega arith);
+  index_rest = λ h. absurd (omega arith);
   id_first = λ _. refl;
   id_second = λ h. absurd (omega arith);
+  id_rest = λ h. absurd (omega arith);
   id_budget = λ h. cc;
   long_budget = λ h. cc;
   long_v2 = λ h. cc;
   long_frames = λ h. cc;
   defaults = check_defaults;
-  asks = λ rows first second. (let f = first (omega arith) in simp f);
+  asks = λ rows first second rest. (let f = first (omega arith) in simp f);
 }
 knows Print = record {
   again = refl;
-  few = omega arith;
+  some = λ h. omega (arith, h);
+  both = λ h. omega (arith, h);
+  several = λ h. omega (arith, h);
   index_first = λ _. refl;
   index_second = λ h. absurd (omega arith);
+  index_rest = λ h. absurd (omega arith);
   id_first = λ _. refl;
   id_second = λ h. absurd (omega arith);
+  id_rest = λ h. absurd (omega arith);
   id_budget = λ h. cc;
   long_budget = λ h. cc;
   long_v2 = λ h. cc;
   long_frames = λ h. cc;
   defaults = check_defaults;
-  asks = λ rows first second. (let f = first (omega arith) in simp f);
+  asks = λ rows first second rest. (let f = first (omega arith) in simp f);
 }
 knows TextCommand = record {
   again = refl;
-  few = omega arith;
+  some = λ h. omega (arith, h);
+  both = λ h. omega (arith, h);
+  several = λ h. omega (arith, h);
   index_first = λ h. absurd (omega arith);
   index_second = λ h. absurd (omega arith);
+  index_rest = λ h. absurd (omega arith);
   id_first = λ h. absurd (omega arith);
   id_second = λ h. absurd (omega arith);
+  id_rest = λ h. absurd (omega arith);
   id_budget = λ h. cc;
   long_budget = λ h. cc;
   long_v2 = λ _. refl;
   long_frames = λ _. refl;
   defaults = text_defaults;
-  asks = λ rows first second. refl;
+  asks = λ rows first second rest. refl;
 }
 knows Gen = record {
   again = refl;
-  few = omega arith;
+  some = λ h. omega (arith, h);
+  both = λ h. omega (arith, h);
+  several = λ h. omega (arith, h);
   index_first = λ _. refl;
   index_second = λ _. refl;
+  index_rest = λ h. absurd (omega arith);
   id_first = λ _. refl;
   id_second = λ _. refl;
+  id_rest = λ h. absurd (omega arith);
   id_budget = λ h. cc;
   long_budget = λ h. cc;
   long_v2 = λ h. cc;
   long_frames = λ h. cc;
   defaults = gen_defaults;
-  asks = λ rows first second. (let f = first (omega arith) in let g = second (omega arith) in simp (f, g));
+  asks = λ rows first second rest. (let f = first (omega arith) in let g = second (omega arith) in simp (f, g));
 }
 knows Bound = record {
   again = refl;
-  few = omega arith;
+  some = λ h. omega (arith, h);
+  both = λ h. omega (arith, h);
+  several = λ h. omega (arith, h);
   index_first = λ _. refl;
   index_second = λ h. absurd (omega arith);
+  index_rest = λ h. absurd (omega arith);
   id_first = λ _. refl;
   id_second = λ h. absurd (omega arith);
+  id_rest = λ h. absurd (omega arith);
   id_budget = λ h. cc;
   long_budget = λ h. cc;
   long_v2 = λ h. cc;
   long_frames = λ h. cc;
   defaults = check_defaults;
-  asks = λ rows first second. (let f = first (omega arith) in simp f);
+  asks = λ rows first second rest. (let f = first (omega arith) in simp f);
 }
 knows Derive = record {
   again = refl;
-  few = omega arith;
+  some = λ h. omega (arith, h);
+  both = λ h. omega (arith, h);
+  several = λ h. omega (arith, h);
   index_first = λ _. refl;
   index_second = λ _. refl;
+  index_rest = λ h. absurd (omega arith);
   id_first = λ _. refl;
   id_second = λ _. refl;
+  id_rest = λ h. absurd (omega arith);
   id_budget = λ h. cc;
   long_budget = λ h. cc;
   long_v2 = λ h. cc;
   long_frames = λ h. cc;
   defaults = gen_defaults;
-  asks = λ rows first second. (let f = first (omega arith) in let g = second (omega arith) in simp (f, g));
+  asks = λ rows first second rest. (let f = first (omega arith) in let g = second (omega arith) in simp (f, g));
+}
+knows Feed = record {
+  again = refl;
+  some = λ h. omega arith;
+  both = λ h. omega arith;
+  several = λ h. omega arith;
+  index_first = λ _. refl;
+  index_second = λ _. refl;
+  index_rest = λ _. refl;
+  id_first = λ _. refl;
+  id_second = λ _. refl;
+  id_rest = λ _. refl;
+  id_budget = λ _. refl;
+  long_budget = λ _. refl;
+  long_v2 = λ h. cc;
+  long_frames = λ h. cc;
+  defaults = feed_defaults;
+  asks = λ rows first second rest. (let f = first (omega arith) in let g = second (omega arith) in let r = rest (omega arith) in simp (f, g, r));
 }

@@ -1,13 +1,27 @@
 -- The rows of clap's matches.
-use Rattle.std.proofs.Common.{◌≡◌, List, [], ◌∷◌, ◌++◌, Bool, true, false, ◌||◌, cond, refl, sym, ap, ◌∙◌, Option, Some, None, is_some, find, fold}
+use Rattle.std.proofs.Common.{◌≡◌, ℕ, List, [], ◌∷◌, ◌++◌, Bool, true, false, ◌||◌, ◌&&◌, ◌==◌, cond, refl, sym, ap, ap₂, ◌∙◌, Option, Some, None, is_some, find, fold}
 use Rattle.std.specs.Str.{bytes_eq}
 use Rattle.std.specs.Option.{option_map_or}
+use Rattle.std.proofs.lemmas.Bool.{eqb-true}
 use Rattle.clap.specs.Facts.{explicit_source}
 use Rattle.clap.specs.Takes.{is_given}
-use Rattle.clap.specs.Walk.{Row, Rule, Text, has_row, with_values, without, with_default, default_rows, reading_by}
+use Rattle.clap.specs.Walk.{Row, Rule, Text, has_row, with_values, stronger, without, with_default, default_rows, reading_by}
 use Rattle.clap.specs.declared.parser.matches.ValueSource.{ValueSource}
 use Rattle.clap.specs.declared.parser.matches.ValueSource.TheVariants.{DefaultValue, CommandLine}
 use Rattle.clap.specs.declared.builder.value_parser.Reading.{Reading}
+
+pub and_true : (a b : Bool) → (a && b) ≡ true → (a ≡ true) × (b ≡ true)
+and_true true b e = (refl, e)
+and_true false b e = cc
+
+-- texts that are equal byte by byte
+pub same_bytes : (a b : List ℕ) → bytes_eq a b ≡ true → a ≡ b
+same_bytes [] [] e = refl
+same_bytes [] (y ∷ b) e = cc
+same_bytes (x ∷ a) [] e = cc
+same_bytes (x ∷ a) (y ∷ b) e =
+    let h = and_true (x == y) (bytes_eq a b) e in
+    ap₂ (λ (k : ℕ) (r : List ℕ). k ∷ r) (eqb-true x y h.0) (same_bytes a b h.1)
 
 -- the first row of an id
 abbrev pub found : Text → List Row → Option Row
@@ -50,6 +64,34 @@ with_values-new id how source values (r ∷ rows) h = go (λ k. with_values-new 
         → with_values id how source values (r ∷ rows) ≡ (r ∷ rows) ++ row_of id how source values ∷ []
     go more true e k = cc
     go more false e k = rw e (ap (λ (rest : List Row). r ∷ rest) (more k))
+
+-- values of an id are none of another
+pub with_values-other : (id other : Text) (how : Reading) (source : ValueSource) (values : List Text) (rows : List Row) → bytes_eq id other ≡ false
+    → found other (with_values id how source values rows) ≡ found other rows
+with_values-other id other how source values [] apart = rw apart refl
+with_values-other id other how source values (r ∷ rows) apart = go (with_values-other id other how source values rows apart) (bytes_eq r.id id) refl
+  where
+    go : found other (with_values id how source values rows) ≡ found other rows → (b : Bool) → bytes_eq r.id id ≡ b → found other (with_values id how source values (r ∷ rows)) ≡ found other (r ∷ rows)
+    go more true e = let i : bytes_eq r.id other ≡ false = ap (λ (x : Text). bytes_eq x other) (same_bytes r.id id e) ∙ apart in (rw (e, i) refl)
+    go more false e = rw e (ap (λ (o : Option Row). cond (bytes_eq r.id other) (Some r) o) more)
+
+-- values of an id that has a row stand behind those that it has
+pub with_values-more : (id : Text) (how : Reading) (values more : List Text) (rows : List Row) → found id rows ≡ Some (row_of id how CommandLine values)
+    → found id (with_values id how CommandLine more rows) ≡ Some (row_of id how CommandLine (values ++ more))
+with_values-more id how values more [] h = cc
+with_values-more id how values more (r ∷ rows) h = go (λ k. with_values-more id how values more rows k) (bytes_eq r.id id) refl h
+  where
+    longer : Row → Row
+    longer x = record x { values = x.values ++ more; source = Some (stronger x.source CommandLine) }
+
+    go : (found id rows ≡ Some (row_of id how CommandLine values) → found id (with_values id how CommandLine more rows) ≡ Some (row_of id how CommandLine (values ++ more)))
+        → (b : Bool) → bytes_eq r.id id ≡ b → cond b (Some r) (found id rows) ≡ Some (row_of id how CommandLine values)
+        → found id (with_values id how CommandLine more (r ∷ rows)) ≡ Some (row_of id how CommandLine (values ++ more))
+    go rest true e k =
+        let same : r ≡ row_of id how CommandLine values = cc in
+        let there : found id (with_values id how CommandLine more (r ∷ rows)) ≡ Some (longer r) = (rw (e, e) refl) in
+        there ∙ ap (λ (x : Row). Some (longer x)) same
+    go rest false e k = rw (e, e) (rest k)
 
 -- without an id that has no row, the rows stay
 pub without-new : (id : Text) (rows : List Row) → found id rows ≡ None → without id rows ≡ rows

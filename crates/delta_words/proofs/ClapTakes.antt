@@ -1,28 +1,29 @@
 -- Clap refuses no command line.
-use Rattle.std.proofs.Common.{inl, ◌≡◌, ◌<◌, List, [], ◌∷◌, ◌++◌, length, Bool, true, false, ◌&&◌, ◌==◌, not, cond, refl, sym, ap, ap₂, ◌∙◌, subst, codes, Option, Some, None, is_some, option_map, arith, fold, append-nil, append_assoc}
-use Rattle.std.specs.Prelude.{slice_get, option_and_then}
+use Rattle.std.proofs.Common.{inl, ◌≡◌, ◌<◌, ◌≤◌, List, [], ◌∷◌, ◌++◌, length, Bool, true, false, ◌&&◌, not, cond, refl, sym, ap, ap₂, ◌∙◌, subst, codes, Option, Some, None, is_some, option_map, arith, fold, append-nil, append_assoc}
+use Rattle.std.specs.Prelude.{slice_get, option_and_then, nat_le}
 use Rattle.std.specs.Str.{bytes_eq}
-use Rattle.std.proofs.lemmas.Bool.{eqb-true}
+use Rattle.std.proofs.lemmas.Bool.{leb-true}
 use Rattle.clap.specs.Values.{reading_of}
 use Rattle.clap.specs.Kinds.{Kinds, or_else}
 use Rattle.clap.specs.Takes.{is_given}
 use Rattle.clap.specs.Faults.{settle_fault, defaults_fault, check_fault, turn_fault, walk_fault, level_fault, entered_fault, fault_of}
 use Rattle.clap.specs.Simple.{App, built, entered, names_of}
-use Rattle.clap.specs.Walk.{Held, Names, Row, Rule, Text, Walk, finished, nothing_held, settled, settled_rows, walk, walk_from, walked, with_default}
+use Rattle.clap.specs.Walk.{Held, Names, Row, Rule, Text, Walk, idle, finished, nothing_held, settled, settled_rows, walk, walk_from, walked, with_default}
 use Rattle.clap.specs.Words.{Shape}
 use Rattle.clap.specs.declared.builder.value_parser.ValueParser.TheVariants as vp
+use Rattle.clap.specs.declared.parser.matches.ValueSource.TheVariants.{CommandLine}
 use Rattle.clap.proofs.FaultLemmas.{stopped_fault}
 use Rattle.delta_words.specs.declared.command.Command.{Command}
-use Rattle.delta_words.specs.declared.command.Command.TheVariants.{Run, Eval, Check, Print, Text as TextCommand, Gen, Bound, Derive}
+use Rattle.delta_words.specs.declared.command.Command.TheVariants.{Run, Eval, Check, Print, Text as TextCommand, Gen, Bound, Derive, Feed}
 use Rattle.delta_words.specs.declared.command.Takes.{Takes}
 use Rattle.delta_words.specs.Commands.{command_of, takes_of}
 use Rattle.delta_words.specs.CommandLine.{WrittenLine, no_words, read_rest, whole_line, line_of}
 use Rattle.delta_words.specs.CommandTask.{CommandTask, task_of_line, task_of_command, task_of}
-use Rattle.delta_words.specs.ClapCommand.{delta_app}
-use Rattle.delta_words.proofs.ClapRows.{found, given, defaults-found}
+use Rattle.delta_words.specs.ClapCommand.{delta_app, with_rule_if}
+use Rattle.delta_words.proofs.ClapRows.{found, row_of, given, defaults-found, same_bytes, and_true}
 use Rattle.delta_words.proofs.ClapKnows.{Knows, knows, leaf_of, name_of}
-use Rattle.delta_words.proofs.ClapSteps.{Stands, word_row}
-use Rattle.delta_words.proofs.ClapLines.{walks, same_bytes, and_true, not_true}
+use Rattle.delta_words.proofs.ClapSteps.{Stands, word_row, rest_found}
+use Rattle.delta_words.proofs.ClapLines.{walks, not_true}
 
 no_faults : (a b c d : Kinds) → a ≡ [] → b ≡ [] → c ≡ [] → d ≡ [] → or_else a (or_else [] (or_else b (or_else c d))) ≡ []
 no_faults a b c d p q r s = rw (p, q, r, s) refl
@@ -36,19 +37,27 @@ second_operand [] lt = absurd (omega arith)
 second_operand (a ∷ []) lt = absurd (omega arith)
 second_operand (a ∷ b ∷ ops) lt = (b, refl)
 
+later_operands : (ops : List Text) → 2 < length ops → (a : Text) × (more : List Text) × (rest_found ops ≡ Some (row_of (codes "REST") (reading_of vp.String) CommandLine (a ∷ more)))
+later_operands [] lt = absurd (omega arith)
+later_operands (a ∷ []) lt = absurd (omega arith)
+later_operands (a ∷ b ∷ []) lt = absurd (omega arith)
+later_operands (a ∷ b ∷ c ∷ ops) lt = (c, ops, refl)
+
 module _ (s : Shape) (t : Takes) (k : Knows s t) where
   start : Stands s t k (walk_from nothing_held) no_words
   start = record {
     rows = [];
     pending = None;
+    waiting = idle;
+    plain = tt;
     is = refl;
     calm = refl;
-    good = record { settles = refl; holds = record { first = refl; second = refl; budget = refl; v2 = refl; frames = refl } };
+    good = record { settles = refl; holds = record { first = refl; second = refl; rest = refl; budget = refl; v2 = refl; frames = refl } };
     few = omega arith;
   }
 
   -- a subcommand takes a line of its command
-  pub level_takes : (words : List Text) (m : WrittenLine) → read_rest t no_words words ≡ Some m → m.awaits ≡ false → length m.operands ≡ t.operands
+  pub level_takes : (words : List Text) (m : WrittenLine) → read_rest t no_words words ≡ Some m → m.awaits ≡ false → t.operands ≤ length m.operands
       → level_fault s [] nothing_held words false [] ≡ []
   level_takes words m read calm many =
       let w = walks s t k words (walk_from nothing_held) no_words m (inl start) read calm in
@@ -68,8 +77,14 @@ module _ (s : Shape) (t : Takes) (k : Knows s t) where
       let row : found (codes "SECOND") S ≡ Some (word_row (codes "SECOND") op.0) = st.good.holds.second ∙ ap (option_map (word_row (codes "SECOND"))) op.1 in
       subst (P (codes "SECOND")) (sym e)
       (given (codes "SECOND") (reading_of vp.String) (op.0 ∷ []) (fold with_default S s.rules) (defaults-found (codes "SECOND") S s.rules (word_row (codes "SECOND") op.0) row)) in
+      let given_rest : 2 < t.operands → is_given (codes "REST") (finished s.rules end) ≡ true = λ lt.
+      let op = later_operands m.operands (omega arith) in
+      let row : found (codes "REST") S ≡ Some (row_of (codes "REST") (reading_of vp.String) CommandLine (op.0 ∷ op.1)) = st.good.holds.rest ∙ op.2 in
+      subst (P (codes "REST")) (sym e)
+      (given (codes "REST") (reading_of vp.String) (op.0 ∷ op.1) (fold with_default S s.rules)
+      (defaults-found (codes "REST") S s.rules (row_of (codes "REST") (reading_of vp.String) CommandLine (op.0 ∷ op.1)) row)) in
       no_faults _ _ _ _ w.fine ((ap₂ (λ (b : Bool) (x : Held). settle_fault s.rules b x) k.again e) ∙ st.good.settles)
-      (k.defaults (settled s.rules end).rows) (k.asks (finished s.rules end) given_first given_second)
+      (k.defaults (settled s.rules end).rows) (k.asks (finished s.rules end) given_first given_second given_rest)
 
 -- once a subcommand was met, the words after it are its own
 stopped_walk : (c : List Rule) (names : Names) (w : Walk) (p : Text × List Text) (words : List Text)
@@ -96,7 +111,7 @@ record Enters (c : Command) (rest : List Text) : Type 0 where
   ends : faults (record (walk_from nothing_held) { stopped = Some (name_of c, rest) }) [] ≡ or_else (level_fault (leaf_of c) [] nothing_held rest false []) []
 
 enters : (c : Command) (rest : List Text) → Enters c rest
-unfolding leaf_of walked defaults_fault
+unfolding leaf_of with_rule_if walked defaults_fault
 enters Run rest = record { walks_on = refl; turn = refl; ends = refl }
 enters Eval rest = record { walks_on = refl; turn = refl; ends = refl }
 enters Check rest = record { walks_on = refl; turn = refl; ends = refl }
@@ -105,6 +120,7 @@ enters TextCommand rest = record { walks_on = refl; turn = refl; ends = refl }
 enters Gen rest = record { walks_on = refl; turn = refl; ends = refl }
 enters Bound rest = record { walks_on = refl; turn = refl; ends = refl }
 enters Derive rest = record { walks_on = refl; turn = refl; ends = refl }
+enters Feed rest = record { walks_on = refl; turn = refl; ends = refl }
 
 -- a command's name and a line that its subcommand takes
 top_takes : (c : Command) (rest : List Text) → level_fault (leaf_of c) [] nothing_held rest false [] ≡ [] → fault_of delta_app (name_of c ∷ rest) ≡ []
@@ -124,25 +140,26 @@ named : (word : Text) (c : Command) → command_of word ≡ Some c → word ≡ 
 named word c h =
     go (bytes_eq word (codes "run")) refl (bytes_eq word (codes "eval")) refl (bytes_eq word (codes "check")) refl
     (bytes_eq word (codes "print")) refl (bytes_eq word (codes "text")) refl (bytes_eq word (codes "gen")) refl (bytes_eq word (codes "bound")) refl
-    (bytes_eq word (codes "derive")) refl h
+    (bytes_eq word (codes "derive")) refl (bytes_eq word (codes "feed")) refl h
   where
     when : (x : Command) (name : Text) → bytes_eq word name ≡ true → name ≡ name_of x → Some x ≡ Some c → word ≡ name_of c
     when x name same is j = let i : x ≡ c = cc in same_bytes word name same ∙ (is ∙ ap name_of i)
 
     go : (b1 : Bool) → bytes_eq word (codes "run") ≡ b1 → (b2 : Bool) → bytes_eq word (codes "eval") ≡ b2 → (b3 : Bool) → bytes_eq word (codes "check") ≡ b3
         → (b4 : Bool) → bytes_eq word (codes "print") ≡ b4 → (b5 : Bool) → bytes_eq word (codes "text") ≡ b5 → (b6 : Bool) → bytes_eq word (codes "gen") ≡ b6
-        → (b7 : Bool) → bytes_eq word (codes "bound") ≡ b7 → (b8 : Bool) → bytes_eq word (codes "derive") ≡ b8
-        → cond b1 (Some Run) (cond b2 (Some Eval) (cond b3 (Some Check) (cond b4 (Some Print) (cond b5 (Some TextCommand) (cond b6 (Some Gen) (cond b7 (Some Bound) (cond b8 (Some Derive) None))))))) ≡ Some c
+        → (b7 : Bool) → bytes_eq word (codes "bound") ≡ b7 → (b8 : Bool) → bytes_eq word (codes "derive") ≡ b8 → (b9 : Bool) → bytes_eq word (codes "feed") ≡ b9
+        → cond b1 (Some Run) (cond b2 (Some Eval) (cond b3 (Some Check) (cond b4 (Some Print) (cond b5 (Some TextCommand) (cond b6 (Some Gen) (cond b7 (Some Bound) (cond b8 (Some Derive) (cond b9 (Some Feed) None)))))))) ≡ Some c
         → word ≡ name_of c
-    go true e1 b2 e2 b3 e3 b4 e4 b5 e5 b6 e6 b7 e7 b8 e8 j = when Run (codes "run") e1 refl j
-    go false e1 true e2 b3 e3 b4 e4 b5 e5 b6 e6 b7 e7 b8 e8 j = when Eval (codes "eval") e2 refl j
-    go false e1 false e2 true e3 b4 e4 b5 e5 b6 e6 b7 e7 b8 e8 j = when Check (codes "check") e3 refl j
-    go false e1 false e2 false e3 true e4 b5 e5 b6 e6 b7 e7 b8 e8 j = when Print (codes "print") e4 refl j
-    go false e1 false e2 false e3 false e4 true e5 b6 e6 b7 e7 b8 e8 j = when TextCommand (codes "text") e5 refl j
-    go false e1 false e2 false e3 false e4 false e5 true e6 b7 e7 b8 e8 j = when Gen (codes "gen") e6 refl j
-    go false e1 false e2 false e3 false e4 false e5 false e6 true e7 b8 e8 j = when Bound (codes "bound") e7 refl j
-    go false e1 false e2 false e3 false e4 false e5 false e6 false e7 true e8 j = when Derive (codes "derive") e8 refl j
-    go false e1 false e2 false e3 false e4 false e5 false e6 false e7 false e8 j = cc
+    go true e1 b2 e2 b3 e3 b4 e4 b5 e5 b6 e6 b7 e7 b8 e8 b9 e9 j = when Run (codes "run") e1 refl j
+    go false e1 true e2 b3 e3 b4 e4 b5 e5 b6 e6 b7 e7 b8 e8 b9 e9 j = when Eval (codes "eval") e2 refl j
+    go false e1 false e2 true e3 b4 e4 b5 e5 b6 e6 b7 e7 b8 e8 b9 e9 j = when Check (codes "check") e3 refl j
+    go false e1 false e2 false e3 true e4 b5 e5 b6 e6 b7 e7 b8 e8 b9 e9 j = when Print (codes "print") e4 refl j
+    go false e1 false e2 false e3 false e4 true e5 b6 e6 b7 e7 b8 e8 b9 e9 j = when TextCommand (codes "text") e5 refl j
+    go false e1 false e2 false e3 false e4 false e5 true e6 b7 e7 b8 e8 b9 e9 j = when Gen (codes "gen") e6 refl j
+    go false e1 false e2 false e3 false e4 false e5 false e6 true e7 b8 e8 b9 e9 j = when Bound (codes "bound") e7 refl j
+    go false e1 false e2 false e3 false e4 false e5 false e6 false e7 true e8 b9 e9 j = when Derive (codes "derive") e8 refl j
+    go false e1 false e2 false e3 false e4 false e5 false e6 false e7 false e8 true e9 j = when Feed (codes "feed") e9 refl j
+    go false e1 false e2 false e3 false e4 false e5 false e6 false e7 false e8 false e9 j = cc
 
 -- a subcommand takes the words that make a line
 line_takes : (c : Command) (rest : List Text) (line : WrittenLine) → line_of (takes_of c) rest ≡ Some line → level_fault (leaf_of c) [] nothing_held rest false [] ≡ []
@@ -151,13 +168,13 @@ line_takes c rest line h = go (read_rest (takes_of c) no_words rest) refl h
     go : (o : Option WrittenLine) → read_rest (takes_of c) no_words rest ≡ o → option_and_then (whole_line (takes_of c)) o ≡ Some line
         → level_fault (leaf_of c) [] nothing_held rest false [] ≡ []
     go None e j = cc
-    go (Some m) e j = whole (not m.awaits && length m.operands == (takes_of c).operands) refl j
+    go (Some m) e j = whole (not m.awaits && nat_le (takes_of c).operands (length m.operands)) refl j
       where
-        whole : (b : Bool) → (not m.awaits && length m.operands == (takes_of c).operands) ≡ b → cond b (Some m) None ≡ Some line
+        whole : (b : Bool) → (not m.awaits && nat_le (takes_of c).operands (length m.operands)) ≡ b → cond b (Some m) None ≡ Some line
             → level_fault (leaf_of c) [] nothing_held rest false [] ≡ []
         whole true is j =
-            let r = and_true (not m.awaits) (length m.operands == (takes_of c).operands) is in
-            level_takes (leaf_of c) (takes_of c) (knows c) rest m e (not_true m.awaits r.0) (eqb-true (length m.operands) (takes_of c).operands r.1)
+            let r = and_true (not m.awaits) (nat_le (takes_of c).operands (length m.operands)) is in
+            level_takes (leaf_of c) (takes_of c) (knows c) rest m e (not_true m.awaits r.0) (leb-true (takes_of c).operands (length m.operands) r.1)
         whole false is j = cc
 
 -- clap refuses no words that ask for a task

@@ -1,6 +1,6 @@
 -- Worked command lines.
 use Rattle.std.proofs.Common.{◌≡◌, [], ◌∷◌, refl, codes, Some, None}
-use Rattle.delta_words.specs.CommandTask.{run, eval, frames, gen, bound, derive, task_of}
+use Rattle.delta_words.specs.CommandTask.{run, eval, frames, gen, bound, derive, feed, task_of}
 use Rattle.delta_words.specs.declared.task.Version.TheVariants.{V1, V2}
 
 -- `--` ends the options
@@ -63,6 +63,36 @@ derivation = refl
 
 no_proof : task_of (codes "derive" ∷ codes "a" ∷ []) ≡ None
 no_proof = refl
+
+-- tables are fed in the order of the digits, each below the number of tables
+two_tables : task_of (codes "feed" ∷ codes "p" ∷ codes "0011" ∷ codes "a" ∷ codes "b" ∷ []) ≡ Some (feed (codes "p") (0 ∷ 0 ∷ 1 ∷ 1 ∷ []) (codes "a" ∷ codes "b" ∷ []) 1000000)
+two_tables = refl
+
+no_such_table : task_of (codes "feed" ∷ codes "p" ∷ codes "02" ∷ codes "a" ∷ codes "b" ∷ []) ≡ None
+no_such_table = refl
+
+no_schedule : task_of (codes "feed" ∷ codes "p" ∷ codes "a" ∷ codes "b" ∷ []) ≡ None
+no_schedule = refl
+
+no_table : task_of (codes "feed" ∷ codes "p" ∷ codes "0" ∷ []) ≡ None
+no_table = refl
+
+nine_tables : task_of (codes "feed" ∷ codes "p" ∷ codes "0" ∷ codes "a" ∷ codes "a" ∷ codes "a" ∷ codes "a" ∷ codes "a" ∷ codes "a" ∷ codes "a" ∷ codes "a" ∷ codes "a" ∷ []) ≡ None
+nine_tables = refl
+
+-- the budget stands before, between or behind FILE, SCHEDULE and the tables, but not between two tables
+budget_before_tables : task_of (codes "feed" ∷ codes "p" ∷ codes "--budget" ∷ codes "7" ∷ codes "0" ∷ codes "a" ∷ []) ≡ Some (feed (codes "p") (0 ∷ []) (codes "a" ∷ []) 7)
+budget_before_tables = refl
+
+budget_behind_tables : task_of (codes "feed" ∷ codes "p" ∷ codes "0" ∷ codes "a" ∷ codes "b" ∷ codes "--budget=7" ∷ []) ≡ Some (feed (codes "p") (0 ∷ []) (codes "a" ∷ codes "b" ∷ []) 7)
+budget_behind_tables = refl
+
+budget_between_tables : task_of (codes "feed" ∷ codes "p" ∷ codes "0" ∷ codes "a" ∷ codes "--budget=7" ∷ codes "b" ∷ []) ≡ None
+budget_between_tables = refl
+
+-- `--` may stand there
+end_between_tables : task_of (codes "feed" ∷ codes "p" ∷ codes "0" ∷ codes "a" ∷ codes "--" ∷ codes "-b" ∷ []) ≡ Some (feed (codes "p") (0 ∷ []) (codes "a" ∷ codes "-b" ∷ []) 1000000)
+end_between_tables = refl
 
 -- no abbreviation
 abbreviated : task_of (codes "text" ∷ codes "--fra" ∷ []) ≡ None

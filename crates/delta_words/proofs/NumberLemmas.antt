@@ -1,11 +1,12 @@
 -- Digits, read from the left.
-use Rattle.std.proofs.Common.{◌≡◌, ℕ, ◌+◌, ◌*◌, ◌<◌, ◌≤◌, List, [], ◌∷◌, Bool, true, false, ◌&&◌, cond, length, drop, get_or, refl, sym, arith, ◌∙◌, drop-cons, add-one}
+use Rattle.std.proofs.Common.{◌≡◌, ℕ, ◌+◌, ◌*◌, ◌<◌, ◌≤◌, List, [], ◌∷◌, ◌++◌, map, Bool, true, false, ◌&&◌, cond, length, drop, get_or, refl, sym, ap, arith, ◌∙◌, drop-cons, append-nil, append_assoc, add-one}
 use Rattle.std.specs.Prelude.{Some, None, nat_lt, nat_le}
+use Rattle.std.specs.List.{list_all}
 use Rattle.std.specs.Str.{all_ascii_digits}
 use Rattle.std.specs.Char.{digit_value, is_ascii_digit}
 use Rattle.std.specs.Str.Parse.{digits_value, digits_value_after}
 use Rattle.std.proofs.lemmas.Bool.Decides.{nat_tests}
-use Rattle.delta_words.specs.Numbers.{number_within, has_digits}
+use Rattle.delta_words.specs.Numbers.{number_within, has_digits, schedule_of}
 
 -- more digits make no smaller number
 pub grows : (n : ℕ) (ds : List ℕ) → n ≤ digits_value_after 10 n ds
@@ -56,3 +57,58 @@ one_more word i value so_far lt is = record {
   value_is = (rw (split word i lt) at so_far.value_is);
   digits = (rw (split word i lt, is) at so_far.digits);
 }
+
+-- what the first digits of a schedule, read so far, say of it
+pub record IsNamedSoFar (tables : ℕ) (word : List ℕ) (i : ℕ) (numbers : List ℕ) : Type 0 where
+  pub named : map digit_value word ≡ numbers ++ map digit_value (drop i word)
+  pub digits : all_ascii_digits (drop i word) ≡ all_ascii_digits word
+  pub below : list_all (λ d. nat_lt (digit_value d) tables) (drop i word) ≡ list_all (λ d. nat_lt (digit_value d) tables) word
+
+-- a word that isn't digits, or has one that is too great, is no schedule
+no_schedule : (tables : ℕ) (word : List ℕ) → all_ascii_digits word ≡ false → schedule_of tables word ≡ None
+no_schedule tables word other = go (nat_lt 0 (length word)) (nat_le (length word) 64) (list_all (λ d. nat_lt (digit_value d) tables) word)
+  where
+    go : (a b c : Bool) → cond ((a && (b && all_ascii_digits word)) && c) (Some (map digit_value word)) None ≡ None
+    go true true c = rw other refl
+    go true false c = refl
+    go false b c = refl
+
+too_great : (tables : ℕ) (word : List ℕ) → list_all (λ d. nat_lt (digit_value d) tables) word ≡ false → schedule_of tables word ≡ None
+too_great tables word great = go (has_digits 64 word)
+  where
+    go : (a : Bool) → cond (a && list_all (λ d. nat_lt (digit_value d) tables) word) (Some (map digit_value word)) None ≡ None
+    go true = rw great refl
+    go false = refl
+
+pub not_named : (tables : ℕ) (word : List ℕ) (i : ℕ) (numbers : List ℕ) → IsNamedSoFar tables word i numbers → i < length word → is_ascii_digit (get_or word i 0) ≡ false
+    → schedule_of tables word ≡ None
+not_named tables word i numbers so_far lt other = no_schedule tables word (sym so_far.digits ∙ (rw (split word i lt, other) refl))
+
+pub not_below : (tables : ℕ) (word : List ℕ) (i : ℕ) (numbers : List ℕ) → IsNamedSoFar tables word i numbers → i < length word → nat_lt (digit_value (get_or word i 0)) tables ≡ false
+    → schedule_of tables word ≡ None
+not_below tables word i numbers so_far lt great = too_great tables word (sym so_far.below ∙ (rw (split word i lt, great) refl))
+
+pub one_more_named : (tables : ℕ) (word : List ℕ) (i : ℕ) (numbers : List ℕ) → IsNamedSoFar tables word i numbers → i < length word → is_ascii_digit (get_or word i 0) ≡ true
+    → nat_lt (digit_value (get_or word i 0)) tables ≡ true → IsNamedSoFar tables word (i + 1) (numbers ++ digit_value (get_or word i 0) ∷ [])
+one_more_named tables word i numbers so_far lt is small = record {
+  named = so_far.named ∙ (ap (λ (ds : List ℕ). numbers ++ map digit_value ds) (split word i lt)
+      ∙ sym (append_assoc numbers (digit_value (get_or word i 0) ∷ []) (map digit_value (drop (i + 1) word))));
+  digits = (rw (split word i lt, is) at so_far.digits);
+  below = (rw (split word i lt, small) at so_far.below);
+}
+
+-- all of it was read
+pub all_named : (tables : ℕ) (word : List ℕ) (i : ℕ) (numbers : List ℕ) → IsNamedSoFar tables word i numbers → drop i word ≡ [] → 0 < length word → length word ≤ 64
+    → schedule_of tables word ≡ Some numbers
+all_named tables word i numbers so_far none some few =
+    let named : map digit_value word ≡ numbers = so_far.named ∙ (ap (λ (ds : List ℕ). numbers ++ map digit_value ds) none ∙ append-nil numbers) in
+    let digits : all_ascii_digits word ≡ true = sym so_far.digits ∙ ap all_ascii_digits none in
+    let below : list_all (λ d. nat_lt (digit_value d) tables) word ≡ true = sym so_far.below ∙ ap (list_all (λ d. nat_lt (digit_value d) tables)) none in
+    go (nat_lt 0 (length word)) refl (nat_le (length word) 64) refl named digits below
+  where
+    go : (a : Bool) → nat_lt 0 (length word) ≡ a → (b : Bool) → nat_le (length word) 64 ≡ b → map digit_value word ≡ numbers → all_ascii_digits word ≡ true
+        → list_all (λ d. nat_lt (digit_value d) tables) word ≡ true
+        → cond ((a && (b && all_ascii_digits word)) && list_all (λ d. nat_lt (digit_value d) tables) word) (Some (map digit_value word)) None ≡ Some numbers
+    go true e true h named digits below = (rw (digits, below) (ap (λ (ns : List ℕ). Some ns) named))
+    go true e false h named digits below = absurd (grind (arith, nat_tests))
+    go false e b h named digits below = absurd (grind (arith, nat_tests))

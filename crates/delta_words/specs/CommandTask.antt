@@ -1,17 +1,17 @@
 -- What a command line asks for.
-use Rattle.std.specs.Prelude.{ℕ, Bool, true, false, List, [], ◌∷◌, Option, Some, None, option_and_then, option_map, string_bytes, if◌then◌else◌}
+use Rattle.std.specs.Prelude.{ℕ, Bool, true, false, List, [], ◌∷◌, Option, Some, None, option_and_then, option_map, map, length, string_bytes, if◌then◌else◌}
 use Rattle.delta_words.specs.declared.task.Task.{Task}
 use Rattle.delta_words.specs.declared.task.Task.TheVariants as rust
 use Rattle.delta_words.specs.declared.task.Version.{Version}
 use Rattle.delta_words.specs.declared.task.Version.TheVariants.{V1, V2}
 use Rattle.delta_words.specs.declared.command.Command.{Command}
 use Rattle.delta_words.specs.declared.command.Command.TheVariants as command
-use Rattle.delta_words.specs.Numbers.{number_within}
+use Rattle.delta_words.specs.Numbers.{number_within, schedule_of}
 use Rattle.delta_words.specs.Commands.{command_of, takes_of}
 use Rattle.delta_words.specs.CommandLine.{WrittenLine, line_of}
 
 -- a file's name, a budget and the version of what is written; a file's name; the version; the first item and how many; a file's name; two
--- files' names
+-- files' names; a file's name, the numbers of a schedule, the tables' names and a budget
 pub data CommandTask : Type 0 where
   run : List ℕ → ℕ → Version → CommandTask
   eval : List ℕ → ℕ → Version → CommandTask
@@ -22,6 +22,7 @@ pub data CommandTask : Type 0 where
   gen : ℕ → ℕ → CommandTask
   bound : List ℕ → CommandTask
   derive : List ℕ → List ℕ → CommandTask
+  feed : List ℕ → List ℕ → List (List ℕ) → ℕ → CommandTask
 
 -- what a task of the code stands for
 abbrev pub asked : Task → CommandTask
@@ -34,6 +35,7 @@ asked (rust.Frames version) = frames version
 asked (rust.Gen start items) = gen start items
 asked (rust.Bound file) = bound (string_bytes file)
 asked (rust.Derive file proof) = derive (string_bytes file) (string_bytes proof)
+asked (rust.Feed file schedule tables budget) = feed (string_bytes file) schedule.items (map string_bytes tables.items) budget
 
 -- version 2 where `--v2` stands
 abbrev pub version_of : Bool → Version
@@ -70,6 +72,11 @@ abbrev pub two_files : List (List ℕ) → Option CommandTask
 two_files (file ∷ proof ∷ []) = Some (derive file proof)
 two_files _ = None
 
+-- FILE, SCHEDULE and the tables, whose number is above each digit of SCHEDULE
+abbrev pub feed_of : List (List ℕ) → Option ℕ → Option CommandTask
+feed_of (file ∷ schedule ∷ tables) (Some budget) = option_map (λ numbers. feed file numbers tables budget) (schedule_of (length tables) schedule)
+feed_of operands budget = None
+
 -- what a command's line asks for
 abbrev pub task_of_line : Command → WrittenLine → Option CommandTask
 task_of_line command.Run line = file_and_budget run 1000000 1000000 line
@@ -80,6 +87,7 @@ task_of_line command.Text line = text_or_frames line
 task_of_line command.Gen line = start_and_items line.operands
 task_of_line command.Bound line = option_map bound (file_of line.operands)
 task_of_line command.Derive line = two_files line.operands
+task_of_line command.Feed line = feed_of line.operands (budget_of 1000000 1000000 line.budget)
 
 -- what a command and the words behind it ask for
 abbrev pub task_of_command : List (List ℕ) → Command → Option CommandTask

@@ -2,7 +2,7 @@
 use Rattle.std.specs.Prelude.{ℕ, List, true, false, codes, Option, Some, None, if◌then◌else◌}
 use Rattle.std.specs.Str.{bytes_eq}
 use Rattle.delta_words.specs.declared.command.Command.{Command}
-use Rattle.delta_words.specs.declared.command.Command.TheVariants.{Run, Eval, Check, Print, Text, Gen, Bound, Derive}
+use Rattle.delta_words.specs.declared.command.Command.TheVariants.{Run, Eval, Check, Print, Text, Gen, Bound, Derive, Feed}
 use Rattle.delta_words.specs.declared.command.Takes.{Takes}
 
 -- the command of a name, written whole
@@ -16,15 +16,17 @@ command_of word =
     else (if bytes_eq word (codes "gen") then Some Gen
     else (if bytes_eq word (codes "bound") then Some Bound
     else (if bytes_eq word (codes "derive") then Some Derive
-    else None)))))))
+    else (if bytes_eq word (codes "feed") then Some Feed
+    else None))))))))
 
--- how many operands a command takes, and which options
+-- how many operands must stand behind a command and how many may, and which options
 abbrev pub takes_of : Command → Takes
-takes_of Run = record { operands = 1; budget = true; v2 = true; frames = false }
-takes_of Eval = record { operands = 1; budget = true; v2 = true; frames = false }
-takes_of Check = record { operands = 1; budget = false; v2 = false; frames = false }
-takes_of Print = record { operands = 1; budget = false; v2 = false; frames = false }
-takes_of Text = record { operands = 0; budget = false; v2 = true; frames = true }
-takes_of Gen = record { operands = 2; budget = false; v2 = false; frames = false }
-takes_of Bound = record { operands = 1; budget = false; v2 = false; frames = false }
-takes_of Derive = record { operands = 2; budget = false; v2 = false; frames = false }
+takes_of Run = record { operands = 1; most = 1; budget = true; v2 = true; frames = false }
+takes_of Eval = record { operands = 1; most = 1; budget = true; v2 = true; frames = false }
+takes_of Check = record { operands = 1; most = 1; budget = false; v2 = false; frames = false }
+takes_of Print = record { operands = 1; most = 1; budget = false; v2 = false; frames = false }
+takes_of Text = record { operands = 0; most = 0; budget = false; v2 = true; frames = true }
+takes_of Gen = record { operands = 2; most = 2; budget = false; v2 = false; frames = false }
+takes_of Bound = record { operands = 1; most = 1; budget = false; v2 = false; frames = false }
+takes_of Derive = record { operands = 2; most = 2; budget = false; v2 = false; frames = false }
+takes_of Feed = record { operands = 3; most = 10; budget = true; v2 = false; frames = false }

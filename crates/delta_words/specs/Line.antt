@@ -12,4 +12,5 @@ written line = record {
   frames = line.frames;
   ended = line.ended;
   awaits = line.awaits;
+  closed = line.closed;
 }

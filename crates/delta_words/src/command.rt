@@ -11,12 +11,14 @@ pub enum Command {
     Gen,
     Bound,
     Derive,
+    Feed,
 }
 
-/// What a command takes: so many operands, and which options, each at most once.
+/// What a command takes: how many operands must stand there and how many may, and which options, each at most once.
 #[derive(Clone, Copy, Debug, PartialEq, Eq)]
 pub struct Takes {
     pub operands: usize,
+    pub most: usize,
     pub budget: bool,
     pub v2: bool,
     pub frames: bool,
@@ -39,6 +41,7 @@ impl Command {
             "gen" => Some(Command::Gen),
             "bound" => Some(Command::Bound),
             "derive" => Some(Command::Derive),
+            "feed" => Some(Command::Feed),
             _ => None,
         }
     }
@@ -50,25 +53,36 @@ impl Command {
         match self {
             Command::Run | Command::Eval => Takes {
                 operands: 1,
+                most: 1,
                 budget: true,
                 v2: true,
                 frames: false,
             },
             Command::Check | Command::Print | Command::Bound => Takes {
                 operands: 1,
+                most: 1,
                 budget: false,
                 v2: false,
                 frames: false,
             },
             Command::Text => Takes {
                 operands: 0,
+                most: 0,
                 budget: false,
                 v2: true,
                 frames: true,
             },
             Command::Gen | Command::Derive => Takes {
                 operands: 2,
+                most: 2,
                 budget: false,
+                v2: false,
+                frames: false,
+            },
+            Command::Feed => Takes {
+                operands: 3,
+                most: 10,
+                budget: true,
                 v2: false,
                 frames: false,
             },

@@ -2,7 +2,7 @@
 
 ghost use Rattle.std.specs.Prelude.{◌≡◌, map, option_map, string_bytes};
 ghost use Rattle.delta_words.specs.Gives.{Gives};
-ghost use Rattle.delta_words.specs.CommandLine.{is_option, value_of, read_word, with_budget, with_option, line_of, no_words};
+ghost use Rattle.delta_words.specs.CommandLine.{is_option, value_of, read_word, with_budget, with_setting, with_option, line_of, no_words};
 ghost use Rattle.delta_words.specs.Line.{written};
 
 use crate::command::Takes;
@@ -21,6 +21,8 @@ pub struct Line<'a> {
     pub ended: bool,
     /// Whether the next word is the value of `--budget`.
     pub awaits: bool,
+    /// Whether no operand may follow, since an option stands behind those that must stand there.
+    pub closed: bool,
 }
 
 // Whether a word begins with `-` and isn't `-` alone.
@@ -48,6 +50,7 @@ fn no_line<'a>(alloc: Global) -> Line<'a>
         frames: false,
         ended: false,
         awaits: false,
+        closed: false,
     }
 }
 
@@ -68,18 +71,14 @@ fn with_budget_word<'a>(mut line: Line<'a>, word: &'a str) -> Result<Line<'a>, W
     }
 }
 
-// The line with the option that a word is.
-fn with_option_word<'a>(
+// The line with the option that a word other than `--` is.
+fn with_setting_word<'a>(
     mut line: Line<'a>,
     takes: Takes,
     word: &'a str,
 ) -> Result<Line<'a>, WordsFault>
-    ensures { Gives written result (with_option takes (written line.entry) word.now) }
+    ensures { Gives written result (with_setting takes (written line.entry) word.now) }
 {
-    if word == "--" {
-        line.ended = true;
-        return Ok(line);
-    }
     if word == "--v2" {
         if !takes.v2 || line.v2 {
             return Err(WordsFault::Usage);
@@ -100,6 +99,22 @@ fn with_option_word<'a>(
     with_budget_word(line, word)
 }
 
+// The line with the option that a word is.
+fn with_option_word<'a>(
+    mut line: Line<'a>,
+    takes: Takes,
+    word: &'a str,
+) -> Result<Line<'a>, WordsFault>
+    ensures { Gives written result (with_option takes (written line.entry) word.now) }
+{
+    if word == "--" {
+        line.ended = true;
+        return Ok(line);
+    }
+    line.closed = takes.operands <= line.operands.len();
+    with_setting_word(line, takes, word)
+}
+
 // The line with one word more.
 fn with_word<'a>(mut line: Line<'a>, takes: Takes, word: &'a str) -> Result<Line<'a>, WordsFault>
     ensures { Gives written result (read_word takes (written line.entry) word.now) }
@@ -116,7 +131,7 @@ fn with_word<'a>(mut line: Line<'a>, takes: Takes, word: &'a str) -> Result<Line
     if is_option && !line.ended {
         return with_option_word(line, takes, word);
     }
-    if line.operands.len() == takes.operands {
+    if line.closed || line.operands.len() == takes.most {
         return Err(WordsFault::Usage);
     }
     line.operands.push(word)?;
@@ -135,7 +150,7 @@ pub fn read_line<'a>(
     for word in words {
         line = with_word(line, takes, word.as_str())?;
     }
-    if line.awaits || line.operands.len() != takes.operands {
+    if line.awaits || line.operands.len() < takes.operands {
         return Err(WordsFault::Usage);
     }
     Ok(line)

@@ -3,7 +3,7 @@
 ghost use Rattle.std.specs.Prelude.{◌≡◌, ◌≢◌, [], false, map, string_bytes, IfOk, IfErr, nat_lt};
 ghost use Rattle.clap.specs.Words.{app_of, rule_of, new_app, with_subcommand, fault_of, subcommand_of, subcommand_rows_of};
 ghost use Rattle.clap.specs.declared.builder.Command.TheViews.{out-Command as fields_of};
-ghost use Rattle.delta_words.specs.ClapCommand.{delta_app, delta_top, leaf_app, operand_rule, budget_rule, flag_rule, with_rule_if};
+ghost use Rattle.delta_words.specs.ClapCommand.{delta_app, delta_top, leaf_app, operand_rule, rest_rule, budget_rule, flag_rule, with_rule_if};
 ghost use Rattle.delta_words.specs.Commands.{takes_of};
 
 use crate::command::{Command, Takes};
@@ -13,6 +13,7 @@ use clap::{Arg, ArgAction, ArgMatches, Command as Parser};
 use std::alloc::{AllocError, Global};
 
 // The command with one argument more, where that is wanted.
+#[tactic(auto, unfolding(crate::specs::ClapCommand::with_rule_if))]
 fn with_arg_if<'a>(parser: Parser<'a>, wanted: bool, arg: Arg<'a>) -> Result<Parser<'a>, AllocError>
     requires { arg.global ≡ false }
     ensures app { IfOk result (λ c. app_of c ≡ with_rule_if wanted (app_of parser.entry) (rule_of arg.entry)) }
@@ -27,6 +28,14 @@ fn operand<'a>(alloc: Global, id: &'a str) -> Arg<'a>
     ensures local { result.global ≡ false }
 {
     Arg::new(alloc, id).required(true).action(ArgAction::Set)
+}
+
+// An operand that must stand there, and of which there may be several.
+fn several<'a>(alloc: Global, id: &'a str) -> Arg<'a>
+    ensures rule { rule_of result ≡ rest_rule id.entry.now }
+    ensures local { result.global ≡ false }
+{
+    Arg::new(alloc, id).required(true).action(ArgAction::Append)
 }
 
 // An option of this name with a value.
@@ -53,7 +62,8 @@ fn leaf<'a>(alloc: Global, name: &'a str, takes: Takes) -> Result<Parser<'a>, Al
     let bare = Parser::new(alloc, name);
     let first = with_arg_if(bare, takes.operands > 0, operand(alloc, "FIRST"))?;
     let second = with_arg_if(first, takes.operands > 1, operand(alloc, "SECOND"))?;
-    let budget = with_arg_if(second, takes.budget, valued(alloc, "budget"))?;
+    let rest = with_arg_if(second, takes.operands > 2, several(alloc, "REST"))?;
+    let budget = with_arg_if(rest, takes.budget, valued(alloc, "budget"))?;
     let v2 = with_arg_if(budget, takes.v2, flag(alloc, "v2"))?;
     with_arg_if(v2, takes.frames, flag(alloc, "frames"))
 }
@@ -101,7 +111,8 @@ fn delta_command<'a>(alloc: Global) -> Result<Parser<'a>, AllocError>
     let text = with_command(alloc, print, "text", Command::Text)?;
     let load = with_command(alloc, text, "gen", Command::Gen)?;
     let bound = with_command(alloc, load, "bound", Command::Bound)?;
-    with_command(alloc, bound, "derive", Command::Derive)
+    let derive = with_command(alloc, bound, "derive", Command::Derive)?;
+    with_command(alloc, derive, "feed", Command::Feed)
 }
 
 /// What clap finds in the words.

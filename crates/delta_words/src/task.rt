@@ -1,14 +1,14 @@
 //! What a command line asks for.
 
-ghost use Rattle.std.specs.Prelude.{◌≡◌, ◌<◌, ◌^◌, map, option_map, string_bytes};
+ghost use Rattle.std.specs.Prelude.{◌≡◌, ◌<◌, ◌^◌, Some, map, option_map, string_bytes};
 ghost use Rattle.delta_words.specs.Gives.{Gives};
-ghost use Rattle.delta_words.specs.CommandTask.{asked, run, eval, version_of, budget_of, file_of, file_and_budget, text_or_frames, start_and_items, two_files, task_of_line, task_of};
+ghost use Rattle.delta_words.specs.CommandTask.{asked, run, eval, version_of, budget_of, file_of, file_and_budget, text_or_frames, start_and_items, two_files, feed_of, task_of_line, task_of};
 ghost use Rattle.delta_words.specs.Line.{written};
 
 use crate::command::Command;
 use crate::fault::WordsFault;
 use crate::line::{Line, read_line};
-use crate::number::number;
+use crate::number::{number, schedule};
 use std::alloc::Global;
 
 /// The version of the frames that are written.
@@ -41,6 +41,9 @@ pub enum Task {
     Bound(String),
     /// Check the derivation of a file's program that another file is.
     Derive(String, String),
+    /// Feed the tables of files to a file's program, with a budget: in what order their events come, as numbers of
+    /// tables, and which files they are.
+    Feed(String, Vec<u32>, Vec<String>, u64),
 }
 
 // The version that is written where `--v2` stands, and where it doesn't.
@@ -134,6 +137,36 @@ fn eval_task(alloc: Global, line: &Line<'_>) -> Result<Task, WordsFault>
     }
 }
 
+// Names, each as a text of its own.
+fn owned(alloc: Global, names: &[&str]) -> Result<Vec<String>, WordsFault>
+    ensures { Gives (λ owned. map string_bytes owned.items) result (Some (map (λ name. name.now) names.now)) }
+{
+    let mut owned = Vec::new(alloc);
+    for name in names {
+        owned.push(String::from_str(alloc, name)?)?;
+    }
+    Ok(owned)
+}
+
+// FILE, SCHEDULE, the tables and a budget.
+fn feed_task(alloc: Global, line: &Line<'_>) -> Result<Task, WordsFault>
+    ensures { Gives asked result (feed_of (written line.now).operands (budget_of 1000000 1000000 (written line.now).budget)) }
+{
+    let Some((file, more)) = line.operands.split_first() else {
+        return Err(WordsFault::Usage);
+    };
+    let Some((digits, tables)) = more.split_first() else {
+        return Err(WordsFault::Usage);
+    };
+    let Some(budget) = budget(line.budget, 1_000_000, 1_000_000) else {
+        return Err(WordsFault::Usage);
+    };
+    let schedule = schedule(alloc, digits.as_bytes(), tables.len())?;
+    let file = String::from_str(alloc, file)?;
+    let tables = owned(alloc, tables)?;
+    Ok(Task::Feed(file, schedule, tables, budget))
+}
+
 // What a command's line asks for.
 fn line_task(alloc: Global, command: Command, line: &Line<'_>) -> Result<Task, WordsFault>
     ensures { Gives asked result (task_of_line command (written line.now)) }
@@ -147,6 +180,7 @@ fn line_task(alloc: Global, command: Command, line: &Line<'_>) -> Result<Task, W
         Command::Gen => gen_task(line),
         Command::Bound => Ok(Task::Bound(file(alloc, line)?)),
         Command::Derive => derive_task(alloc, line),
+        Command::Feed => feed_task(alloc, line),
     }
 }
 

@@ -4,7 +4,7 @@ use Rattle.std.specs.Prelude.{⊤}
 use Rattle.std.specs.List.{AllByRecursion}
 use Rattle.core_term.specs.CoreTerm.{CoreTerm, CoreTerms, var_term, eps_term, unit_term, nil_term, past_term, par_term, cat_term, cons_term, inl_term, inr_term, let_term, let_par_term, let_cat_term, case_sum_term, case_star_term, wait_term, call_term, no_terms, term_before, term_count}
 use Rattle.delta_state.specs.StateTree.{Known, HeldName, LaterTree, StateTree, ArgumentTrees, sink, var_state, par_state, cat_state, let_state, let_par_state, let_cat_state, sum_state, star_state, wait_state, frame_state, no_arguments, argument_before, argument_names}
-use Rattle.kept_state.specs.KeptBytes.{list_bytes, bool_bytes, type_bytes, expr_bytes, term_bytes, terms_bytes, behind, known_bytes, held_name_bytes, later_bytes, nodes_in_state, state_bytes, arguments_bytes, kept_bytes}
+use Rattle.kept_state.specs.KeptBytes.{list_bytes, bool_bytes, type_bytes, expr_bytes, term_bytes, terms_bytes, places_behind, known_bytes, held_name_bytes, later_bytes, nodes_in_state, state_bytes, arguments_bytes, kept_bytes}
 use Rattle.kept_state.specs.KeptSizes.{FitsExpr, FitsTerm, FitsTerms, FitsKnown, FitsHeldName, FitsHeld, FitsLater, FitsState, FitsArguments, IsShaped, IsShapedValue, AreShaped, IsShapedLater, IsShapedState, AreShapedArguments}
 use Rattle.kept_state.specs.Laws.{OneSpelling}
 use Rattle.kept_state.proofs.SameNumbers.{Same, short_same, long_same, after_short, first_of, behind_byte, pred_same, clash}
@@ -182,7 +182,7 @@ mutual
       let r3 = short_same x x2 _ _ fa.2 fb.2 r2.rest in
       let r4 = laters_same l l2 ps qs _ _ fa.3 fb.3 ha.1 hb.1 (first_of (later_bytes l ps) _ _ (later_bytes l2 qs) _ _ r3.rest) in
       let r5 = short_same y y2 _ _ fa.4 fb.4 r4.rest in
-      let r6 = laters_same m m2 (behind l.term ps) (behind l2.term qs) _ _ fa.5 fb.5 ha.2 hb.2 r5.rest in
+      let r6 = laters_same m m2 (places_behind l.term ps) (places_behind l2.term qs) _ _ fa.5 fb.5 ha.2 hb.2 r5.rest in
       record { same = ap (λ part. sum_state part t held x l y m) r0.same ∙ (ap (λ part. sum_state z2 part held x l y m) r1.same ∙ (ap (λ part. sum_state z2 t2 part x l y m) r2.same ∙ (ap (λ part. sum_state z2 t2 held2 part l y m) r3.same ∙ (ap (λ part. sum_state z2 t2 held2 x2 part y m) r4.same ∙ (ap (λ part. sum_state z2 t2 held2 x2 l2 part m) r5.same ∙ (ap (λ part. sum_state z2 t2 held2 x2 l2 y2 part) r6.same)))))); rest = r6.rest }
   states_same (star_state z t held l y ys m) (star_state z2 t2 held2 l2 y2 ys2 m2) ps qs u1 u2 fa fb ha hb e =
       let r0 = short_same z z2 _ _ fa.0 fb.0 (behind_byte _ _ _ _ e) in
@@ -191,7 +191,7 @@ mutual
       let r3 = laters_same l l2 ps qs _ _ fa.2 fb.2 ha.1 hb.1 (first_of (later_bytes l ps) _ _ (later_bytes l2 qs) _ _ r2.rest) in
       let r4 = short_same y y2 _ _ fa.3 fb.3 r3.rest in
       let r5 = short_same ys ys2 _ _ fa.4 fb.4 r4.rest in
-      let r6 = laters_same m m2 (behind l.term ps) (behind l2.term qs) _ _ fa.5 fb.5 ha.2 hb.2 r5.rest in
+      let r6 = laters_same m m2 (places_behind l.term ps) (places_behind l2.term qs) _ _ fa.5 fb.5 ha.2 hb.2 r5.rest in
       record { same = ap (λ part. star_state part t held l y ys m) r0.same ∙ (ap (λ part. star_state z2 part held l y ys m) r1.same ∙ (ap (λ part. star_state z2 t2 part l y ys m) r2.same ∙ (ap (λ part. star_state z2 t2 held2 part y ys m) r3.same ∙ (ap (λ part. star_state z2 t2 held2 l2 part ys m) r4.same ∙ (ap (λ part. star_state z2 t2 held2 l2 y2 part m) r5.same ∙ (ap (λ part. star_state z2 t2 held2 l2 y2 ys2 part) r6.same)))))); rest = r6.rest }
   states_same (wait_state x t held l) (wait_state x2 t2 held2 l2) ps qs u1 u2 fa fb ha hb e =
       let r0 = short_same x x2 _ _ fa.0 fb.0 (behind_byte _ _ _ _ e) in

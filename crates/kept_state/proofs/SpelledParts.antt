@@ -11,7 +11,7 @@ use Rattle.stream_type.specs.StreamType.{StreamType, eps, one, int, cat, par, su
 use Rattle.stream_prefix.specs.StreamPrefix.{StreamPrefix, eps_emp, one_emp, one_full, int_emp, int_full, par_both, cat_fst, cat_both, sum_emp, in_left, in_right, star_emp, star_done, star_first, star_rest}
 use Rattle.hist_value.specs.declared.expr.Op.{Op}
 use Rattle.hist_value.specs.declared.expr.Op.TheVariants.{Add, Sub, Mul, Div, Less, Same}
-use Rattle.hist_value.specs.HistValue.{HistValue, unit_value, number, pair_of, left_of, right_of, no_items, item_before}
+use Rattle.hist_value.specs.HistValue.{HistValue, unit_value, number, pair_of, left_of, right_of, list_of}
 use Rattle.hist_value.specs.HistExpr.{HistExpr, variable, literal, unit_expr, reckoned, pair_expr, first_expr, second_expr, left_expr, right_expr, choice, nil_expr, cons_expr, fold_expr}
 use Rattle.core_term.specs.CoreTerm.{CoreTerm, node_count}
 use Rattle.delta_state.specs.StateTree.{Known, HeldName, StateTree}
@@ -469,44 +469,39 @@ made_end (suc (suc zero)) bs h =
     record { value = star_first t.value; good = (t.good.0, t.good.1, tt, refl); is = ap (λ x. 2 ∷ x) (sym (t.is ∙ (ap (λ x. prefix_bytes t.value ++ x) t.more ∙ append-nil (prefix_bytes t.value)))) }
 made_end _ bs h = absurd h
 
--- items as one value
-abbrev pub list_from : List HistValue → HistValue
-list_from [] = no_items
-list_from (v ∷ vs) = item_before v (list_from vs)
-
--- how many items it has
-count-list_from : (vs : List HistValue) → item_count (list_from vs) ≡ length vs
-count-list_from [] = refl
-count-list_from (v ∷ vs) = ap suc (count-list_from vs)
+-- how many items a list has
+count-list_of : (vs : List HistValue) → item_count (list_of vs) ≡ length vs
+count-list_of [] = refl
+count-list_of (v ∷ vs) = ap suc (count-list_of vs)
 
 -- it is a list
-of-list_from : (vs : List HistValue) → IsOfList (list_from vs)
-of-list_from [] = tt
-of-list_from (v ∷ vs) = tt
+of-list_of : (vs : List HistValue) → IsOfList (list_of vs)
+of-list_of [] = tt
+of-list_of (v ∷ vs) = tt
 
 -- its numbers have their sizes, where the count of its items has, and so is its shape
-good-list_from : (vs : List HistValue) → FitsShort (length vs) → AllByRecursion (λ v. FitsValue v × IsShapedValue v) vs → FitsValue (list_from vs) × IsShapedValue (list_from vs)
-good-list_from [] n h = (tt, tt)
-good-list_from (v ∷ vs) n h =
-    let r = good-list_from vs (omega (arith, n)) h.1 in
-    let c = count-list_from vs in
-    ((h.0.0, r.0, omega (arith, n, c)), (h.0.1, of-list_from vs, r.1))
+good-list_of : (vs : List HistValue) → FitsShort (length vs) → AllByRecursion (λ v. FitsValue v × IsShapedValue v) vs → FitsValue (list_of vs) × IsShapedValue (list_of vs)
+good-list_of [] n h = (tt, tt)
+good-list_of (v ∷ vs) n h =
+    let r = good-list_of vs (omega (arith, n)) h.1 in
+    let c = count-list_of vs in
+    ((h.0.0, r.0, omega (arith, n, c)), (h.0.1, of-list_of vs, r.1))
 
 -- the bytes of its items
-items-list_from : (vs : List HistValue) → items_bytes (list_from vs) ≡ concat (map value_bytes vs)
-items-list_from [] = refl
-items-list_from (v ∷ vs) = ap (λ x. value_bytes v ++ x) (items-list_from vs)
+items-list_of : (vs : List HistValue) → items_bytes (list_of vs) ≡ concat (map value_bytes vs)
+items-list_of [] = refl
+items-list_of (v ∷ vs) = ap (λ x. value_bytes v ++ x) (items-list_of vs)
 
 -- its own
-bytes-list_from : (vs : List HistValue) → value_bytes (list_from vs) ≡ 5 ∷ list_bytes value_bytes vs
-bytes-list_from [] = refl
-bytes-list_from (v ∷ vs) = ap₂ (λ n x. 5 ∷ short_bytes n ++ x) (count-list_from (v ∷ vs)) (items-list_from (v ∷ vs))
+bytes-list_of : (vs : List HistValue) → value_bytes (list_of vs) ≡ 5 ∷ list_bytes value_bytes vs
+bytes-list_of [] = refl
+bytes-list_of (v ∷ vs) = ap₂ (λ n x. 5 ∷ short_bytes n ++ x) (count-list_of (v ∷ vs)) (items-list_of (v ∷ vs))
 
 -- a list's value, behind its form
 made_list : (bs : List ℕ) → GotParts (list_part value_item ∷ []) bs → GotKind value_kind (5 ∷ bs)
 made_list bs h =
     let l = take_list HistValue value_bytes (λ v. FitsValue v × IsShapedValue v) value_item (λ x g. g) [] bs h in
-    record { value = list_from l.values; good = good-list_from l.values l.fits l.good; is = bytes-list_from l.values ∙ ap (λ x. 5 ∷ x) (sym (l.is ∙ (ap (λ x. list_bytes value_bytes l.values ++ x) l.more ∙ append-nil (list_bytes value_bytes l.values)))) }
+    record { value = list_of l.values; good = good-list_of l.values l.fits l.good; is = bytes-list_of l.values ∙ ap (λ x. 5 ∷ x) (sym (l.is ∙ (ap (λ x. list_bytes value_bytes l.values ++ x) l.more ∙ append-nil (list_bytes value_bytes l.values)))) }
 
 -- values
 pub made_value : (b : ℕ) (bs : List ℕ) → MadeOf (form_at (forms_of value_kind) b) bs → GotKind value_kind (b ∷ bs)

@@ -9,7 +9,7 @@ use Rattle.hist_value.specs.HistValue.{HistValue, unit_value, number, pair_of, l
 use Rattle.hist_value.specs.HistExpr.{HistExpr, variable, literal, unit_expr, reckoned, pair_expr, first_expr, second_expr, left_expr, right_expr, choice, nil_expr, cons_expr, fold_expr}
 use Rattle.core_term.specs.CoreTerm.{CoreTerm, CoreTerms, var_term, eps_term, unit_term, nil_term, past_term, par_term, cat_term, cons_term, inl_term, inr_term, let_term, let_par_term, let_cat_term, case_sum_term, case_star_term, wait_term, call_term, no_terms, term_before, term_count}
 use Rattle.delta_state.specs.StateTree.{Known, HeldName, LaterTree, StateTree, ArgumentTrees, sink, var_state, par_state, cat_state, let_state, let_par_state, let_cat_state, sum_state, star_state, wait_state, frame_state, no_arguments, argument_before, argument_names}
-use Rattle.kept_state.specs.KeptBytes.{short_bytes, long_bytes, int_bytes, list_bytes, bool_bytes, type_bytes, whole_items, prefix_bytes, rest_bytes, item_count, value_bytes, items_bytes, op_byte, expr_bytes, behind, node_bytes, inside, term_bytes, terms_bytes, known_bytes, held_name_bytes, later_bytes, nodes_in_state, nodes_in_arguments, state_bytes, arguments_bytes}
+use Rattle.kept_state.specs.KeptBytes.{short_bytes, long_bytes, int_bytes, list_bytes, bool_bytes, type_bytes, whole_items, prefix_bytes, rest_bytes, item_count, value_bytes, items_bytes, op_byte, expr_bytes, places_behind, node_bytes, inside, term_bytes, terms_bytes, known_bytes, held_name_bytes, later_bytes, nodes_in_state, nodes_in_arguments, state_bytes, arguments_bytes}
 use Rattle.kept_state.specs.KeptForm.{Kind, bool_kind, type_kind, prefix_kind, end_kind, value_kind, op_kind, expr_kind, term_kind, state_kind, bool_item, type_item, prefix_item, value_item, expr_item, node_item, known_item, held_item, argument_item, Part, any, form, form_at, forms_of, list_part, node_parts, later_parts}
 use Rattle.kept_state.proofs.FilledParts.{Fills, FillItems, fills_nil, fills_both, fills_form, fills_any, fill_no_items, fill_more_items, fills_counted, fills_list}
 
@@ -210,19 +210,19 @@ mutual
   term_fills eps_term places = alone term_kind 1 refl
   term_fills unit_term places = alone term_kind 2 refl
   term_fills (past_term m) places = fills_form term_kind 3 _ _ refl (expr_fills m)
-  term_fills (par_term a b) places = fills_form term_kind 4 _ _ refl (two_nodes places (behind a places) _ _ (term_fills a (inside places)) (term_fills b (inside (behind a places))))
-  term_fills (cat_term a b) places = fills_form term_kind 5 _ _ refl (two_nodes places (behind a places) _ _ (term_fills a (inside places)) (term_fills b (inside (behind a places))))
+  term_fills (par_term a b) places = fills_form term_kind 4 _ _ refl (two_nodes places (places_behind a places) _ _ (term_fills a (inside places)) (term_fills b (inside (places_behind a places))))
+  term_fills (cat_term a b) places = fills_form term_kind 5 _ _ refl (two_nodes places (places_behind a places) _ _ (term_fills a (inside places)) (term_fills b (inside (places_behind a places))))
   term_fills (inl_term a) places = fills_form term_kind 6 _ _ refl (node_fills places _ (term_fills a (inside places)))
   term_fills (inr_term a) places = fills_form term_kind 7 _ _ refl (node_fills places _ (term_fills a (inside places)))
   term_fills nil_term places = alone term_kind 8 refl
-  term_fills (cons_term a b) places = fills_form term_kind 9 _ _ refl (two_nodes places (behind a places) _ _ (term_fills a (inside places)) (term_fills b (inside (behind a places))))
-  term_fills (let_term x s a b) places = fills_form term_kind 10 _ _ refl (name_before _ x _ (type_before _ s _ (two_nodes places (behind a places) _ _ (term_fills a (inside places)) (term_fills b (inside (behind a places))))))
+  term_fills (cons_term a b) places = fills_form term_kind 9 _ _ refl (two_nodes places (places_behind a places) _ _ (term_fills a (inside places)) (term_fills b (inside (places_behind a places))))
+  term_fills (let_term x s a b) places = fills_form term_kind 10 _ _ refl (name_before _ x _ (type_before _ s _ (two_nodes places (places_behind a places) _ _ (term_fills a (inside places)) (term_fills b (inside (places_behind a places))))))
   term_fills (let_par_term x y z a) places = fills_form term_kind 11 _ _ refl (name_before _ x _ (name_before _ y _ (name_before _ z _ (node_fills places _ (term_fills a (inside places))))))
   term_fills (let_cat_term x y z a) places = fills_form term_kind 12 _ _ refl (name_before _ x _ (name_before _ y _ (name_before _ z _ (node_fills places _ (term_fills a (inside places))))))
   term_fills (case_sum_term z t x a y b) places =
-      fills_form term_kind 13 _ _ refl (name_before _ z _ (type_before _ t _ (name_before _ x _ (node_before _ _ _ (node_fills places _ (term_fills a (inside places))) (name_before _ y _ (node_fills (behind a places) _ (term_fills b (inside (behind a places)))))))))
+      fills_form term_kind 13 _ _ refl (name_before _ z _ (type_before _ t _ (name_before _ x _ (node_before _ _ _ (node_fills places _ (term_fills a (inside places))) (name_before _ y _ (node_fills (places_behind a places) _ (term_fills b (inside (places_behind a places)))))))))
   term_fills (case_star_term z t a y ys b) places =
-      fills_form term_kind 14 _ _ refl (name_before _ z _ (type_before _ t _ (node_before _ _ _ (node_fills places _ (term_fills a (inside places))) (name_before _ y _ (name_before _ ys _ (node_fills (behind a places) _ (term_fills b (inside (behind a places)))))))))
+      fills_form term_kind 14 _ _ refl (name_before _ z _ (type_before _ t _ (node_before _ _ _ (node_fills places _ (term_fills a (inside places))) (name_before _ y _ (name_before _ ys _ (node_fills (places_behind a places) _ (term_fills b (inside (places_behind a places)))))))))
   term_fills (wait_term x t a) places = fills_form term_kind 15 _ _ refl (name_before _ x _ (type_before _ t _ (node_fills places _ (term_fills a (inside places)))))
   term_fills (call_term f ms es) places =
       fills_form term_kind 16 _ _ refl
@@ -233,7 +233,7 @@ mutual
   terms_fill no_terms places = fill_no_items node_item
   terms_fill (term_before e es) places =
       subst (λ k. FillItems k node_item (terms_bytes (term_before e es) places)) (let e : suc (term_count es) ≡ 1 + term_count es = omega arith in e)
-      (fill_more_items node_item (term_count es) (node_bytes places (term_bytes e (inside places))) (terms_bytes es (behind e places)) (node_fills places _ (term_fills e (inside places))) (omega arith) (terms_fill es (behind e places)))
+      (fill_more_items node_item (term_count es) (node_bytes places (term_bytes e (inside places))) (terms_bytes es (places_behind e places)) (node_fills places _ (term_fills e (inside places))) (omega arith) (terms_fill es (places_behind e places)))
 
 -- the names that have values
 known_fill : (es : List Known) → Fills (list_part known_item ∷ []) (list_bytes known_bytes es)
@@ -266,9 +266,9 @@ mutual
   state_fills (let_par_state x y z a) places = fills_form state_kind 5 _ _ refl (name_before _ x _ (name_before _ y _ (name_before _ z _ (state_fills a places))))
   state_fills (let_cat_state x y z a) places = fills_form state_kind 6 _ _ refl (name_before _ x _ (name_before _ y _ (name_before _ z _ (state_fills a places))))
   state_fills (sum_state z t held x l y m) places =
-      fills_form state_kind 7 _ _ refl (name_before _ z _ (type_before _ t _ (held_before _ held _ (name_before _ x _ (later_before _ l places _ (name_before _ y _ (later_fills m (behind l.term places))))))))
+      fills_form state_kind 7 _ _ refl (name_before _ z _ (type_before _ t _ (held_before _ held _ (name_before _ x _ (later_before _ l places _ (name_before _ y _ (later_fills m (places_behind l.term places))))))))
   state_fills (star_state z t held l y ys m) places =
-      fills_form state_kind 8 _ _ refl (name_before _ z _ (type_before _ t _ (held_before _ held _ (later_before _ l places _ (name_before _ y _ (name_before _ ys _ (later_fills m (behind l.term places))))))))
+      fills_form state_kind 8 _ _ refl (name_before _ z _ (type_before _ t _ (held_before _ held _ (later_before _ l places _ (name_before _ y _ (name_before _ ys _ (later_fills m (places_behind l.term places))))))))
   state_fills (wait_state x t held l) places = fills_form state_kind 9 _ _ refl (name_before _ x _ (type_before _ t _ (held_before _ held _ (later_fills l places))))
   state_fills (frame_state args s) places =
       fills_form state_kind 10 _ _ refl

@@ -2,7 +2,7 @@
 use Rattle.std.proofs.Common.{◌≡◌}
 use Rattle.delta_tree.specs.SyntaxTree.{ProgramTree}
 use Rattle.core_term.specs.CoreTerm.{CoreProgram}
-use Rattle.delta_end.specs.declared.refusal.Refusal.{Refusal}
+use Rattle.program_refusal.specs.declared.refusal.Refusal.{Refusal}
 use Rattle.checked_program.specs.Acceptance.{IsAcceptedAs, IsRefusedAs}
 use Rattle.checked_program.proofs.OneAnswer.{accepted_is_one, accepted_is_not_refused}
 use Rattle.load_program.specs.LoadText.{load_text, load_tree}

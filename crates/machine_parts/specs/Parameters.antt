@@ -1,17 +1,9 @@
 -- Parameters, of a body and of a frame, with what comes on each.
-use Rattle.std.specs.Prelude.{ℕ, List, [], ◌∷◌, map}
-use Rattle.stream_type.specs.StreamType.{StreamType, type_of}
+use Rattle.std.specs.Prelude.{ℕ, List, [], ◌∷◌}
+use Rattle.stream_type.specs.StreamType.{StreamType}
 use Rattle.stream_prefix.specs.StreamPrefix.{StreamPrefix, eps_emp}
-use Rattle.bunch.specs.declared.name.Name.{Name}
-use Rattle.stream_type.specs.declared.ty.Ty.{Ty}
+pub use Rattle.core_term.specs.Params.{names_in, types_listed}
 use Rattle.delta_state.specs.StateTree.{ArgumentTrees, HeldName, no_arguments, argument_before}
-
--- the names and the types of parameters
-abbrev pub names_in : List (Name × Ty) → List ℕ
-names_in ps = map (λ p. p.0.0) ps
-
-abbrev pub types_listed : List (Name × Ty) → List StreamType
-types_listed ps = map (λ p. type_of p.1) ps
 
 -- parameters with what comes on each; where nothing stands for one, nothing comes on it
 abbrev pub bound_to : List (ℕ × StreamType) → List StreamPrefix → List HeldName

@@ -8,8 +8,8 @@ ghost use Rattle.machine_parts.specs.Entry.{entry_in};
 ghost use Rattle.machine_parts.specs.AwaitedTree.{awaited_in, whole_of, still_entries, entries_on, awaited_after};
 
 use crate::entry::Entry;
-use crate::holding::left;
 use bunch::{Bunch, Name};
+use in_place::go_behind;
 use std::alloc::Global;
 use stream_prefix::Prefix;
 use stream_type::{Memory, Ty};
@@ -143,8 +143,7 @@ pub fn go_on(alloc: Global, a: &mut Awaited, d: &Prefix) -> Result<(), Memory>
     match a {
         Awaited::Nothing => Ok(()),
         Awaited::Stream(_, t) => {
-            let rest = left(alloc, t, d)?;
-            *t = rest;
+            go_behind(alloc, t, d)?;
             Ok(())
         }
         Awaited::AtOnce(a, b) => match d {

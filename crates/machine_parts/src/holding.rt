@@ -1,6 +1,6 @@
 //! What cases and waits hold, and what is left of types.
 
-ghost use Rattle.std.specs.Prelude.{◌≡◌, map, IfOk};
+ghost use Rattle.std.specs.Prelude.{◌≡◌, map, IfOk, OnOk};
 ghost use Rattle.stream_type.specs.StreamType.{type_of};
 ghost use Rattle.stream_prefix.specs.StreamPrefix.{der, join};
 ghost use Rattle.stream_prefix.specs.Tree.{prefix_of};
@@ -12,6 +12,7 @@ ghost use Rattle.machine_parts.specs.Scope.{types_in, streams_in};
 use crate::entry::Entry;
 use crate::scope::{Scope, stream_at, type_at};
 use bunch::Name;
+use in_place::join_behind;
 use std::alloc::Global;
 use stream_prefix::{Prefix, derive, is_prefix, join};
 use stream_type::{Memory, Ty};
@@ -71,6 +72,26 @@ pub fn more(alloc: Global, held: &[Entry], scope: &Scope<'_>) -> Result<Vec<Entr
         longer.push(one_more(alloc, entry, scope)?)?;
     }
     Ok(longer)
+}
+
+/// The same in place: what comes is put behind what is held. What can't come counts as want of memory. After an
+/// error some of it is changed.
+#[inline(never)]
+pub fn hold(alloc: Global, held: &mut [Entry], scope: &Scope<'_>) -> Result<(), Memory>
+    ensures { OnOk result (map entry_in held.new ≡ held_more (map entry_in held.old) (streams_in scope.now)) }
+{
+    for entry in held.iter_mut() {
+        hold_one(alloc, entry, &*scope)?;
+    }
+    Ok(())
+}
+
+// What comes on a held name, put behind what is held of it.
+fn hold_one(alloc: Global, entry: &mut Entry, scope: &Scope<'_>) -> Result<(), Memory>
+    ensures { OnOk result (entry_in entry.new ≡ record { name = entry.old.name.0; type = type_of entry.old.ty; prefix = join (prefix_of entry.old.prefix) (streams_in scope.now entry.old.name.0) }) }
+{
+    let next = stream_at(scope, entry.name, &Prefix::EpsEmp);
+    join_behind(alloc, &mut entry.prefix, next)
 }
 
 fn one_more(alloc: Global, entry: &Entry, scope: &Scope<'_>) -> Result<Entry, Memory>

@@ -2,46 +2,16 @@
 
 ghost use Rattle.std.specs.Prelude.{◌≡◌, ◌++◌, map, IfOk, OnOk};
 ghost use Rattle.stream_prefix.specs.Tree.{prefix_of};
-ghost use Rattle.bunch.specs.BunchTree.{tree_of, leaf_names};
-ghost use Rattle.core_term.specs.CoreTerm.{leaf_types, typed_names_of};
+ghost use Rattle.core_term.specs.CoreTerm.{typed_names_of};
 ghost use Rattle.machine_parts.specs.Entry.{entry_in};
-ghost use Rattle.machine_parts.specs.Parameters.{names_in, types_listed, bound_to};
+ghost use Rattle.machine_parts.specs.Parameters.{bound_to};
 
 use crate::entry::Entry;
-use bunch::{Bunch, Name};
+use bunch::Name;
+pub use core_term::params::leaves;
 use std::alloc::Global;
 use stream_prefix::Prefix;
 use stream_type::{Memory, Ty};
-
-/// The stream parameters with their types, from left to right. Its only error is want of memory.
-#[inline(never)]
-pub fn leaves(alloc: Global, b: &Bunch) -> Result<Vec<(Name, Ty)>, Memory>
-    ensures names { IfOk result (λ v. names_in v.items ≡ leaf_names (tree_of b.now)) }
-    ensures types { IfOk result (λ v. types_listed v.items ≡ leaf_types (tree_of b.now)) }
-{
-    let mut found = Vec::new(alloc);
-    add_leaves(alloc, b, &mut found)?;
-    Ok(found)
-}
-
-// Adds the parameters of a bunch.
-fn add_leaves(alloc: Global, b: &Bunch, found: &mut Vec<(Name, Ty)>) -> Result<(), Memory>
-    ensures names { OnOk result (names_in found.new.items ≡ names_in found.old.items ++ leaf_names (tree_of b.now)) }
-    ensures types { OnOk result (types_listed found.new.items ≡ types_listed found.old.items ++ leaf_types (tree_of b.now)) }
-{
-    match b {
-        Bunch::Empty => Ok(()),
-        Bunch::Leaf(x, t) => {
-            let t = stream_type::copy(alloc, t)?;
-            found.push((*x, t))?;
-            Ok(())
-        }
-        Bunch::Comma(a, b) | Bunch::Semi(a, b) => {
-            add_leaves(alloc, a, found)?;
-            add_leaves(alloc, b, found)
-        }
-    }
-}
 
 /// Parameters with what comes on each: `bound_to` in `specs/Parameters.antt`. Its only error is want of memory.
 pub fn bound(alloc: Global, params: &[(Name, Ty)], outputs: &[Prefix]) -> Result<Vec<Entry>, Memory>

@@ -1,91 +1,21 @@
-//! The parts of types and of prefixes by their form, as `core_term` defines them.
+//! What has come on the parts of a stream by its form, as `core_term` defines them.
 
 ghost use Rattle.std.specs.Prelude.{◌≡◌, ℕ, map, IfOk};
-ghost use Rattle.stream_type.specs.StreamType.{StreamType, type_of, eps};
-ghost use Rattle.stream_prefix.specs.StreamPrefix.{StreamPrefix, eps_emp, star_emp, emp};
+ghost use Rattle.stream_type.specs.StreamType.{StreamType, type_of};
+ghost use Rattle.stream_prefix.specs.StreamPrefix.{StreamPrefix, eps_emp, star_emp};
 ghost use Rattle.stream_prefix.specs.Tree.{prefix_of, end_of, star_of};
-ghost use Rattle.core_term.specs.Parts.{par_left, par_right, cat_first, cat_second, sum_left, sum_right, star_item, star_items, left_part, right_part, first_part, second_part};
+ghost use Rattle.core_term.specs.Parts.{first_part, second_part};
 ghost use Rattle.core_term.specs.Run.{Run, sum_run, star_run};
 ghost use Rattle.delta_state.specs.StateTree.{StateTree};
 ghost use Rattle.delta_state.specs.Rest.{sum_rest, star_rest_state, cut_state};
 ghost use Rattle.machine_parts.specs.Parts.{sided_prefix, taken_prefix, cut_prefix};
 
+pub use core_term::parts::{
+    cat_types, copied, nothing_yet, par_parts, par_types, star_types, sum_types,
+};
 use std::alloc::Global;
 use stream_prefix::{Prefix, StarEnd};
 use stream_type::{Memory, Ty};
-
-/// The two types that come at once, or `eps` twice.
-pub fn par_types<'a>(t: &'a Ty, other: &'a Ty) -> (&'a Ty, &'a Ty)
-    requires { type_of other.now ≡ eps }
-    ensures left { type_of result.0.now ≡ par_left (type_of t.now) }
-    ensures right { type_of result.1.now ≡ par_right (type_of t.now) }
-{
-    match t {
-        Ty::Par(a, b) => (a, b),
-        Ty::Eps | Ty::One | Ty::Int | Ty::Cat(_, _) | Ty::Sum(_, _) | Ty::Star(_) => (other, other),
-    }
-}
-
-/// The two types that come one after the other, or `eps` twice.
-pub fn cat_types<'a>(t: &'a Ty, other: &'a Ty) -> (&'a Ty, &'a Ty)
-    requires { type_of other.now ≡ eps }
-    ensures first { type_of result.0.now ≡ cat_first (type_of t.now) }
-    ensures second { type_of result.1.now ≡ cat_second (type_of t.now) }
-{
-    match t {
-        Ty::Cat(a, b) => (a, b),
-        Ty::Eps | Ty::One | Ty::Int | Ty::Par(_, _) | Ty::Sum(_, _) | Ty::Star(_) => (other, other),
-    }
-}
-
-/// The two sides of a sum, or `eps` twice.
-pub fn sum_types<'a>(t: &'a Ty, other: &'a Ty) -> (&'a Ty, &'a Ty)
-    requires { type_of other.now ≡ eps }
-    ensures left { type_of result.0.now ≡ sum_left (type_of t.now) }
-    ensures right { type_of result.1.now ≡ sum_right (type_of t.now) }
-{
-    match t {
-        Ty::Sum(a, b) => (a, b),
-        Ty::Eps | Ty::One | Ty::Int | Ty::Par(_, _) | Ty::Cat(_, _) | Ty::Star(_) => (other, other),
-    }
-}
-
-/// An item of a star and the items after it, or `eps` twice.
-pub fn star_types<'a>(t: &'a Ty, other: &'a Ty) -> (&'a Ty, &'a Ty)
-    requires { type_of other.now ≡ eps }
-    ensures item { type_of result.0.now ≡ star_item (type_of t.now) }
-    ensures items { type_of result.1.now ≡ star_items (type_of t.now) }
-{
-    match t {
-        Ty::Star(a) => (a, t),
-        Ty::Eps | Ty::One | Ty::Int | Ty::Par(_, _) | Ty::Cat(_, _) | Ty::Sum(_, _) => (
-            other, other,
-        ),
-    }
-}
-
-/// What came on each of two streams at once, or nothing.
-#[tactic(auto, using(crate::proofs::StarForms::star_forms))]
-pub fn par_parts<'a>(p: &'a Prefix, nothing: &'a Prefix) -> (&'a Prefix, &'a Prefix)
-    requires { prefix_of nothing.now ≡ eps_emp }
-    ensures left { prefix_of result.0.now ≡ left_part (prefix_of p.now) }
-    ensures right { prefix_of result.1.now ≡ right_part (prefix_of p.now) }
-{
-    match p {
-        Prefix::Par(a, b) => (a, b),
-        Prefix::EpsEmp
-        | Prefix::OneEmp
-        | Prefix::OneFull
-        | Prefix::IntEmp
-        | Prefix::IntFull(_)
-        | Prefix::CatFst(_)
-        | Prefix::CatBoth(_, _)
-        | Prefix::SumEmp
-        | Prefix::Inl(_)
-        | Prefix::Inr(_)
-        | Prefix::Star(_, _) => (nothing, nothing),
-    }
-}
 
 /// What came on the first of two streams, of which one comes after the other, or nothing.
 #[tactic(auto, using(crate::proofs::StarForms::star_forms))]
@@ -129,22 +59,6 @@ pub fn second_part(alloc: Global, t: &Ty, p: &Prefix) -> Result<Box<Prefix>, Mem
         | Prefix::Inr(_)
         | Prefix::Star(_, _) => nothing_yet(alloc, t),
     }
-}
-
-/// An equal prefix. Its only error is want of memory.
-pub fn copied(alloc: Global, p: &Prefix) -> Result<Box<Prefix>, Memory>
-    ensures { IfOk result (λ r. prefix_of r.value ≡ prefix_of p.now) }
-{
-    let copy = stream_prefix::copy(alloc, p)?;
-    Ok(Box::new(alloc, copy)?)
-}
-
-/// The empty prefix of a type. Its only error is want of memory.
-pub fn nothing_yet(alloc: Global, t: &Ty) -> Result<Box<Prefix>, Memory>
-    ensures { IfOk result (λ r. prefix_of r.value ≡ emp (type_of t.now)) }
-{
-    let nothing = stream_prefix::empty(alloc, t)?;
-    Ok(Box::new(alloc, nothing)?)
 }
 
 /// What has come of a sum.

@@ -1,58 +1,19 @@
 //! Prefixes of stars.
 
 ghost use Rattle.std.specs.Prelude.{◌≡◌, IfOk};
-ghost use Rattle.stream_prefix.specs.StreamPrefix.{star_done, star_rest};
 ghost use Rattle.stream_prefix.specs.Tree.{prefix_of};
 ghost use Rattle.core_term.specs.Parts.{as_star};
 
+pub use core_term::stars::over_star;
 use std::alloc::Global;
-use stream_prefix::{Prefix, StarEnd};
+use stream_prefix::Prefix;
 use stream_type::Memory;
 
-/// A prefix of an item and the items after it as one of a star. Its only error is want of memory; it counts
-/// as that where the items after it are no star, which no typed program gives.
-#[tactic(auto, using(crate::proofs::StarForms::star_forms))]
+/// A prefix of an item and the items after it as one of a star, in a box. Its only error is want of memory,
+/// as `core_term::stars::as_star` tells it.
 pub fn as_star(alloc: Global, p: Prefix) -> Result<Box<Prefix>, Memory>
     ensures { IfOk result (λ r. prefix_of r.value ≡ as_star (prefix_of p)) }
 {
-    match p {
-        Prefix::CatFst(a) => {
-            Ok(Box::new(alloc, Prefix::Star(Vec::new(alloc), StarEnd::First(a)))?)
-        }
-        Prefix::CatBoth(a, b) => put_before(alloc, a, b),
-        Prefix::EpsEmp
-        | Prefix::OneEmp
-        | Prefix::OneFull
-        | Prefix::IntEmp
-        | Prefix::IntFull(_)
-        | Prefix::Par(_, _)
-        | Prefix::SumEmp
-        | Prefix::Inl(_)
-        | Prefix::Inr(_)
-        | Prefix::Star(_, _) => Ok(Box::new(alloc, p)?),
-    }
-}
-
-// A whole item before the rest of a star.
-#[tactic(auto, using(crate::proofs::StarForms::star_forms))]
-fn put_before(alloc: Global, item: Box<Prefix>, rest: Box<Prefix>) -> Result<Box<Prefix>, Memory>
-    ensures { IfOk result (λ r. prefix_of r.value ≡ star_rest (prefix_of item.value) (prefix_of rest.value)) }
-{
-    let mut items = Vec::new(alloc);
-    items.push(Box::into_inner(item))?;
-    match Box::into_inner(rest) {
-        Prefix::Star(mut more, end) => {
-            items.append(&mut more)?;
-            Ok(Box::new(alloc, Prefix::Star(items, end))?)
-        }
-        _ => Err(Memory),
-    }
-}
-
-/// A star that is over.
-#[tactic(auto, using(crate::proofs::StarForms::star_forms))]
-pub fn over_star(alloc: Global) -> Prefix
-    ensures { prefix_of result ≡ star_done }
-{
-    Prefix::Star(Vec::new(alloc), StarEnd::Done)
+    let star = core_term::stars::as_star(alloc, p)?;
+    Ok(Box::new(alloc, star)?)
 }

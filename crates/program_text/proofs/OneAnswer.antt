@@ -7,9 +7,9 @@ use Rattle.delta_lex.proofs.OneAnswer.{tokens_are_one, tokens_have_no_cause, cau
 use Rattle.delta_tree.specs.SyntaxTree.{ProgramTree}
 use Rattle.delta_parse.specs.Causes.{Belongs, Wrong, too_deep, unexpected, bound_twice, too_many, no_main, IsFirstAt}
 use Rattle.delta_parse.proofs.OneAnswer.{tree_is_one, cause_is_one, programs_have_no_cause}
-use Rattle.delta_end.specs.declared.refusal.Refusal.{Refusal}
-use Rattle.delta_end.specs.declared.refusal.RefusalName.{RefusalName}
-use Rattle.delta_end.specs.declared.refusal.RefusalName.TheVariants.{LongText, BadUtf8, BadChar, BigNumber, Deep, Expected, Twice, Many, NoMain, Unbound, NoFunction, NoType, TooTall, TooWide, Mismatch, OutOfOrder, Jumpy, WaitNull, Arity, History, NotStream, WideOutput}
+use Rattle.program_refusal.specs.declared.refusal.Refusal.{Refusal}
+use Rattle.program_refusal.specs.declared.refusal.RefusalName.{RefusalName}
+use Rattle.program_refusal.specs.declared.refusal.RefusalName.TheVariants.{LongText, BadUtf8, BadChar, BigNumber, Deep, Expected, Twice, Many, NoMain, Unbound, NoFunction, NoType, TooTall, TooWide, Mismatch, OutOfOrder, Jumpy, WaitNull, Arity, History, NotStream, WideOutput}
 use Rattle.program_text.specs.declared.fault.TextFault.{TextFault}
 use Rattle.program_text.specs.declared.fault.TextFault.TheVariants.{Memory, Refused}
 use Rattle.program_text.specs.Fault.{of_tokens, refused_for}

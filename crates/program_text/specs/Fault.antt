@@ -5,8 +5,8 @@ use Rattle.delta_lex.specs.declared.fault.LexFault.TheVariants as lex
 use Rattle.delta_lex.specs.Tokens.{longest}
 use Rattle.delta_parse.specs.declared.fault.ParseFault.{ParseFault}
 use Rattle.delta_parse.specs.declared.fault.ParseFault.TheVariants as parse
-use Rattle.delta_end.specs.declared.refusal.RefusalName.{RefusalName}
-use Rattle.delta_end.specs.declared.refusal.RefusalName.TheVariants.{LongText, BadUtf8, BadChar, BigNumber, Deep, Expected, Twice, Many, NoMain}
+use Rattle.program_refusal.specs.declared.refusal.RefusalName.{RefusalName}
+use Rattle.program_refusal.specs.declared.refusal.RefusalName.TheVariants.{LongText, BadUtf8, BadChar, BigNumber, Deep, Expected, Twice, Many, NoMain}
 use Rattle.program_text.specs.declared.fault.TextFault.{TextFault}
 use Rattle.program_text.specs.declared.fault.TextFault.TheVariants.{Memory, Refused}
 

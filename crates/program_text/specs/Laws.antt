@@ -1,7 +1,7 @@
 -- The laws of texts.
 use Rattle.std.specs.Prelude.{◌≡◌, ℕ, List}
 use Rattle.delta_tree.specs.SyntaxTree.{ProgramTree}
-use Rattle.delta_end.specs.declared.refusal.Refusal.{Refusal}
+use Rattle.program_refusal.specs.declared.refusal.Refusal.{Refusal}
 use Rattle.program_text.specs.ProgramText.{IsTextOf, IsRefusedFor}
 
 -- a text is that of one program at most

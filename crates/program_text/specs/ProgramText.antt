@@ -7,9 +7,9 @@ use Rattle.delta_tree.specs.SyntaxTree.{ProgramTree}
 use Rattle.delta_parse.specs.declared.fault.ParseFault.{ParseFault}
 use Rattle.delta_parse.specs.declared.fault.ParseFault.TheVariants as parse
 use Rattle.delta_parse.specs.Causes.{Belongs, IsCause as IsCauseOfGrammar}
-use Rattle.delta_end.specs.declared.refusal.Refusal.{Refusal}
-use Rattle.delta_end.specs.declared.refusal.RefusalName.{RefusalName}
-use Rattle.delta_end.specs.declared.refusal.RefusalName.TheVariants.{LongText, BadUtf8, BadChar, BigNumber, Deep, Expected, Twice, Many, NoMain}
+use Rattle.program_refusal.specs.declared.refusal.Refusal.{Refusal}
+use Rattle.program_refusal.specs.declared.refusal.RefusalName.{RefusalName}
+use Rattle.program_refusal.specs.declared.refusal.RefusalName.TheVariants.{LongText, BadUtf8, BadChar, BigNumber, Deep, Expected, Twice, Many, NoMain}
 use Rattle.program_text.specs.declared.fault.TextFault.{TextFault}
 use Rattle.program_text.specs.declared.fault.TextFault.TheVariants.{Memory, Refused}
 

@@ -3,9 +3,9 @@
 ghost use Rattle.std.specs.Prelude.{◌≡◌};
 ghost use Rattle.program_text.specs.Fault.{of_tokens, of_grammar};
 
-use delta_end::{Refusal, RefusalName};
 use delta_lex::LexFault;
 use delta_parse::ParseFault;
+use program_refusal::{Refusal, RefusalName};
 use thiserror::Error;
 
 /// Why a text is no program's.

@@ -1,45 +1,21 @@
 -- The free stream names of a typed state are stream variables of its context.
-use Rattle.std.proofs.Common.{◌≡◌, ◌∙◌, ⊎_elim, ℕ, Bool, true, false, true≢false, ◌||◌, List, [], ◌∷◌, ◌++◌, eqb, if◌then◌else◌, ap, refl, sym}
-use Rattle.std.proofs.lemmas.Bool.{eqb-true}
+use Rattle.std.proofs.Common.{◌≡◌, ◌∙◌, ℕ, Bool, true, false, true≢false, List, [], ap, sym}
 use Rattle.std.specs.Prelude.{Some, is_some}
 use Rattle.stream_type.specs.StreamType.{StreamType, cat, par}
 use Rattle.stream_prefix.specs.StreamPrefix.{der}
-use Rattle.bunch.specs.Names.{holds}
-use Rattle.bunch.specs.Facts.{Facts, place_like}
+use Rattle.bunch.specs.Facts.{place_like}
 use Rattle.core_term.specs.CoreTerm.{CoreBody}
 use Rattle.core_term.specs.FreeNames.{without, free_names}
-use Rattle.core_term.specs.Typing.{Context, with_name}
-use Rattle.core_term.proofs.Sides.{holds-split}
-use Rattle.core_term.proofs.Without.{holds-kept, differs-kept}
-use Rattle.core_term.proofs.TypedRuns.{AreStreams, free_are_streams}
+use Rattle.core_term.specs.Typing.{Context}
+use Rattle.core_term.proofs.TypedRuns.{AreStreams, streams_both, streams_more, streams_without, free_are_streams}
 use Rattle.delta_state.specs.StateTree.{HeldName, StateTree, ArgumentTrees, sink, var_state, par_state, cat_state, let_state, let_par_state, let_cat_state, sum_state, star_state, wait_state, frame_state, no_arguments, argument_before, free_in_state, free_in_arguments, free_in_sum, free_in_star, free_in_wait}
 use Rattle.delta_state.specs.StateTyping.{HasStateType, HaveArgumentTypes, IsHeld, with_past}
 use Rattle.delta_state.proofs.HeldNames.{held_at}
 use Rattle.state_steps.proofs.KnownNames.{past_types-same}
 
--- in the empty list each name is a stream name;
+-- in the empty list each name is a stream name
 streams_none : (c : Context) → AreStreams c []
 streams_none c = record { at = λ y m. absurd (true≢false (sym m)) }
-
--- two lists of stream names in a row are one,
-streams_both : (c : Context) (xs ys : List ℕ) → AreStreams c xs → AreStreams c ys → AreStreams c (xs ++ ys)
-streams_both c xs ys h k = record { at = λ x m. ⊎_elim (λ l. h.at x l) (λ r. k.at x r) (holds-split x xs ys m) }
-
--- and so is a list with a stream name in front,
-streams_more : (c : Context) (z : ℕ) (s : StreamType) (xs : List ℕ) → c.types z ≡ Some s → AreStreams c xs → AreStreams c (z ∷ xs)
-streams_more c z s xs e h = record { at = λ x m. go x (eqb x z) refl m }
-  where
-    go : (x : ℕ) (b : Bool) → eqb x z ≡ b → (b || holds x xs) ≡ true → is_some (c.types x) ≡ true
-    go x true k m = ap (λ w. is_some (c.types w)) (eqb-true x z k) ∙ ap is_some e
-    go x false k m = h.at x m
-
--- and one less the name that was put
-streams_without : (c : Context) (x : ℕ) (s : StreamType) (o : Facts) (xs : List ℕ) → AreStreams (with_name x s o c) xs → AreStreams c (without x xs)
-streams_without c x s o xs h = record { at = λ y m. go y (eqb y x) (differs-kept y x xs m) (h.at y (holds-kept y x xs m)) }
-  where
-    go : (y : ℕ) (b : Bool) → b ≡ false → is_some (if b then Some s else c.types y) ≡ true → is_some (c.types y) ≡ true
-    go y true k m = absurd (true≢false k)
-    go y false k m = m
 
 -- the free names of a form that holds them are stream names
 streams_held : (c : Context) (free : List ℕ) (held : List HeldName) → IsHeld c free held → AreStreams c free

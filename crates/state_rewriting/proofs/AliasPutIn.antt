@@ -1,7 +1,6 @@
 -- The rewriting that puts in, for a name that is bound to another one, that one: the type is kept, and the runs
 -- are lighter.
-use Rattle.std.proofs.Common.{◌≡◌, ◌∙◌, ℕ, Bool, true, false, true≢false, List, [], ◌∷◌, eqb, if◌then◌else◌, ap, refl, subst, sym, arith}
-use Rattle.std.proofs.lemmas.Bool.{eqb-true}
+use Rattle.std.proofs.Common.{◌≡◌, ◌∙◌, ℕ, Bool, true, false, List, [], ◌∷◌, eqb, if◌then◌else◌, ap, refl, sym, arith}
 use Rattle.std.specs.Prelude.{Some, is_some}
 use Rattle.std.specs.List.{All}
 use Rattle.stream_type.specs.StreamType.{StreamType}
@@ -13,7 +12,7 @@ use Rattle.core_term.specs.Environment.{Environment, NameTypes}
 use Rattle.core_term.specs.Inert.{is_inert_fun}
 use Rattle.core_term.specs.Run.{quiet}
 use Rattle.core_term.specs.Typing.{Context, IsTypedBody, with_name, with_name_like}
-use Rattle.core_term.proofs.Sides.{and_first, holds-head, put-same, eqb-same}
+use Rattle.core_term.proofs.Sides.{holds-head, put-same}
 use Rattle.core_term.proofs.Without.{holds-tail, holds-without, holds-kept, differs-kept}
 use Rattle.core_term.proofs.Retyping.{Among}
 use Rattle.core_term.proofs.TypedTerms.{Extends, extends_name}
@@ -24,7 +23,8 @@ use Rattle.delta_state.specs.Settled.{is_settled}
 use Rattle.delta_state.proofs.GrowingStates.{state_run_grows}
 use Rattle.state_rewriting.specs.Rewriting.{Replaced, IsAlias, alias_for}
 use Rattle.state_rewriting.proofs.OtherNames.{at_other_name}
-use Rattle.state_rewriting.proofs.NamesServing.{Beside, beside_both, let_at, serves_let, serves_like, serves_fact, OneFor, one_named, one_serves, one_served, one_other, behind_head}
+use Rattle.state_rewriting.proofs.NamesServing.{Beside, beside_both, serves_let, serves_like, serves_fact, OneFor, one_named, one_serves, one_served, one_other, behind_head}
+use Rattle.state_rewriting.proofs.NamesThatServe.{alias_serves}
 use Rattle.state_rewriting.proofs.FittingParts.{ServesFor, Served, served_fewer, Fits, FitsLocally, fits}
 use Rattle.state_rewriting.proofs.LighterParts.{LighterState, LightensLocally, lightens, lighter_let}
 use Rattle.state_rewriting.proofs.BindingsLeftOut.{NoOther}
@@ -59,26 +59,11 @@ module _ (y z : ℕ) where
 
   -- it is known where y was just bound to z
   alias_known : (c : Context) (s : StreamType) → c.types z ≡ Some s → KnownAlias y z (with_name y s (place_let y (z ∷ []) true c.order) c)
-  alias_known c s t = record { types = put-same y (Some s) c.types ∙ sym (types (eqb z y)); order = by_name (eqb z y) refl }
+  alias_known c s t = record { types = put-same y (Some s) c.types ∙ sym (types (eqb z y)); order = alias_serves y z c.order }
     where
       types : (b : Bool) → (if b then Some s else c.types z) ≡ Some s
       types true = refl
       types false = t
-
-      after : (u : ℕ) (b : Bool) → let_at y (z ∷ []) c.order y u true b ≡ true → let_at y (z ∷ []) c.order z u false b ≡ true
-      after u true h = absurd (true≢false (sym h))
-      after u false h = and_first (c.order z u) true h
-
-      before : (u : ℕ) (a : Bool) → let_at y (z ∷ []) c.order u y a true ≡ true → let_at y (z ∷ []) c.order u z a false ≡ true
-      before u true h = absurd (true≢false (sym h))
-      before u false h = and_first (c.order u z) true h
-
-      by_name : (b : Bool) → eqb z y ≡ b → ServesFor y z (place_let y (z ∷ []) true c.order)
-      by_name true e = subst (λ v. ServesFor y v (place_let y (z ∷ []) true c.order)) (sym (eqb-true z y e)) (record { after = λ u h. h; before = λ u h. h })
-      by_name false e = record {
-        after = λ u h. ap (λ a. let_at y (z ∷ []) c.order z u a (eqb u y)) e ∙ after u (eqb u y) (sym (ap (λ a. let_at y (z ∷ []) c.order y u a (eqb u y)) (eqb-same y)) ∙ h);
-        before = λ u h. ap (λ b. let_at y (z ∷ []) c.order u z (eqb u y) b) e ∙ before u (eqb u y) (sym (ap (λ b. let_at y (z ∷ []) c.order u y (eqb u y) b) (eqb-same y)) ∙ h);
-      }
 
   -- the let has no new free names
   alias_free : (xs ys : List ℕ) → Served (OneFor y z) xs ys → Among (z ∷ without y ys) (z ∷ without y xs)

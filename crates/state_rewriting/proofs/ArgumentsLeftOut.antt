@@ -39,7 +39,7 @@ meets : {A : Type 0} (b : Bool) (a : A) (f g : A) → f ≡ g → (if b then a e
 meets b a f g e = ap (λ h. if b then a else h) e
 
 -- so at other names than u the arguments less those of u have the same parameters,
-names_without : (u : ℕ) (args : ArgumentTrees) (y : ℕ) → eqb y u ≡ false → holds y (argument_names args) ≡ holds y (argument_names (without_argument u args))
+pub names_without : (u : ℕ) (args : ArgumentTrees) (y : ℕ) → eqb y u ≡ false → holds y (argument_names args) ≡ holds y (argument_names (without_argument u args))
 names_without u no_arguments y n = refl
 names_without u (argument_before x t s args) y n = go (eqb x u) refl (names_without u args y n)
   where
@@ -49,7 +49,7 @@ names_without u (argument_before x t s args) y n = go (eqb x u) refl (names_with
     go false k e = ap (λ c. eqb y x || c) e
 
 -- the same types in the context
-marks_without : (u : ℕ) (args : ArgumentTrees) (y : ℕ) → eqb y u ≡ false → marks_of_arguments args y ≡ marks_of_arguments (without_argument u args) y
+pub marks_without : (u : ℕ) (args : ArgumentTrees) (y : ℕ) → eqb y u ≡ false → marks_of_arguments args y ≡ marks_of_arguments (without_argument u args) y
 marks_without u no_arguments y n = refl
 marks_without u (argument_before x t s args) y n = go (eqb x u) refl (marks_without u args y n)
   where
@@ -69,7 +69,7 @@ types_without u (argument_before x t s args) y n = go (eqb x u) refl (types_with
     go false k e = meets (eqb y x) t _ _ e
 
 -- and the same arguments
-at_without : (u : ℕ) (args : ArgumentTrees) (y : ℕ) → eqb y u ≡ false → argument_at args y ≡ argument_at (without_argument u args) y
+pub at_without : (u : ℕ) (args : ArgumentTrees) (y : ℕ) → eqb y u ≡ false → argument_at args y ≡ argument_at (without_argument u args) y
 at_without u no_arguments y n = refl
 at_without u (argument_before x t s args) y n = go (eqb x u) refl (at_without u args y n)
   where

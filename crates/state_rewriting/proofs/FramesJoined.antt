@@ -35,12 +35,12 @@ use Rattle.state_rewriting.proofs.LighterParts.{Lighter, lighter_to, LighterStat
 use Rattle.state_rewriting.proofs.BindingsLeftOut.{NoOther}
 
 -- the composed arguments are those of the inner frame's parameters,
-composed_names : (args inner : ArgumentTrees) → argument_names (composed args inner) ≡ argument_names inner
+pub composed_names : (args inner : ArgumentTrees) → argument_names (composed args inner) ≡ argument_names inner
 composed_names args no_arguments = refl
 composed_names args (argument_before x t s inner) = ap (λ ns. x ∷ ns) (composed_names args inner)
 
 -- their types in the context
-composed_marks : (args inner : ArgumentTrees) → marks_of_arguments (composed args inner) ≡ marks_of_arguments inner
+pub composed_marks : (args inner : ArgumentTrees) → marks_of_arguments (composed args inner) ≡ marks_of_arguments inner
 composed_marks args no_arguments = refl
 composed_marks args (argument_before x t s inner) = ap (put x (Some t)) (composed_marks args inner)
 
@@ -50,7 +50,7 @@ composed_types args no_arguments = refl
 composed_types args (argument_before x t s inner) = ap (put x t) (composed_types args inner)
 
 -- and each is what is passed on
-composed_at : (args inner : ArgumentTrees) (u : ℕ) → argument_at (composed args inner) u ≡ passed_on args (argument_at inner u)
+pub composed_at : (args inner : ArgumentTrees) (u : ℕ) → argument_at (composed args inner) u ≡ passed_on args (argument_at inner u)
 composed_at args no_arguments u = refl
 composed_at args (argument_before x t s inner) u = go (eqb u x) (composed_at args inner u)
   where
@@ -59,7 +59,7 @@ composed_at args (argument_before x t s inner) u = go (eqb u x) (composed_at arg
     go false e = e
 
 -- where all arguments are names or finished, each is
-plain_at : (inner : ArgumentTrees) (u : ℕ) → are_plain inner ≡ true → is_plain (argument_at inner u) ≡ true
+pub plain_at : (inner : ArgumentTrees) (u : ℕ) → are_plain inner ≡ true → is_plain (argument_at inner u) ≡ true
 plain_at no_arguments u p = refl
 plain_at (argument_before x t s inner) u p = go (eqb u x) (plain_at inner u (and_second (is_plain s) (are_plain inner) p))
   where
@@ -80,6 +80,17 @@ composed_free args (argument_before x t s inner) p = record {
   at = λ y m. ⊎_elim (λ i. (passed_free args s (and_first (is_plain s) (are_plain inner) p)).at y i) (λ i. (composed_free args inner (and_second (is_plain s) (are_plain inner) p)).at y i)
       (holds-split y (free_in_state (passed_on args s)) (free_in_arguments (composed args inner)) m);
 }
+
+-- what stands before another thing in the outer body is passed on to what does so outside
+pub passed_before : (args : ArgumentTrees) (c : Context) (p q : StateTree) → is_plain p ≡ true → is_plain q ≡ true → AllBefore (context_of_arguments c args) (free_in_state p) (free_in_state q) → AllBefore c (free_in_state (passed_on args p)) (free_in_state (passed_on args q))
+passed_before args c (sink t) q m n h x y i j = absurd (true≢false (sym i))
+passed_before args c (var_state u) (sink t) m n h x y i j = absurd (true≢false (sym j))
+passed_before args c (var_state u) (var_state v) m n h x y i j =
+    let k = h u v (holds-head u []) (holds-head v []) in
+    let o = and_second (is_some (marks_of_arguments args u) && is_some (marks_of_arguments args v)) _ k in
+    row_at c (free_in_state (argument_at args u)) (free_in_state (argument_at args v)) (and_second (holds u (argument_names args) && holds v (argument_names args)) _ o) x y i j
+passed_before args c (var_state u) _ m n h x y i j = absurd (true≢false (sym n))
+passed_before args c _ q m n h x y i j = absurd (true≢false (sym m))
 
 module _ (funs : List CoreBody) (counts : ℕ → Bool) where
   -- the argument of a parameter has its type,
@@ -114,18 +125,7 @@ module _ (funs : List CoreBody) (counts : ℕ → Bool) where
   composed_settled args (argument_before x t (var_state u) inner) c p i k = ap₂ ◌&&◌ (argument_settled args u t i k.0) (composed_settled args inner c p i k.1)
   composed_settled args (argument_before x t _ inner) c p i k = absurd (true≢false (sym p))
 
-  -- what stands before another thing in the outer body is passed on to what does so outside
-  passed_before : (args : ArgumentTrees) (c : Context) (p q : StateTree) → is_plain p ≡ true → is_plain q ≡ true → AllBefore (context_of_arguments c args) (free_in_state p) (free_in_state q) → AllBefore c (free_in_state (passed_on args p)) (free_in_state (passed_on args q))
-  passed_before args c (sink t) q m n h x y i j = absurd (true≢false (sym i))
-  passed_before args c (var_state u) (sink t) m n h x y i j = absurd (true≢false (sym j))
-  passed_before args c (var_state u) (var_state v) m n h x y i j =
-      let k = h u v (holds-head u []) (holds-head v []) in
-      let o = and_second (is_some (marks_of_arguments args u) && is_some (marks_of_arguments args v)) _ k in
-      row_at c (free_in_state (argument_at args u)) (free_in_state (argument_at args v)) (and_second (holds u (argument_names args) && holds v (argument_names args)) _ o) x y i j
-  passed_before args c (var_state u) _ m n h x y i j = absurd (true≢false (sym n))
-  passed_before args c _ q m n h x y i j = absurd (true≢false (sym m))
-
-  -- so the inner body sees no less in the one frame
+  -- the inner body sees no less in the one frame
   composed_body : (args inner : ArgumentTrees) (c : Context) (xs : List ℕ) → are_plain inner ≡ true → Sees xs (context_of_arguments (context_of_arguments c args) inner) (context_of_arguments c (composed args inner))
   composed_body args inner c xs p = record {
     types = λ x s m k. ap (λ f. f x) (composed_marks args inner) ∙ k;

@@ -6,6 +6,7 @@ pub mod LighterParts
 pub mod BindingsLeftOut
 pub mod ArgumentsLeftOut
 pub mod NamesServing
+pub mod NamesThatServe
 pub mod AliasPutIn
 pub mod PairPutIn
 pub mod FramesJoined

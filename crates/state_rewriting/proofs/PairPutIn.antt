@@ -1,7 +1,6 @@
 -- The rewriting that puts in, for the pair of both parts of a name, that name: the type is kept, and the runs are
 -- lighter.
-use Rattle.std.proofs.Common.{◌≡◌, ◌≢◌, ◌∙◌, ℕ, Bool, true, false, true≢false, List, [], ◌∷◌, eqb, if◌then◌else◌, ap, ap₂, refl, subst, sym, arith}
-use Rattle.std.proofs.lemmas.Bool.{ne_eqb}
+use Rattle.std.proofs.Common.{◌≡◌, ◌≢◌, ◌∙◌, ℕ, Bool, true, false, List, [], ◌∷◌, eqb, ap, ap₂, refl, subst, sym, arith}
 use Rattle.std.specs.Prelude.{Some, is_some, unwrap_or}
 use Rattle.std.specs.List.{All}
 use Rattle.stream_type.specs.StreamType.{StreamType, eps, par}
@@ -16,7 +15,7 @@ use Rattle.core_term.specs.Environment.{Environment, NameTypes}
 use Rattle.core_term.specs.Inert.{is_inert_fun}
 use Rattle.core_term.specs.Parts.{par_left, par_right, left_part, right_part}
 use Rattle.core_term.specs.Typing.{Context, type_at, IsTypedBody, with_name, with_name_like, with_parts}
-use Rattle.core_term.proofs.Sides.{holds-head, put-same, put-other, eqb-same}
+use Rattle.core_term.proofs.Sides.{holds-head, put-same, put-other}
 use Rattle.core_term.proofs.Without.{holds-tail, holds-without, holds-kept, differs-kept}
 use Rattle.core_term.proofs.Retyping.{Among}
 use Rattle.core_term.proofs.TypedTerms.{Extends, type_in, extends_name}
@@ -25,8 +24,9 @@ use Rattle.delta_state.specs.StateTree.{StateTree, par_state, var_state, let_par
 use Rattle.delta_state.specs.StateTyping.{HasStateType, no_pasts}
 use Rattle.delta_state.specs.Settled.{is_settled}
 use Rattle.state_rewriting.specs.Rewriting.{Replaced, IsPair, pair_for}
-use Rattle.state_rewriting.proofs.OtherNames.{apart_from, at_other_name, unless_chosen}
-use Rattle.state_rewriting.proofs.NamesServing.{Beside, beside_both, like_at, serves_let, serves_like, serves_fact, OneFor, one_named, one_serves, one_served, one_other, behind_head}
+use Rattle.state_rewriting.proofs.OtherNames.{apart_from, at_other_name}
+use Rattle.state_rewriting.proofs.NamesServing.{Beside, beside_both, serves_let, serves_like, serves_fact, OneFor, one_named, one_serves, one_served, one_other, behind_head}
+use Rattle.state_rewriting.proofs.NamesThatServe.{pair_serves}
 use Rattle.state_rewriting.proofs.FittingParts.{ServesFor, Served, served_fewer, Fits, FitsLocally, fits, par_form}
 use Rattle.state_rewriting.proofs.LighterParts.{LighterState, LightensLocally, lightens, lighter_inside}
 use Rattle.state_rewriting.proofs.BindingsLeftOut.{NoOther}
@@ -81,58 +81,8 @@ module _ (x y z : ℕ) where
       first_type = put-other y x (Some t) (put x (Some s) c.types) (λ i. n (sym i)) ∙ put-same x (Some s) c.types;
       second_type = put-same y (Some t) (put x (Some s) c.types);
       both_type = put-other y z (Some t) (put x (Some s) c.types) m ∙ (put-other x z (Some s) c.types o ∙ e);
-      order = record { after = after; before = before };
+      order = pair_serves x y z c.order n m o;
     }
-      where
-        O : Facts
-        O = c.order
-
-        -- the order once x is placed like z, and y isn't yet
-        P : Facts
-        P = place_like x z c.order
-
-        zy : eqb z y ≡ false
-        zy = ne_eqb z y (λ i. m (sym i))
-
-        zx : eqb z x ≡ false
-        zx = ne_eqb z x (λ i. o (sym i))
-
-        -- between x and z there is nothing
-        none : P x z ≡ false
-        none = ap (λ a. like_at z O x z a (eqb z x)) (eqb-same x) ∙ (ap (λ b. like_at z O x z true b) zx ∙ ap (λ b. if b then false else O z z) (eqb-same z))
-
-        back : P z x ≡ false
-        back = ap (λ a. like_at z O z x a (eqb x x)) zx ∙ (ap (λ b. like_at z O z x false b) (eqb-same x) ∙ ap (λ b. if b then false else O z z) (eqb-same z))
-
-        -- so z serves for x there
-        after_part : (u : ℕ) → P x u ≡ true → P z u ≡ true
-        after_part u h = ap (λ a. like_at z O z u a (eqb u x)) zx ∙ go (eqb u x) (sym (ap (λ a. like_at z O x u a (eqb u x)) (eqb-same x)) ∙ h)
-          where
-            go : (b : Bool) → like_at z O x u true b ≡ true → like_at z O z u false b ≡ true
-            go true k = absurd (true≢false (sym k))
-            go false k = unless_chosen (eqb u z) (O z u) k
-
-        before_part : (u : ℕ) → P u x ≡ true → P u z ≡ true
-        before_part u h = ap (λ b. like_at z O u z (eqb u x) b) zx ∙ go (eqb u x) (sym (ap (λ b. like_at z O u x (eqb u x) b) (eqb-same x)) ∙ h)
-          where
-            go : (a : Bool) → like_at z O u x a true ≡ true → like_at z O u z a false ≡ true
-            go true k = absurd (true≢false (sym k))
-            go false k = unless_chosen (eqb u z) (O u z) k
-
-        -- and once y is placed like z too
-        after : (u : ℕ) → place_like y z P x u ≡ true → place_like y z P z u ≡ true
-        after u h = ap (λ a. like_at z P z u a (eqb u y)) zy ∙ go (eqb u y) (sym (ap (λ a. like_at z P x u a (eqb u y)) (ne_eqb x y n)) ∙ h)
-          where
-            go : (b : Bool) → like_at z P x u false b ≡ true → like_at z P z u false b ≡ true
-            go true k = absurd (true≢false (sym k ∙ (ap (λ a. if a then false else P x z) (ne_eqb x z o) ∙ none)))
-            go false k = after_part u k
-
-        before : (u : ℕ) → place_like y z P u x ≡ true → place_like y z P u z ≡ true
-        before u h = ap (λ b. like_at z P u z (eqb u y) b) zy ∙ go (eqb u y) (sym (ap (λ b. like_at z P u x (eqb u y) b) (ne_eqb x y n)) ∙ h)
-          where
-            go : (a : Bool) → like_at z P u x a false ≡ true → like_at z P u z a false ≡ true
-            go true k = absurd (true≢false (sym k ∙ (ap (λ b. if b then false else P z x) (ne_eqb x z o) ∙ back)))
-            go false k = before_part u k
 
   -- the destructuring has no new free names
   pair_free : (xs ys : List ℕ) → Served (OneFor x z) xs ys → Among (z ∷ without x (without y ys)) (z ∷ without x (without y xs))

@@ -37,7 +37,7 @@ use Rattle.state_rewriting.proofs.CodeKept.{replaced_laters, rewritten_laters}
 
 module _ (funs : List CoreBody) (counts : ℕ → Bool) where
   -- what each rewriting puts in fits, whatever is known of the context
-  rewritten_fits : (r : StreamType) (a b : StateTree) → Rewritten r a b → (c : Context) → Unit {0} → HasStateType funs counts c a r → is_settled a r ≡ true → Fits funs counts NoOther c r a b
+  pub rewritten_fits : (r : StreamType) (a b : StateTree) → Rewritten r a b → (c : Context) → Unit {0} → HasStateType funs counts c a r → is_settled a r ≡ true → Fits funs counts NoOther c r a b
   rewritten_fits r a b (finished n) c k t i = finished_fits funs counts c r a n
   rewritten_fits r a b (unused {s = s} {x = x} {a = q} n) c k t i = unused_fits funs counts c r s x q b n t i
   rewritten_fits r a b (unused_pair {x = x} {y = y} {z = z} n m) c k t i = unused_pair_fits funs counts c r x y z b n m t i
@@ -49,7 +49,7 @@ module _ (funs : List CoreBody) (counts : ℕ → Bool) where
   rewritten_fits r a b (frames {args = args} {inner = inner} {a = q} p o) c k t i = frames_fit funs counts c r args inner q p t i
 
   -- so the rewritings fit locally, without names
-  rewritings_fit : FitsLocally funs counts [] Rewritten NoOther (λ c. Unit {0})
+  pub rewritings_fit : FitsLocally funs counts [] Rewritten NoOther (λ c. Unit {0})
   rewritings_fit = record {
     named = λ w v n. absurd n;
     serves = λ c k w v n. absurd n;

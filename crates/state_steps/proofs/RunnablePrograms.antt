@@ -1,22 +1,20 @@
 -- A program that binds its names once and is typed: its bodies bind apart, and its parameters are distinct.
-use Rattle.std.proofs.Common.{◌≡◌, ◌∙◌, ◌≢◌, ℕ, true, List, [], ◌∷◌, refl, sym, Bool, false, ◌++◌, zero, suc}
-use Rattle.std.proofs.lemmas.List.Elements.{All-nil, All-cons}
+use Rattle.std.proofs.Common.{◌≡◌, ◌∙◌, ◌≢◌, ℕ, List, [], ◌∷◌, refl, sym, Bool, ◌++◌}
 use Rattle.std.specs.List.{All}
-use Rattle.std.specs.Prelude.{Some, None, slice_index_or}
+use Rattle.std.specs.Prelude.{Some, None}
 use Rattle.stream_type.specs.StreamType.{StreamType}
 use Rattle.stream_prefix.specs.StreamPrefix.{StreamPrefix}
 use Rattle.stream_prefix.proofs.Derivations.{Derives, derives, is_prefix}
-use Rattle.bunch.specs.BunchTree.{leaf, leaf_names, BunchTree, empty, comma, semi, IsDistinct, as_type}
+use Rattle.bunch.specs.BunchTree.{leaf_names, IsDistinct, as_type}
 use Rattle.bunch.specs.Facts.{Facts}
-use Rattle.bunch.specs.Names.{holds}
 use Rattle.core_term.specs.CoreTerm.{CoreBody, fun_at, CoreProgram, no_body, past_names, CoreTerm, CoreTerms}
 use Rattle.core_term.specs.Environment.{NameTypes}
-use Rattle.core_term.specs.FreeNames.{is_distinct, bound_names}
+use Rattle.core_term.specs.FreeNames.{bound_names}
 use Rattle.core_term.specs.Inert.{is_inert_fun}
 use Rattle.core_term.specs.Meaning.{mean}
 use Rattle.core_term.specs.Typing.{HasType, context_of, past_params}
-use Rattle.core_term.proofs.BoundOnce.{distinct_left, distinct_right, distinct_apart, core_bodies, core_main}
-use Rattle.core_term.proofs.TypedRuns.{mean_is_typed}
+use Rattle.core_term.proofs.BoundOnce.{distinct_left, distinct_right, distinct_bunch, core_bodies, core_main}
+use Rattle.core_term.proofs.TypedRuns.{all_at, mean_is_typed}
 use Rattle.core_term.proofs.TypedTerms.{PastTypes, Typed, TypedAll, var_typed, eps_typed, unit_typed, nil_typed, past_typed, par_typed, cat_typed, cons_typed, inl_typed, inr_typed, let_typed, let_par_typed, let_cat_typed, case_sum_typed, case_star_typed, wait_typed, call_typed, none_typed, more_typed}
 use Rattle.delta_state.specs.Apart.{BindsApart, BindApart}
 use Rattle.state_steps.specs.Laws.{IsRunnable}
@@ -49,26 +47,6 @@ module _ (funs : ℕ → CoreBody) (counts : ℕ → Bool) where
     bind_apart : {T : NameTypes} {O : Facts} {H : PastTypes} {es : CoreTerms} {ts : List StreamType} → TypedAll funs counts ◌≢◌ T O H es ts → BindApart es
     bind_apart none_typed = tt
     bind_apart (more_typed a as') = (binds_apart a, bind_apart as')
-
--- what is true at each place of a list is true of all of it
-all_at : {A : Type 0} (P : A → Type 0) (d : A) (xs : List A) → ((i : ℕ) → P (slice_index_or xs i d)) → All P xs
-all_at P d [] f = All-nil P
-all_at P d (x ∷ xs) f = All-cons P x xs (f zero) (all_at P d xs (λ i. f (suc i)))
-
--- of two lists without a name twice each name of the second isn't in the first
-parts_apart : (xs ys : List ℕ) → is_distinct (xs ++ ys) ≡ true → (x : ℕ) → holds x ys ≡ true → holds x xs ≡ false
-parts_apart xs ys h x m = go (holds x xs) refl
-  where
-    go : (c : Bool) → holds x xs ≡ c → c ≡ false
-    go true e = absurd (distinct_apart xs ys h x e m)
-    go false e = refl
-
--- so a bunch without a name twice is distinct
-distinct_bunch : (b : BunchTree) → is_distinct (leaf_names b) ≡ true → IsDistinct b
-distinct_bunch empty h = tt
-distinct_bunch (leaf x t) h = tt
-distinct_bunch (comma a b) h = (distinct_bunch a (distinct_left (leaf_names a) (leaf_names b) h), distinct_bunch b (distinct_right (leaf_names a) (leaf_names b) h), parts_apart (leaf_names a) (leaf_names b) h)
-distinct_bunch (semi a b) h = (distinct_bunch a (distinct_left (leaf_names a) (leaf_names b) h), distinct_bunch b (distinct_right (leaf_names a) (leaf_names b) h), parts_apart (leaf_names a) (leaf_names b) h)
 
 module _ (c : CoreProgram) (runnable : IsRunnable c) where
   -- each function binds first names apart,

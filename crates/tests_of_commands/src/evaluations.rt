@@ -2,8 +2,9 @@
 
 use crate::outside::{link, written};
 use command_eval::eval_source;
-use delta_end::{End, InputFault, Refusal, RefusalName};
+use delta_end::{End, InputFault};
 use event_frame::{FrameFault, Version};
+use program_refusal::{Refusal, RefusalName};
 use std::alloc::Global;
 use std::test::Fail;
 

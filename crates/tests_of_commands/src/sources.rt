@@ -3,7 +3,8 @@
 use crate::outside::{are_written, link};
 use command_check::check_source;
 use command_print::print_source;
-use delta_end::{End, Refusal, RefusalName};
+use delta_end::End;
+use program_refusal::{Refusal, RefusalName};
 use std::alloc::Global;
 use std::test::Fail;
 

@@ -1,10 +1,11 @@
 //! Notes and statuses.
 
-use delta_end::{End, InputFault, Refusal, RefusalName, answer, note};
+use delta_end::{End, InputFault, answer, note};
 use event_frame::FrameFault;
 use event_text::LineFault;
 use event_word::EventFault;
 use port::{IoFault, MemSink};
+use program_refusal::{Refusal, RefusalName};
 use std::alloc::Global;
 use std::test::Fail;
 

@@ -1,8 +1,8 @@
 //! Which texts are accepted, and for what the others are refused.
 
 use checked_program::{accept, accept_to_write};
-use delta_end::{Refusal, RefusalName};
 use event_frame::Version;
+use program_refusal::{Refusal, RefusalName};
 use program_text::TextFault;
 use std::alloc::Global;
 use std::test::Fail;

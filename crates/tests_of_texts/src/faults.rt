@@ -1,7 +1,7 @@
 //! That a text gets its answer where there is memory.
 
-use delta_end::{Refusal, RefusalName};
 use delta_tree::Program;
+use program_refusal::{Refusal, RefusalName};
 use program_text::{TextFault, program_of};
 use std::alloc::Global;
 use std::test::Fail;

@@ -25,9 +25,9 @@ use Rattle.delta_parse.proofs.Samples.{delta_checked}
 use Rattle.delta_parse.proofs.BindingSteps.{named_shorter}
 use Rattle.delta_parse.proofs.Firsts.{begins_shorter, begins_whole, name_first, deep_first, unexpected_first, no_main_first}
 use Rattle.delta_parse.proofs.Programs.{program_found, stuck_before, no_main as only_declarations, stuck_in_main, more_behind_main}
-use Rattle.delta_end.specs.declared.refusal.Refusal.{Refusal}
-use Rattle.delta_end.specs.declared.refusal.RefusalName.{RefusalName}
-use Rattle.delta_end.specs.declared.refusal.RefusalName.TheVariants.{LongText, BadUtf8, BadChar, BigNumber, Deep, Expected, Twice as TwiceName, Many as ManyName, NoMain}
+use Rattle.program_refusal.specs.declared.refusal.Refusal.{Refusal}
+use Rattle.program_refusal.specs.declared.refusal.RefusalName.{RefusalName}
+use Rattle.program_refusal.specs.declared.refusal.RefusalName.TheVariants.{LongText, BadUtf8, BadChar, BigNumber, Deep, Expected, Twice as TwiceName, Many as ManyName, NoMain}
 use Rattle.program_text.specs.ProgramText.{IsTextOf, IsRefusedFor}
 use Rattle.text_laws.specs.Laws.{TokensAreJudged, TextsAreJudged}
 use Rattle.text_laws.proofs.Enough.{Ends, reading_ends}

@@ -9,7 +9,7 @@ use Rattle.delta_parse.specs.Programs.{IsTreeOf}
 use Rattle.delta_parse.specs.Marks.{IsShallow}
 use Rattle.delta_parse.specs.Bindings.{AreNamed}
 use Rattle.delta_parse.specs.Causes.{Belongs, IsCause}
-use Rattle.delta_end.specs.declared.refusal.Refusal.{Refusal}
+use Rattle.program_refusal.specs.declared.refusal.Refusal.{Refusal}
 use Rattle.program_text.specs.ProgramText.{IsTextOf, IsRefusedFor}
 use Rattle.text_laws.specs.TreeNames.{IsNamedProgram}
 

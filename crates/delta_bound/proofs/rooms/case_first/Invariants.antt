@@ -5,7 +5,7 @@ use Rattle.core_term.specs.FreeNames.{without}
 use Rattle.core_term.specs.Typing.{types_of}
 use Rattle.state_bounds.specs.ProgramBound.{first_large}
 use Rattle.state_bounds.specs.TermBounds.{room_of}
-use Rattle.delta_bound.specs.Scopes.{context_in}
+use Rattle.delta_check.specs.Scopes.{context_in}
 use Rattle.delta_bound.proofs.rooms.case_first.Given as goal
 
 abbrev pub invariant-loop-y : goal.invariant-loop-y

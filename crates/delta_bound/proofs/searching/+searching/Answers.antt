@@ -6,7 +6,7 @@ use Rattle.core_term.specs.CoreTerm.{core_of, term_of}
 use Rattle.core_term.specs.TypeFaults.{first_some}
 use Rattle.core_term.specs.Typing.{Context, with_name, with_let}
 use Rattle.delta_check.specs.Counting.{counts_in}
-use Rattle.delta_bound.specs.Scopes.{context_in, place_known}
+use Rattle.delta_check.specs.Scopes.{context_in, place_known}
 use Rattle.delta_bound.specs.Unsized.{told, unsized_at, unsized_of, unsized_among}
 use Rattle.delta_bound.proofs.FirstNodes.{call-is}
 use Rattle.delta_bound.proofs.searching.+searching.Goals as goal

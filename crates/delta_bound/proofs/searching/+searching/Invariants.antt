@@ -3,7 +3,7 @@ use Rattle.std.proofs.Common.{◌≡◌, ◌+◌, ◌*◌, max, drop}
 use Rattle.core_term.specs.declared.term.Node.{size-Node}
 use Rattle.core_term.specs.CoreTerm.{core_of}
 use Rattle.delta_check.specs.Counting.{counts_in}
-use Rattle.delta_bound.specs.Scopes.{context_in}
+use Rattle.delta_check.specs.Scopes.{context_in}
 use Rattle.delta_bound.specs.Unsized.{unsized_among}
 use Rattle.delta_bound.proofs.searching.+searching.Given as goal
 

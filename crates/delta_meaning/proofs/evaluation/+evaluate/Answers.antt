@@ -9,6 +9,7 @@ use Rattle.delta_tree.specs.SyntaxTree.{wait_at, call_at, call_head}
 use Rattle.delta_tree.specs.Tree.{expression_of, expressions_of, expression_form_of, head_of, head_form_of, hist_of}
 use Rattle.delta_tree.proofs.Rows.{expression_form_of-call, head_form_of-call}
 use Rattle.core_term.specs.Run.{Run, let_run}
+use Rattle.core_term.specs.Params.{names_in, types_listed}
 use Rattle.delta_meaning.specs.declared.refusal.Stop.TheVariants.{Spent}
 use Rattle.delta_meaning.specs.SourceMeaning.{is_name_head}
 use Rattle.delta_meaning.specs.Evaluated.{run_of}
@@ -27,7 +28,6 @@ use Rattle.core_term.specs.Meaning.{no_past}
 use Rattle.core_term.specs.Run.{one_call}
 use Rattle.delta_meaning.specs.KnownTypes.{names_known}
 use Rattle.delta_meaning.specs.SourceMeaning.{source_run, source_body_run, source_call_at}
-use Rattle.delta_meaning.specs.Scope.{names_in, types_listed}
 use Rattle.delta_meaning.specs.Functions.{functions_at}
 use Rattle.delta_meaning.proofs.Evaluations.{call_with_depth}
 use Rattle.delta_meaning.proofs.Runs.{body_runs}

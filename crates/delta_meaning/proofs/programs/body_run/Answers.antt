@@ -5,8 +5,8 @@ use Rattle.stream_prefix.specs.Tree.{prefix_of}
 use Rattle.bunch.specs.BunchTree.{tree_of}
 use Rattle.delta_tree.specs.Tree.{expression_of}
 use Rattle.core_term.specs.Run.{Run}
+use Rattle.core_term.specs.Params.{names_in, types_listed}
 use Rattle.delta_meaning.specs.KnownTypes.{names_known}
-use Rattle.delta_meaning.specs.Scope.{names_in, types_listed}
 use Rattle.delta_meaning.specs.Evaluated.{run_of}
 use Rattle.delta_meaning.specs.declared.refusal.Stop.TheVariants.{Spent}
 use Rattle.delta_meaning.specs.Functions.{body_of}

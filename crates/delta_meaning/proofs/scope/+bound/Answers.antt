@@ -3,8 +3,8 @@ use Rattle.std.proofs.Common.{◌≡◌, ◌∷◌, map, ap₂, ◌∙◌}
 use Rattle.bunch.specs.Names.{put, value_at}
 use Rattle.hist_value.specs.HistValue.{unit_value, hist_value_of}
 use Rattle.hist_value.specs.Environment.{environment_of}
-use Rattle.delta_meaning.specs.Scope.{names_in}
-use Rattle.delta_meaning.proofs.Scopes.{environment-push}
+use Rattle.core_term.specs.Params.{names_in}
+use Rattle.core_term.proofs.ValueEntries.{environment-push}
 use Rattle.delta_meaning.proofs.scope.+bound.Goals as goal
 
 pub returns-in_ok-push-in-Some-split_first : goal.returns-in_ok-push-in-Some-split_first

@@ -5,7 +5,7 @@ use Rattle.hist_value.specs.declared.history.Value.TheVariants.{Unit as NoValue}
 use Rattle.hist_value.specs.HistValue.{unit_value, hist_value_of}
 use Rattle.hist_value.specs.Environment.{environment_of}
 use Rattle.delta_meaning.specs.Scope.{past_in}
-use Rattle.delta_meaning.proofs.Scopes.{environment-push}
+use Rattle.core_term.proofs.ValueEntries.{environment-push}
 use Rattle.delta_meaning.proofs.scope.+entries_in.Goals as goal
 
 pub returns-in_ok-push-in-Stream : goal.returns-in_ok-push-in-Stream

@@ -6,8 +6,9 @@ use Rattle.hist_value.specs.HistValue.{unit_value}
 use Rattle.hist_value.specs.Environment.{environment_of}
 use Rattle.core_term.specs.Environment.{by_side}
 use Rattle.core_term.specs.Meaning.{no_past}
-use Rattle.delta_meaning.specs.Scope.{names_in}
-use Rattle.delta_meaning.proofs.Scopes.{environment-push, by_side-more}
+use Rattle.core_term.specs.Params.{names_in}
+use Rattle.core_term.proofs.ValueEntries.{environment-push}
+use Rattle.delta_meaning.proofs.Scopes.{by_side-more}
 use Rattle.delta_meaning.proofs.scope.+hide.Goals as goal
 
 pub returns-in_ok-push-in-Some : goal.returns-in_ok-push-in-Some

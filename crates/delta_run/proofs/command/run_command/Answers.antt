@@ -8,15 +8,16 @@ use Rattle.delta_run.specs.Generated.{GeneratedLine}
 use Rattle.delta_run.specs.Checked.{ChecksText}
 use Rattle.delta_run.specs.Bounded.{BoundedText}
 use Rattle.delta_run.specs.Derived.{DerivesText}
+use Rattle.delta_run.specs.Fed.{FedText}
 use Rattle.delta_run.specs.Evaluated.{EvaluatedText}
 use Rattle.delta_end.specs.declared.end.End.TheVariants.{Usage, Memory}
 use Rattle.delta_loop.specs.Answer.{ReadsWell}
 use Rattle.delta_loop.proofs.Returning.{adds_none, ran_reads, unread}
 use Rattle.command_text.specs.Lines.{lines_of_frames}
-use Rattle.delta_run.proofs.Budgets.{run_is_small, eval_is_small, load_is_small}
+use Rattle.delta_run.proofs.Budgets.{run_is_small, eval_is_small, feed_is_small, load_is_small}
 use Rattle.delta_run.proofs.Conversions.{converted_reads}
 use Rattle.delta_run.proofs.Printed.{written_reads}
-use Rattle.delta_run.proofs.CommandLines.{same_run, same_check, same_eval, same_print, same_gen, same_bound, same_derive, asks_something}
+use Rattle.delta_run.proofs.CommandLines.{same_run, same_check, same_eval, same_print, same_gen, same_bound, same_derive, same_feed, asks_something}
 use Rattle.delta_run.proofs.command.run_command.Goals as goal
 
 pub returns-in-Ok-Run-clause-command : goal.returns-in-Ok-Run-clause-command
@@ -147,3 +148,25 @@ returns-in-Ok-Derive-clause-derived g c file proof is =
     (c.deref-in-Ok-Derive.ensures ∙ same.0)
     (subst (λ (other : List ℕ). OfFile (g.S.Shelf.holds c.args.shelf.now) c.deref-in-Ok-Derive.result.now (λ text. OfFile (g.S.Shelf.holds c.args.shelf.now) other (λ steps. DerivesText text steps c.derive_file.result)))
     (c.deref-in-Ok-Derive-2.ensures ∙ same.1) c.derive_file.ensures.derived)
+
+pub returns-in-Ok-Feed-clause-command : goal.returns-in-Ok-Feed-clause-command
+returns-in-Ok-Feed-clause-command g c nothing = absurd (asks_something nothing (c.in-Ok-Feed.ensures.ok ∙ ap (λ t. Some (asked t)) c.in-Ok-Feed.field-0-is))
+
+pub returns-in-Ok-Feed-clause-reads : goal.returns-in-Ok-Feed-clause-reads
+returns-in-Ok-Feed-clause-reads g c = c.feed_file.ensures.reads
+
+pub feed_file-requires : goal.feed_file-requires
+feed_file-requires g c = feed_is_small (map string_bytes c.args.words.now) _ _ _ _ (c.in-Ok-Feed.ensures.ok ∙ ap (λ t. Some (asked t)) c.in-Ok-Feed.field-0-is)
+
+pub returns-in-Ok-Feed-clause-fed : goal.returns-in-Ok-Feed-clause-fed
+returns-in-Ok-Feed-clause-fed g c file schedule names budget is =
+    let same = same_feed _ _ _ _ _ _ _ _ (sym (c.in-Ok-Feed.ensures.ok ∙ ap (λ t. Some (asked t)) c.in-Ok-Feed.field-0-is) ∙ is) in
+    let Q : List ℕ → List ℕ → List (List ℕ) → ℕ → Type 0 = λ f s n b. OfFile (g.S.Shelf.holds c.args.shelf.now) f
+    (λ text. FedText (g.S.Shelf.holds c.args.shelf.now) text s n b (g.L.Link.log c.args.link.now) (g.L.Link.log c.feed_file.new.link) c.feed_file.result) in
+    let f = c.deref-in-Ok-Feed.result.now in
+    let s = c.deref-in-Ok-Feed-2.result.now in
+    let n = map string_bytes c.deref-in-Ok-Feed-3.result.now in
+    let with_budget = subst (λ (b : ℕ). Q f s n b) same.3 c.feed_file.ensures.fed in
+    let with_names = subst (λ (m : List (List ℕ)). Q f s m budget) (ap (map string_bytes) c.deref-in-Ok-Feed-3.ensures.value ∙ same.2) with_budget in
+    let with_schedule = subst (λ (r : List ℕ). Q f r names budget) (c.deref-in-Ok-Feed-2.ensures.value ∙ same.1) with_names in
+    subst (λ (name : List ℕ). Q name schedule names budget) (c.deref-in-Ok-Feed.ensures ∙ same.0) with_schedule

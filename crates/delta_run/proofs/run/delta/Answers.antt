@@ -9,6 +9,7 @@ use Rattle.delta_run.proofs.Printed.{prints_text, printed_well, refused_well}
 use Rattle.delta_run.proofs.Generated.{generates, generates_well}
 use Rattle.delta_run.proofs.Bounded.{tells_bound, bounded_well, unbounded_well, judged_well, refused_text}
 use Rattle.delta_run.proofs.Derived.{passes_derived, refuses_underived, refuses_unelaborated}
+use Rattle.delta_run.proofs.Fed.{tells_tables, fed_well, untaken_well, refused_feeding}
 use Rattle.delta_run.proofs.Checked.{passes_accepted, refuses_unaccepted}
 use Rattle.delta_run.proofs.Evaluated.{evals_text, evals_well, stops_well, refuses_unwritable}
 use Rattle.delta_run.proofs.Owing.{owes_by}
@@ -114,6 +115,19 @@ returns-clause-owed g c = (
         refused = λ files tells more again file_still note.
             refuses_unelaborated _ _ _ _ _ _ file_still note _ _ c.note-said.ensures.cause c.run_command-end.result (c.run_command-end.ensures.derived file proof is files tells more again)
             c.run_command-end.ensures.file c.answer.ensures;
+      })
+      (λ file schedule names budget is. record {
+        unread = c.run_command-end.ensures.feeding file schedule names budget is;
+        ends = λ files tells more again. tells_tables _ _ schedule names budget _ _ more again c.run_command-end.result (c.run_command-end.ensures.fed file schedule names budget is files tells);
+        complete = λ files tells more again file_still write note.
+            fed_well _ _ schedule names budget _ _ more again _ _ _ _ _ _ file_still write note _ _ c.note-said.ensures.cause c.run_command-end.result
+            (c.run_command-end.ensures.fed file schedule names budget is files tells) c.run_command-end.ensures.file c.run_command-end.ensures.write c.answer.ensures;
+        untaken = λ files tells more again file_still write note.
+            untaken_well _ _ schedule names budget _ _ more again _ _ _ _ _ _ file_still write note _ _ c.note-said.ensures.cause c.run_command-end.result
+            (c.run_command-end.ensures.fed file schedule names budget is files tells) c.run_command-end.ensures.file c.run_command-end.ensures.write c.answer.ensures;
+        refused = λ files tells more again file_still write note.
+            refused_feeding _ _ schedule names budget _ _ more again _ _ _ _ _ _ file_still write note _ _ c.note-said.ensures.cause c.run_command-end.result
+            (c.run_command-end.ensures.fed file schedule names budget is files tells) c.run_command-end.ensures.file c.run_command-end.ensures.write c.answer.ensures;
       })
       (λ is. record {
         ends = lined _ _ _ _ c.run_command-end.result (c.run_command-end.ensures.lined is);

@@ -1,0 +1,5 @@
+-- What the contracts cite.
+pub mod Tables
+pub mod Feeding
+pub mod Given
+pub mod Laws

@@ -1,0 +1,6 @@
+-- So many names were taken over.
+use Rattle.std.proofs.Common.{◌≡◌, map, string_bytes, take}
+use Rattle.delta_words.proofs.task.owned.Given as goal
+
+abbrev pub invariant-loop-name : goal.invariant-loop-name
+invariant-loop-name l = map string_bytes l.owned.items ≡ map (λ name. name.now) (take l.name-index l.names)
