@@ -52,7 +52,9 @@ view_of m =
 -- it stands for its program after the word, by a state that can hold no more than the program, and whose names are
 -- apart
 abbrev pub CodedStands : Coded → List StreamEvent → Type 0
-CodedStands m word = KeepsTidy (program_of m) m.budget (state_in m.state.value) (awaited_in m.awaited.value) (type_of m.input.value) (type_of m.output.value) m.events m.spent word
+CodedStands m word =
+    KeepsTidy (program_of m) m.budget (state_in m.state.value) (awaited_in m.awaited.value) (type_of m.input.value) (type_of m.output.value)
+    m.events m.spent word
 
 -- and so as machines have to
 abbrev pub coded_stands_after : (m : Coded) (word : List StreamEvent) → CodedStands m word → StandsAfter (view_of m) word
@@ -73,7 +75,9 @@ coded_stays_below m word s = record { stands = coded_stands_after m word s; belo
 
 -- it stands for the kept state after the word
 abbrev pub CodedSince : Coded → KeptTree → List StreamEvent → Type 0
-CodedSince m k word = KeepsSince (program_of m) m.budget (state_in m.state.value) (awaited_in m.awaited.value) (type_of m.input.value) (type_of m.output.value) m.events m.spent k word
+CodedSince m k word =
+    KeepsSince (program_of m) m.budget (state_in m.state.value) (awaited_in m.awaited.value) (type_of m.input.value) (type_of m.output.value)
+    m.events m.spent k word
 
 -- and so as machines have to
 abbrev pub coded_stands_since : (m : Coded) (k : KeptTree) (word : List StreamEvent) → CodedSince m k word → StandsSince (view_of m) k word
@@ -91,10 +95,12 @@ coded_stands_since m k word s = record {
 
 -- the run of its state on an event, and what that leaves
 abbrev pub run_by : Coded → StreamEvent → Run
-run_by m x = run_on (program_of m) (state_in m.state.value) (type_of m.output.value) (entries_on (awaited_in m.awaited.value) (one_of x (type_of m.input.value)))
+run_by m x =
+    run_on (program_of m) (state_in m.state.value) (type_of m.output.value) (entries_on (awaited_in m.awaited.value) (one_of x (type_of m.input.value)))
 
 abbrev pub state_by : Coded → StreamEvent → StateTree
-state_by m x = state_on (program_of m) (state_in m.state.value) (type_of m.output.value) (entries_on (awaited_in m.awaited.value) (one_of x (type_of m.input.value)))
+state_by m x =
+    state_on (program_of m) (state_in m.state.value) (type_of m.output.value) (entries_on (awaited_in m.awaited.value) (one_of x (type_of m.input.value)))
 
 -- the machine takes the event, and answers this: it goes on by the run of its state, which it then puts into a
 -- simpler form

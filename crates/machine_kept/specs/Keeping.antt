@@ -18,13 +18,15 @@ use Rattle.machine_kept.specs.KeptAwaiting.{awaited_kept}
 use Rattle.machine_kept.specs.SinceView.{place_since}
 
 -- after the word, a machine keeps all that machines have to and that bounds what it holds, and its names are apart
-pub record KeepsTidy (c : CoreProgram) (budget : ℕ) (s : StateTree) (a : AwaitedTree) (input output : StreamType) (events spent : ℕ) (word : List StreamEvent) : Type 0 where
+pub record KeepsTidy (c : CoreProgram) (budget : ℕ) (s : StateTree) (a : AwaitedTree) (input output : StreamType) (events spent : ℕ)
+    (word : List StreamEvent) : Type 0 where
   pub below : KeepsBelow c budget s a input output events spent word
   pub tidy : IsTidy (leaf_names c.main.params) s
 
 -- after the word since the kept state, a machine of the program c with this state, awaiting so much, with this left
 -- of the types of its input and its output, keeps what it has to
-pub record KeepsSince (c : CoreProgram) (budget : ℕ) (s : StateTree) (a : AwaitedTree) (input output : StreamType) (events spent : ℕ) (k : KeptTree) (word : List StreamEvent) : Type 0 where
+pub record KeepsSince (c : CoreProgram) (budget : ℕ) (s : StateTree) (a : AwaitedTree) (input output : StreamType) (events spent : ℕ)
+    (k : KeptTree) (word : List StreamEvent) : Type 0 where
   pub runnable : IsRunnable c
   pub is_typed : IsTypedKept c k
   pub is_word : IsWord (input_kept c k) word

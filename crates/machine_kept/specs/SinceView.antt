@@ -55,13 +55,15 @@ pub record StandsSince (m : MachineView) (k : KeptTree) (word : List StreamEvent
   pub in_limit : m.budget ≤ 1000000
 
 -- a machine stands for the kept state after the word, by what `since` says of machines, and this event may come next
-pub record AwaitsSince {M : Type 0} (seen : M → MachineView) (since : M → KeptTree → List StreamEvent → Type 0) (machine : M) (k : KeptTree) (word : List StreamEvent) (x : StreamEvent) : Type 0 where
+pub record AwaitsSince {M : Type 0} (seen : M → MachineView) (since : M → KeptTree → List StreamEvent → Type 0) (machine : M)
+    (k : KeptTree) (word : List StreamEvent) (x : StreamEvent) : Type 0 where
   pub stands_since : since machine k word
   pub admits : Admits (after_word word (input_kept (seen machine).program k)) x
 
 -- a machine may take the event: there are a kept state and a word after which it awaits it, and fewer than 2^42
 -- have come
-pub record MayTakeSince {M : Type 0} (seen : M → MachineView) (since : M → KeptTree → List StreamEvent → Type 0) (machine : M) (x : StreamEvent) : Type 0 where
+pub record MayTakeSince {M : Type 0} (seen : M → MachineView) (since : M → KeptTree → List StreamEvent → Type 0) (machine : M)
+    (x : StreamEvent) : Type 0 where
   pub kept : KeptTree
   pub word : List StreamEvent
   pub awaits : AwaitsSince seen since machine kept word x
