@@ -1,10 +1,10 @@
 -- What is awaited after a kept state: the names with what comes on them are those over which its input is split, its
 -- type is that of the input, and its place is the kept state's own, gone on by what came.
-use Rattle.std.proofs.Common.{◌≡◌, ◌∙◌, ◌+◌, ℕ, suc, Bool, true, false, true≢false, ◌||◌, List, [], ◌∷◌, ◌++◌, map, length, take, drop, eqb, if◌then◌else◌, ap, ap₂, refl, sym, subst, arith}
+use Rattle.std.proofs.Common.{◌≡◌, ◌∙◌, ◌+◌, ℕ, suc, Bool, true, false, List, [], ◌∷◌, ◌++◌, map, length, eqb, if◌then◌else◌, ap, ap₂, refl, sym, subst, arith}
 use Rattle.std.proofs.lemmas.Bool.{eqb-true}
 use Rattle.std.proofs.lemmas.List.{length-take-le, length-drop, take-append-drop}
-use Rattle.stream_type.specs.StreamType.{StreamType, eps, par, cat}
-use Rattle.stream_prefix.specs.StreamPrefix.{StreamPrefix, eps_emp, emp, der, join}
+use Rattle.stream_type.specs.StreamType.{eps, par, cat}
+use Rattle.stream_prefix.specs.StreamPrefix.{StreamPrefix, emp, der, join}
 use Rattle.stream_prefix.proofs.Derivations.{Derives, eps_has_emp, par_has_both, cat_has_fst, cat_has_both}
 use Rattle.stream_prefix.proofs.Joins.{der-emp, der-join}
 use Rattle.bunch.specs.Names.{holds, value_at}
@@ -12,14 +12,14 @@ use Rattle.bunch.specs.BunchTree.{BunchTree, empty, leaf, comma, semi, as_type, 
 use Rattle.core_term.specs.Environment.{Environment, NameTypes, by_side, empty_at, left_at}
 use Rattle.core_term.specs.Agreement.{types_in}
 use Rattle.core_term.specs.FreeNames.{is_distinct}
-use Rattle.core_term.specs.Split.{split, split_after}
+use Rattle.core_term.specs.Split.{split}
 use Rattle.core_term.proofs.BoundOnce.{not_again, distinct_tail}
 use Rattle.core_term.proofs.Sides.{or_second, eqb-same, holds-head}
-use Rattle.delta_state.specs.StateTree.{HeldName, held_names}
+use Rattle.delta_state.specs.StateTree.{HeldName}
 use Rattle.delta_state.specs.StateMeaning.{types_held, prefixes_held}
 use Rattle.main_steps.specs.Splitting.{empty_entries, split_entries, over_entries, later_entries}
 use Rattle.main_steps.proofs.SplitLists.{Lists, over_lists, later_lists}
-use Rattle.machine_parts.specs.AwaitedTree.{AwaitedTree, stream_awaited, both_awaited, turns_awaited, still_entries, entries_on, awaited_after, marks_of, place_in}
+use Rattle.machine_parts.specs.AwaitedTree.{stream_awaited, both_awaited, turns_awaited, still_entries, entries_on, awaited_after, marks_of, place_in}
 use Rattle.kept_state.specs.KeptPlace.{semi_count, first_cuts, second_cuts, rest_bunch, split_rest, split_rest_after}
 use Rattle.kept_state.proofs.RestBunches.{outside, rest_types, rest_names}
 use Rattle.machine_kept.specs.KeptAwaiting.{awaited_left, awaited_type}
@@ -198,7 +198,7 @@ values_in_turn {A} d (x ∷ xs) (v ∷ vs) h l =
 -- a bunch whose names are distinct, the types left of them, of which no other name has one, and its marks
 module _ (b : BunchTree) (T : NameTypes) (cuts : List Bool) (distinct : is_distinct (leaf_names b) ≡ true) (none : (x : ℕ) → holds x (leaf_names b) ≡ false → T x ≡ eps) where
   -- a list of all of its names beside one of what is left of it, p having come and e coming
-  module _ {p : StreamPrefix} {e : Environment} {es fs : List HeldName} (padded : Padded T (leaf_names b) es fs) (lists : Lists (leaf_names (rest_bunch b T cuts)) (left_at (split (rest_bunch b T cuts) p) (types_in (rest_bunch b T cuts))) e fs) where
+  module _ (p : StreamPrefix) {e : Environment} {es fs : List HeldName} (padded : Padded T (leaf_names b) es fs) (lists : Lists (leaf_names (rest_bunch b T cuts)) (left_at (split (rest_bunch b T cuts) p) (types_in (rest_bunch b T cuts))) e fs) where
     -- what is left of the type of a name that isn't in the bunch is `eps`
     left_outside : (x : ℕ) → holds x (leaf_names b) ≡ false → left_at (split_rest b T cuts p) T x ≡ eps
     left_outside x n =
@@ -238,16 +238,16 @@ module _ (b : BunchTree) (T : NameTypes) (cuts : List Bool) (distinct : is_disti
   module _ (many : length cuts ≡ semi_count b) where
     -- the names with what comes behind p
     pub types_later : {p d : StreamPrefix} → Derives (as_type (rest_bunch b T cuts)) p → Derives (der p (as_type (rest_bunch b T cuts))) d → (x : ℕ) → types_held (entries_on (awaited_after (awaited_left b T cuts) p) d) x ≡ left_at (split_rest b T cuts p) T x
-    types_later h i = types_are (pads_later b T cuts many h i) (later_lists (rest_bunch b T cuts) h i)
+    types_later {p = p} h i = types_are p (pads_later b T cuts many h i) (later_lists (rest_bunch b T cuts) h i)
 
     pub prefixes_later : {p d : StreamPrefix} → Derives (as_type (rest_bunch b T cuts)) p → Derives (der p (as_type (rest_bunch b T cuts))) d → (x : ℕ) → prefixes_held (entries_on (awaited_after (awaited_left b T cuts) p) d) x ≡ split_rest_after b T cuts p d x
-    prefixes_later h i = prefixes_are (pads_later b T cuts many h i) (later_lists (rest_bunch b T cuts) h i)
+    prefixes_later {p = p} h i = prefixes_are p (pads_later b T cuts many h i) (later_lists (rest_bunch b T cuts) h i)
 
     -- the place, gone on by p,
     pub place_after : {p : StreamPrefix} → Derives (as_type (rest_bunch b T cuts)) p → place_in (awaited_after (awaited_left b T cuts) p) ≡ record { ins = map (left_at (split_rest b T cuts p) T) (leaf_names b); cuts = cuts_since b cuts p }
     place_after {p = p} h =
         let padded = pads_over b T cuts many h in
-        let types = types_are padded (over_lists (rest_bunch b T cuts) h) in
+        let types = types_are p padded (over_lists (rest_bunch b T cuts) h) in
         ap₂ (λ i l. record { ins = i; cuts = l }) (ap₂ map (λ i x. types x i) (padded_names padded)) (marks_since b T cuts many h)
 
     -- and that of the kept state

@@ -1,5 +1,5 @@
 -- What stands for a kept state still does after any number of rewritings.
-use Rattle.std.proofs.Common.{◌≡◌, ◌∙◌, ◌≤◌, ◌+◌, ℕ, Bool, true, false, if◌then◌else◌, ap, refl, subst, sym, arith}
+use Rattle.std.proofs.Common.{◌≡◌, ◌∙◌, ℕ, Bool, true, false, if◌then◌else◌, ap, refl, subst, sym, arith}
 use Rattle.std.specs.Prelude.{Some, None, unwrap_or}
 use Rattle.stream_type.specs.StreamType.{StreamType, eps}
 use Rattle.stream_prefix.specs.StreamPrefix.{StreamPrefix, IsPrefix, IsPart, der, join}
@@ -9,8 +9,8 @@ use Rattle.bunch.specs.Names.{holds}
 use Rattle.bunch.specs.BunchTree.{leaf_names}
 use Rattle.bunch.proofs.Tables.{value_at-none}
 use Rattle.core_term.specs.CoreTerm.{CoreProgram, fun_at}
-use Rattle.core_term.specs.Environment.{Environment, NameTypes, left_at, empty_at}
-use Rattle.core_term.specs.Typing.{Context, types_of}
+use Rattle.core_term.specs.Environment.{NameTypes, empty_at}
+use Rattle.core_term.specs.Typing.{types_of}
 use Rattle.core_term.specs.Split.{split}
 use Rattle.core_term.proofs.GrowingRuns.{continues_same}
 use Rattle.delta_state.specs.StateTree.{StateTree}
@@ -20,10 +20,10 @@ use Rattle.state_steps.specs.Laws.{IsRunnable}
 use Rattle.state_steps.proofs.SplitInputs.{IsSplit, after_is_part}
 use Rattle.state_steps.proofs.SourceSteps.{le_trans, pred_le}
 use Rattle.state_rewriting.specs.Rewriting.{Simpler, SimplerBy, as_it_is, one_more}
-use Rattle.state_rewriting.specs.Laws.{KeepsRun}
+use Rattle.state_rewriting.specs.Laws.{IsSettledOf, KeepsRun}
 use Rattle.state_rewriting.proofs.SimplerStates.{simpler_keeps_type, simpler_keeps_run, simpler_keeps_depth}
 use Rattle.kept_state.specs.KeptTree.{KeptTree}
-use Rattle.kept_state.specs.KeptPlace.{rest_bunch, split_rest, context_over}
+use Rattle.kept_state.specs.KeptPlace.{rest_bunch, context_over}
 use Rattle.kept_state.specs.KeptTyping.{types_kept}
 use Rattle.kept_state.specs.KeptMeaning.{input_kept, mean_kept, split_kept, split_kept_after, types_since, output_since, rest_run_kept, StandsForKept}
 use Rattle.kept_state.proofs.RestBunches.{outside, rest_names}
@@ -69,6 +69,7 @@ module _ (c : CoreProgram) (runnable : IsRunnable c) (k : KeptTree) (n : ℕ) (p
       typed : IsTypedState c.funs (context_over c.main.params (types_since c k p)) a (output_since c k p)
       typed = record { funs_typed = runnable.is_typed.funs_typed; none_past = λ x. refl; state_typed = st.is_typed }
 
+      kept : IsSettledOf c.funs (context_over c.main.params (types_since c k p)) (output_since c k p) b
       kept = simpler_keeps_type c.funs (context_over c.main.params (types_since c k p)) (output_since c k p) a b typed st.settled s
 
       -- what comes on the names after p,

@@ -1,16 +1,14 @@
 -- What a machine keeps that goes on from a kept state: at the beginning, after an event, and once its state is put
 -- into a simpler form.
-use Rattle.std.proofs.Common.{◌≡◌, ◌∙◌, ℕ, suc, ◌+◌, ◌<◌, ◌≤◌, ◌^◌, List, [], ◌∷◌, ◌++◌, length, ap, ap₂, refl, sym, subst, arith, length-append}
-use Rattle.std.specs.Prelude.{pred}
+use Rattle.std.proofs.Common.{◌≡◌, ◌∙◌, ℕ, suc, true, ◌+◌, ◌<◌, ◌≤◌, ◌^◌, List, [], ◌∷◌, ◌++◌, length, ap, ap₂, sym, subst, arith, length-append}
 use Rattle.stream_type.specs.StreamType.{StreamType}
 use Rattle.stream_prefix.specs.StreamPrefix.{StreamPrefix, emp, der, join}
 use Rattle.stream_prefix.proofs.Derivations.{Derives, is_prefix}
 use Rattle.stream_prefix.proofs.Joins.{der-emp, der-join}
-use Rattle.bunch.specs.Names.{holds}
 use Rattle.bunch.specs.BunchTree.{leaf_names}
 use Rattle.event_word.specs.StreamEvent.{StreamEvent}
 use Rattle.event_word.specs.Admits.{Admits}
-use Rattle.event_word.specs.Word.{one_of, after_word, pre}
+use Rattle.event_word.specs.Word.{one_of, after_word}
 use Rattle.event_word.proofs.Words.{word_derives, after_word-push}
 use Rattle.core_term.specs.CoreTerm.{CoreProgram, fun_at, past_names}
 use Rattle.core_term.specs.FreeNames.{bound_names, is_distinct}
@@ -32,7 +30,7 @@ use Rattle.machine_parts.specs.AwaitedTree.{AwaitedTree, entries_on, awaited_aft
 use Rattle.machine_parts.proofs.StandingTrees.{above_from_below}
 use Rattle.kept_state.specs.KeptTree.{KeptTree}
 use Rattle.kept_state.specs.KeptTyping.{types_kept, context_kept, IsTypedKept}
-use Rattle.kept_state.specs.KeptMeaning.{input_kept, split_kept, split_kept_after, mean_kept, calls_kept, level_kept, types_since, output_since, rest_run_kept, rest_mean_kept, next_kept, StandsForKept}
+use Rattle.kept_state.specs.KeptMeaning.{input_kept, split_kept, split_kept_after, calls_kept, level_kept, types_since, output_since, rest_run_kept, rest_mean_kept, next_kept}
 use Rattle.kept_state.specs.Laws.{input_since, event_since, StandsForKeptAfter, GoesOnKeptWith}
 use Rattle.kept_state.proofs.RestSplits.{rest_empty, rest_after_derives}
 use Rattle.kept_state.proofs.KeptSteps.{kept_derives, resumes_word, goes_on_kept_word}

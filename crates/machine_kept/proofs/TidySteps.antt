@@ -1,6 +1,6 @@
 -- A machine's names stay apart: at its start, after an event, and once its state is put into a simpler form. So what
 -- is kept of it goes on just as its program.
-use Rattle.std.proofs.Common.{◌≡◌, ◌∙◌, ℕ, suc, ◌<◌, ◌≤◌, ◌^◌, Bool, List, [], ◌∷◌, ◌++◌, ap, sym, subst}
+use Rattle.std.proofs.Common.{◌≡◌, ◌∙◌, ℕ, suc, ◌<◌, ◌≤◌, ◌^◌, List, [], ◌∷◌, ◌++◌, ap, sym, subst}
 use Rattle.stream_type.specs.StreamType.{StreamType}
 use Rattle.stream_prefix.specs.StreamPrefix.{StreamPrefix, emp, der}
 use Rattle.stream_prefix.proofs.Derivations.{is_prefix}
@@ -14,7 +14,7 @@ use Rattle.core_term.specs.CoreTerm.{CoreProgram}
 use Rattle.core_term.specs.Run.{Run}
 use Rattle.delta_state.specs.StateTree.{StateTree}
 use Rattle.delta_state.specs.StateMeaning.{types_held, prefixes_held}
-use Rattle.delta_state.specs.Stands.{input_type, output_left, depth_after}
+use Rattle.delta_state.specs.Stands.{input_type, depth_after}
 use Rattle.delta_state.specs.MachineView.{input_of}
 use Rattle.state_steps.specs.Laws.{IsRunnable}
 use Rattle.main_steps.specs.Laws.{first_run_on, first_state_on, run_on, state_on}
@@ -23,7 +23,6 @@ use Rattle.state_rewriting.specs.Rewriting.{SimplerBy}
 use Rattle.state_rewriting.proofs.SimplerStates.{simpler_stands_for}
 use Rattle.machine_parts.specs.AwaitedTree.{AwaitedTree, whole_of, entries_on, awaited_after, place_in}
 use Rattle.machine_parts.proofs.Awaiting.{entries_whole}
-use Rattle.machine_bounds.specs.StaysBelow.{KeepsBelow}
 use Rattle.machine_bounds.proofs.BelowBounds.{simpler_below, begins_below_with, goes_on_below_with}
 use Rattle.kept_state.specs.KeptTree.{KeptTree}
 use Rattle.kept_state.specs.KeptNames.{IsTidy}
