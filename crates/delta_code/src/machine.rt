@@ -118,11 +118,7 @@ impl Bounded for Coded {
 }
 
 /// Takes an event that is admitted: the state goes on by its run on it. After an error the machine is spent.
-pub(crate) fn take(
-    alloc: Global,
-    machine: &mut Coded,
-    x: &Event,
-) -> Result<Prefix, StepRefusal>
+pub(crate) fn take(alloc: Global, machine: &mut Coded, x: &Event) -> Result<Prefix, StepRefusal>
     requires admitted { Admits (type_of machine.old.input.value) x.now }
     requires room { machine.old.events < 2 ^ 42 }
     ensures taken { IfOk result (λ p. TakesBy machine.old machine.new x.now (prefix_of p)) }

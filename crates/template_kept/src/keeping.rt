@@ -131,10 +131,7 @@ fn on_sum(
     let one = keep_code(alloc, l)?;
     let two = keep_code(alloc, m)?;
     let ty = copy_boxed(alloc, t)?;
-    Ok(Box::new(
-        alloc,
-        KeptState::CaseSum(z, ty, held, x, one, y, two),
-    )?)
+    Ok(Box::new(alloc, KeptState::CaseSum(z, ty, held, x, one, y, two))?)
 }
 
 // A case on a star.
@@ -154,10 +151,7 @@ fn on_star(
     let one = keep_code(alloc, l)?;
     let two = keep_code(alloc, m)?;
     let ty = copy_boxed(alloc, t)?;
-    Ok(Box::new(
-        alloc,
-        KeptState::CaseStar(z, ty, held, one, y, ys, two),
-    )?)
+    Ok(Box::new(alloc, KeptState::CaseStar(z, ty, held, one, y, ys, two))?)
 }
 
 // A wait.

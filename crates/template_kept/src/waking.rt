@@ -128,10 +128,7 @@ fn on_sum(
     let one = wake_code(alloc, l)?;
     let two = wake_code(alloc, m)?;
     let ty = stream_type::copy(alloc, t)?;
-    Ok(Box::new(
-        alloc,
-        Live::CaseSum(z, ty, held, x, one, y, two),
-    )?)
+    Ok(Box::new(alloc, Live::CaseSum(z, ty, held, x, one, y, two))?)
 }
 
 // A case on a star.
@@ -151,10 +148,7 @@ fn on_star(
     let one = wake_code(alloc, l)?;
     let two = wake_code(alloc, m)?;
     let ty = stream_type::copy(alloc, t)?;
-    Ok(Box::new(
-        alloc,
-        Live::CaseStar(z, ty, held, one, y, ys, two),
-    )?)
+    Ok(Box::new(alloc, Live::CaseStar(z, ty, held, one, y, ys, two))?)
 }
 
 // A wait.
@@ -194,10 +188,7 @@ fn linked(alloc: Global, past: &[Known]) -> Result<Rc<Past>, Memory>
     let ty = stream_type::copy(alloc, &known.ty)?;
     let value = copy_value(alloc, &known.value)?;
     let value = Rc::new(alloc, value)?;
-    Ok(Rc::new(
-        alloc,
-        Past::Known(known.name, ty, value, others),
-    )?)
+    Ok(Rc::new(alloc, Past::Known(known.name, ty, value, others))?)
 }
 
 // What is held.
