@@ -83,10 +83,6 @@ resumes_with c runnable k typed budget within d s a input output events e f g h 
     }
 
 module _ (c : CoreProgram) (budget : ℕ) (s : StateTree) (a : AwaitedTree) (input output : StreamType) (events spent : ℕ) (k : KeptTree) (w : List StreamEvent) (x : StreamEvent) (keeps : KeepsSince c budget s a input output events spent k w) (admits : Admits (after_word w (input_kept c k)) x) where
-  -- the type that is left admits the event,
-  pub admits_since : Admits input x
-  admits_since = subst (λ (t : StreamType). Admits t x) (sym keeps.is_input) admits
-
   -- what came, and what the event brings
   came : Derives (input_kept c k) (input_since c k w)
   came = word_derives (input_kept c k) w keeps.is_word
