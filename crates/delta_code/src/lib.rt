@@ -8,6 +8,7 @@ mod entering;
 mod framing;
 mod free;
 mod machine;
+mod quiet;
 mod seeing;
 mod starting;
 mod stepping;
