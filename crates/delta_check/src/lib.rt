@@ -18,4 +18,4 @@ pub use checking::check;
 pub use fault::{TypeCause, TypeFault};
 pub use inertness::{inert, inert_funs};
 pub use passing::first_jumpy;
-pub use scope::{Known, Placed, Scope, before, place_of_let, stream_type};
+pub use scope::{Placed, Scope, before, place_of_let, stream_type};

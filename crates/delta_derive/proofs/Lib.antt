@@ -12,7 +12,6 @@ pub mod KnownNames
 pub mod Cutting
 pub mod Fronts
 pub mod InFront
-pub mod LeafTypes
 pub mod Refusing
 pub mod Ending
 pub mod PastTests
