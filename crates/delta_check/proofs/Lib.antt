@@ -12,3 +12,5 @@ pub mod NodePlaces
 pub mod Known
 pub mod Turns
 pub mod Whole
+pub mod Contexts
+pub mod GivenNames

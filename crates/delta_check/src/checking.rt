@@ -98,10 +98,10 @@ fn check_body(
     )
 }
 
-// Finds the first broken rule of a term at a type in a scope, whose nodes have numbers from this one
-// on, and else the number after them.
+/// Finds the first broken rule of a term at a type in a scope, whose nodes have numbers from this one
+/// on, and else the number after them.
 #[cycle(check)]
-fn check_node<'a>(
+pub fn check_node<'a>(
     alloc: Global,
     n: &Node,
     r: &Ty,

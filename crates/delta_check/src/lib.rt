@@ -5,6 +5,7 @@
 mod checking;
 mod fault;
 mod forms;
+mod given;
 mod inertness;
 mod input_type;
 mod orders;
@@ -13,9 +14,11 @@ mod passing;
 mod pasts;
 mod rules;
 mod scope;
+mod within;
 
 pub use checking::check;
 pub use fault::{TypeCause, TypeFault};
 pub use inertness::{inert, inert_funs};
 pub use passing::first_jumpy;
 pub use scope::{Placed, Scope, before, place_of_let, stream_type};
+pub use within::{check_in, check_under};

@@ -10,9 +10,10 @@ ghost use Rattle.core_term.specs.Typing.{past_params};
 ghost use Rattle.core_term.specs.TypeFaults.{first_some};
 ghost use Rattle.delta_check.specs.Scopes.{context_in};
 
+use crate::given::{add_given_names, given_past};
 use crate::scope::{Scope, stream_type};
 use bunch::Name;
-use hist_value::{HTy, past};
+use hist_value::{HTy, copy_type, past};
 use std::alloc::Global;
 use stream_type::{Memory, Ty};
 
@@ -22,11 +23,13 @@ pub fn is_historical(scope: &Scope<'_>, x: Name) -> bool
 {
     match scope {
         Scope::Params(b) => type_of_param(&b.past, x).is_some(),
+        Scope::Given(_, _) | Scope::Among(_, _) => false,
         Scope::Like(y, _, _, outer) | Scope::Let(y, _, _, outer) => {
             x.0 != y.0 && is_historical(outer, x)
         }
         Scope::Fact(_, _, outer) => is_historical(outer, x),
         Scope::Waited(y, outer) => x.0 == y.0 || is_historical(outer, x),
+        Scope::Valued(past, outer) => given_past(past, x).is_some() || is_historical(outer, x),
     }
 }
 
@@ -75,6 +78,7 @@ fn add_past_names(scope: &Scope<'_>, names: &mut Vec<Name>) -> Result<(), Memory
 {
     match scope {
         Scope::Params(b) => add_param_names(&b.past, names),
+        Scope::Given(_, _) | Scope::Among(_, _) => Ok(()),
         Scope::Like(_, _, _, outer) | Scope::Let(_, _, _, outer) | Scope::Fact(_, _, outer) => {
             add_past_names(outer, names)
         }
@@ -82,6 +86,10 @@ fn add_past_names(scope: &Scope<'_>, names: &mut Vec<Name>) -> Result<(), Memory
             add_past_names(outer, names)?;
             names.push(*x)?;
             Ok(())
+        }
+        Scope::Valued(past, outer) => {
+            add_past_names(outer, names)?;
+            add_given_names(past, names)
         }
     }
 }
@@ -106,6 +114,7 @@ fn past_type(alloc: Global, scope: &Scope<'_>, x: Name) -> Result<Option<HTy>, M
             Some(t) => Ok(Some(past(alloc, t)?)),
             None => Ok(None),
         },
+        Scope::Given(_, _) | Scope::Among(_, _) => Ok(None),
         Scope::Like(y, _, _, outer) | Scope::Let(y, _, _, outer) => {
             if x.0 == y.0 {
                 Ok(None)
@@ -124,6 +133,10 @@ fn past_type(alloc: Global, scope: &Scope<'_>, x: Name) -> Result<Option<HTy>, M
                 past_type(alloc, outer, x)
             }
         }
+        Scope::Valued(past, outer) => match given_past(past, x) {
+            Some(t) => Ok(Some(copy_type(alloc, t)?)),
+            None => past_type(alloc, outer, x),
+        },
     }
 }
 

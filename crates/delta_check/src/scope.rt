@@ -7,9 +7,11 @@ ghost use Rattle.bunch.specs.Names.{numbers_of};
 ghost use Rattle.bunch.specs.Facts.{before_let, after_let};
 ghost use Rattle.delta_check.specs.Scopes.{context_in, known_at, before_by, after_by, IsKnown};
 
-use bunch::Name;
+use crate::given::{given_type, has_fact};
+use bunch::{Name, Order};
 use core_term::Body;
 use core_term::params::type_of_name;
+use hist_value::HTy;
 use std::alloc::Global;
 use stream_type::{Memory, Ty};
 
@@ -37,11 +39,15 @@ pub struct Placed {
 
 /// The names that a term may use, with their types, and which of the stream variables stand before
 /// which. Contracts see a scope as a `Context` by `context_in` (`specs/Scopes.antt`). A name hides
-/// what stood at it before.
+/// what stood at it before, but for one that has a value. Of entries for one name the first counts.
 #[derive(Clone, Copy)]
 pub enum Scope<'a> {
     /// The parameters of a body.
     Params(&'a Body),
+    /// Stream variables with their types, and which of them stand before which.
+    Given(&'a [(Name, Ty)], &'a Order),
+    /// The same, where the first name of each entry of a list stands before the second.
+    Among(&'a [(Name, Ty)], &'a [(Name, Name)]),
     /// A stream variable and its type, placed like another one.
     Like(Name, &'a Ty, Name, &'a Scope<'a>),
     /// The name of a let, its type, and where it is placed.
@@ -50,6 +56,8 @@ pub enum Scope<'a> {
     Fact(Name, Name, &'a Scope<'a>),
     /// The name is historical from here on.
     Waited(Name, &'a Scope<'a>),
+    /// The names have values of these types too; a stream variable of such a name stays one.
+    Valued(&'a [(Name, HTy)], &'a Scope<'a>),
 }
 
 /// The type of the stream variable `x`, or None where the name is no stream variable.
@@ -58,6 +66,8 @@ pub fn stream_type<'a>(scope: &Scope<'a>, x: Name) -> Option<&'a Ty>
 {
     match scope {
         Scope::Params(b) => type_of_name(&b.params, x),
+        Scope::Given(vars, _) => given_type(vars, x),
+        Scope::Among(vars, _) => given_type(vars, x),
         Scope::Like(y, t, _, outer) | Scope::Let(y, t, _, outer) => {
             if x.0 == y.0 {
                 Some(*t)
@@ -66,6 +76,7 @@ pub fn stream_type<'a>(scope: &Scope<'a>, x: Name) -> Option<&'a Ty>
             }
         }
         Scope::Fact(_, _, outer) => stream_type(outer, x),
+        Scope::Valued(_, outer) => stream_type(outer, x),
         Scope::Waited(y, outer) => {
             if x.0 == y.0 {
                 None
@@ -83,6 +94,8 @@ pub fn before(scope: &Scope<'_>, x: Name, y: Name) -> bool
 {
     match scope {
         Scope::Params(b) => bunch::before(&b.params, x, y),
+        Scope::Given(_, order) => order.before(x, y),
+        Scope::Among(_, facts) => has_fact(facts, x, y),
         Scope::Like(z, _, like, outer) => {
             if x.0 == z.0 {
                 y.0 != z.0 && y.0 != like.0 && before(outer, *like, y)
@@ -103,6 +116,7 @@ pub fn before(scope: &Scope<'_>, x: Name, y: Name) -> bool
         }
         Scope::Fact(a, b, outer) => (x.0 == a.0 && y.0 == b.0) || before(outer, x, y),
         Scope::Waited(_, outer) => before(outer, x, y),
+        Scope::Valued(_, outer) => before(outer, x, y),
     }
 }
 

@@ -4,10 +4,9 @@ use Rattle.hist_value.specs.declared.expr.Op.TheVariants.{Less}
 use Rattle.hist_value.specs.HistExpr.{variable, literal, reckoned}
 use Rattle.delta_tree.specs.SyntaxTree.{WrittenType, int_written, cat_written, star_written, parameter, Expression, name_at, nil_at, hist_at, cons_at, let_cat_at, case_star_at, wait_at, if_at, call_at, name_head, no_expressions, expression_before, WrittenFunction, function_declared, ProgramTree}
 
+-- the text, in which a program stands on one line
 abbrev pub load_text : List ℕ
-load_text =
-    codes "fun over (xs : (Int . Int)*) : Int* = case xs of { nil => nil | y :: ys => let (k; v) = y in wait k in wait v in if 500
-        < v then { k } :: over (ys) else over (ys) }\nmain (xs : (Int . Int)*) : Int* = over (xs)\n"
+load_text = codes "fun over (xs : (Int . Int)*) : Int* = case xs of { nil => nil | y :: ys => let (k; v) = y in wait k in wait v in if 500 < v then { k } :: over (ys) else over (ys) }\nmain (xs : (Int . Int)*) : Int* = over (xs)\n"
 
 -- `(Int . Int)*` and `Int*` at a place
 abbrev pub pairs_written : ℕ → WrittenType

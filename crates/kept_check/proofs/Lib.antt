@@ -1,0 +1,5 @@
+pub mod NamesInTurn
+pub mod GoodStates
+pub mod Arguments
+pub mod NameLists
+pub mod FreeLists
