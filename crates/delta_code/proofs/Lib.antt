@@ -2,3 +2,4 @@
 pub mod SameProgram
 pub mod Easing
 pub mod Gains
+pub mod Taking

@@ -7,6 +7,7 @@ mod compiling;
 mod entering;
 mod framing;
 mod free;
+mod keeping;
 mod machine;
 mod quiet;
 mod seeing;

@@ -16,7 +16,8 @@ ghost use Rattle.delta_code.specs.Begun.{run_of, rest_of};
 ghost use Rattle.delta_code.specs.Eased.{Eased};
 ghost use Rattle.delta_code.specs.Told.{told};
 ghost use Rattle.template_state.specs.Templates.{bodies_in, body_in};
-ghost use Rattle.delta_code.specs.CodedView.{run_awaiting, rest_awaiting, program_of, view_of, CodedStands, coded_stands_after, coded_stays_below};
+ghost use Rattle.event_word.specs.Admits.{Admits};
+ghost use Rattle.delta_code.specs.CodedView.{run_awaiting, rest_awaiting, program_of, view_of, run_by, TakesBy, CodedStands, coded_stands_after, coded_stays_below};
 
 use crate::begun::Begun;
 use crate::compiling::{compile, copy_texts};
@@ -44,17 +45,17 @@ use template_state::{Code, Live, count_states, held_events, plain, settle};
 /// (`specs/CodedView.antt`).
 #[derive(Drop)]
 pub struct Coded {
-    code: Box<Code>,
+    pub(crate) code: Box<Code>,
     // the text of each name of the program
-    texts: Vec<String>,
-    budget: u64,
-    state: Box<Live>,
-    awaited: Box<Awaited>,
+    pub(crate) texts: Vec<String>,
+    pub(crate) budget: u64,
+    pub(crate) state: Box<Live>,
+    pub(crate) awaited: Box<Awaited>,
     // what is left of the types of the input and of the output
-    input: Box<Ty>,
-    output: Box<Ty>,
-    events: u64,
-    spent: u64,
+    pub(crate) input: Box<Ty>,
+    pub(crate) output: Box<Ty>,
+    pub(crate) events: u64,
+    pub(crate) spent: u64,
 }
 
 impl Coded {
@@ -100,17 +101,7 @@ impl Machine for Coded {
     }
 
     fn step(&mut self, alloc: Global, x: &Event) -> Result<Prefix, StepRefusal> {
-        let next = event_boxed(alloc, &self.input, x)?;
-        let told = next_run(
-            alloc,
-            &self.code,
-            self.budget,
-            &self.awaited,
-            &self.output,
-            &mut self.state,
-            &next,
-        )?;
-        Ok(advance(alloc, self, &next, told)?)
+        take(alloc, self, x)
     }
 
     fn held(&self) -> u64 {
@@ -126,8 +117,29 @@ impl Bounded for Coded {
     ghost stays_below = { coded_stays_below };
 }
 
-// The code of a program, in a box of its own.
-fn code_boxed(alloc: Global, c: &Core) -> Result<Box<Code>, Memory>
+/// Takes an event that is admitted: the state goes on by its run on it. After an error the machine is spent.
+pub(crate) fn take(alloc: Global, machine: &mut Coded, x: &Event) -> Result<Prefix, StepRefusal>
+    requires admitted { Admits (type_of machine.old.input.value) x.now }
+    requires room { machine.old.events < 2 ^ 42 }
+    ensures taken { IfOk result (λ p. TakesBy machine.old machine.new x.now (prefix_of p)) }
+    ensures costly { (n : ℕ) → IsErrOf result (StepRefusal.Budget n) → (n ≡ machine.old.budget) × (n < (run_by machine.old x.now).calls) }
+    ensures deep { (n : ℕ) → IsErrOf result (StepRefusal.Deep n) → (n ≡ 1001) × (1001 < (run_by machine.old x.now).level) }
+{
+    let next = event_boxed(alloc, &machine.input, x)?;
+    let told = next_run(
+        alloc,
+        &machine.code,
+        machine.budget,
+        &machine.awaited,
+        &machine.output,
+        &mut machine.state,
+        &next,
+    )?;
+    Ok(advance(alloc, machine, &next, told)?)
+}
+
+/// The code of a program, in a box of its own. Its only error is want of memory.
+pub(crate) fn code_boxed(alloc: Global, c: &Core) -> Result<Box<Code>, Memory>
     ensures funs { IfOk result (λ r. bodies_in r.value ≡ (core_of c.now).funs) }
     ensures main { IfOk result (λ r. body_in r.value.main ≡ (core_of c.now).main) }
 {

@@ -5,3 +5,5 @@
 mod read;
 #[cfg(test)]
 mod saved;
+#[cfg(test)]
+mod woken;

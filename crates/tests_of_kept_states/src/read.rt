@@ -5,12 +5,12 @@ use std::alloc::Global;
 use std::test::Fail;
 
 // `main(x : Int) : Int = x` before any event: its 27 bytes, of which the state is the last five.
-const ONE: &[u8] = &[
+pub(crate) const ONE: &[u8] = &[
     68, 83, 84, 1, 0, 0, 0, 0, 0, 0, 0, 0, 0, 0, 0, 1, 2, 0, 0, 0, 0, 2, 1, 0, 0, 0, 0,
 ];
 
 // A wait and then code of each form of a term and of a historical expression, with values and prefixes of most forms.
-const WAITS: &[u8] = &[
+pub(crate) const WAITS: &[u8] = &[
     68, 83, 84, 1, 0, 0, 1, 0, 0, 0, 0, 5, 0, 0, 0, 2, 2, 6, 1, 0, 0, 0, 2, 1, 0, 4, 0, 2, 3, 9, 0,
     0, 0, 3, 2, 0, 0, 0, 2, 0, 0, 0, 1, 5, 1, 2, 7, 5, 2, 4, 0, 0, 0, 0, 0, 0, 0, 3, 11, 0, 0, 0,
     3, 9, 1, 10, 3, 6, 0, 2, 11, 0, 0, 0, 0, 1, 0, 0, 0, 2, 2, 5, 8, 11, 0, 0, 0, 0, 0, 0, 0, 0,
@@ -34,7 +34,7 @@ const WAITS: &[u8] = &[
 ];
 
 // A frame whose body has both cases, a let and both destructurings.
-const FRAME: &[u8] = &[
+pub(crate) const FRAME: &[u8] = &[
     68, 83, 84, 1, 0, 0, 0, 0, 0, 0, 0, 7, 0, 0, 0, 1, 5, 1, 2, 0, 0, 0, 1, 0, 3, 2, 1, 10, 0, 0,
     0, 2, 0, 0, 0, 30, 2, 1, 0, 0, 0, 0, 0, 0, 0, 31, 1, 0, 0, 2, 7, 0, 0, 0, 3, 2, 0, 0, 0, 1, 0,
     0, 0, 1, 5, 1, 2, 7, 5, 2, 4, 0, 0, 0, 0, 0, 0, 0, 3, 11, 0, 0, 0, 3, 9, 1, 10, 3, 6, 0, 2, 11,

@@ -16,13 +16,13 @@ use Rattle.delta_state.specs.declared.machine.StepRefusal.TheVariants.{Budget, D
 use Rattle.delta_state.specs.Stands.{input_type}
 use Rattle.machine_parts.specs.AwaitedTree.{awaited_in}
 use Rattle.machine_parts.proofs.StandingTrees.{begins_answer, begins_costly, begins_deep}
-use Rattle.machine_bounds.proofs.BelowBounds.{begins_below_with}
+use Rattle.machine_kept.proofs.TidySteps.{begins_tidy_with, keeps_tidy_simpler}
 use Rattle.state_rewriting.specs.Rewriting.{SimplerBy}
 use Rattle.template_state.specs.Readers.{state_in}
 use Rattle.template_state.specs.Templates.{bodies_in, body_in}
 use Rattle.delta_code.specs.Begun.{run_of, rest_of}
 use Rattle.state_rewriting.proofs.RewritingsInside.{by_then}
-use Rattle.delta_code.proofs.SameProgram.{same_program, keeps_simpler}
+use Rattle.delta_code.proofs.SameProgram.{same_program}
 use Rattle.delta_code.proofs.machine.CodedMachine.start.Goals as goal
 
 pub returns-in_err-run-clause-costly : goal.returns-in_err-run-clause-costly
@@ -56,13 +56,13 @@ returns-clause-stands c =
     let begun = c.in_ok-run.run' in
     let texts : map string_bytes c.in_ok-texts.texts.items ≡ d.texts = c.in_ok-texts.ensures ∙ ap (λ (l : List (String Global)). map string_bytes l) c.deref-4.ensures.value in
     let program : CoreProgram = record { funs = bodies_in code; main = body_in code.main; texts = map string_bytes c.in_ok-texts.texts.items } in
-    let kept = begins_below_with d (record { is_core = c.core-core.ensures.core; is_typed = c.core-core.ensures.typed }) c.args.budget (run_of begun) _ c.in_ok-run.ensures.run refl c.in_ok-run.ensures.counted c.requires.budget
+    let kept = begins_tidy_with d (record { is_core = c.core-core.ensures.core; is_typed = c.core-core.ensures.typed }) c.args.budget (run_of begun) _ c.in_ok-run.ensures.run refl c.in_ok-run.ensures.counted c.requires.budget
     program (awaited_in c.in_ok-awaited.awaited.value) (type_of c.in_ok-input.input.value) (type_of c.in_ok-output.output.value)
     (same_program d (bodies_in code) (body_in code.main) (map string_bytes c.in_ok-texts.texts.items) c.in_ok-code.ensures.funs c.in_ok-code.ensures.main texts)
     c.in_ok-awaited.ensures
     (c.in_ok-input.ensures ∙ (c.input-2.ensures ∙ ap (λ (p : CoreProgram). input_type p) (sym same)))
     (c.in_ok-output.ensures ∙ ap (λ (p : Prefix). der (prefix_of p) d.main.result) c.deref-3.ensures) in
-    keeps_simpler program c.args.budget _ (state_in c.in_ok-state.state.value) (awaited_in c.in_ok-awaited.awaited.value) (type_of c.in_ok-input.input.value) (type_of c.in_ok-output.output.value) 0 begun.calls [] kept
+    keeps_tidy_simpler program c.args.budget _ (state_in c.in_ok-state.state.value) (awaited_in c.in_ok-awaited.awaited.value) (type_of c.in_ok-input.input.value) (type_of c.in_ok-output.output.value) 0 begun.calls [] kept
     (by_then (c.in_ok-run.ensures.rest.at (type_of c.in_ok-output.output.value)) (subst (λ (t : Ty). SimplerBy (type_of t) (rest_of begun) (state_in c.in_ok-state.state.value)) c.deref-5.ensures c.in_ok-state.ensures))
 
 pub returns-clause-answer : goal.returns-clause-answer

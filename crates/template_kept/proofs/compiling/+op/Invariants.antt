@@ -4,7 +4,7 @@ use Rattle.core_term.specs.declared.term.Node.{size-Node}
 use Rattle.core_term.specs.declared.term.Term.{size-Term}
 use Rattle.core_term.specs.CoreTerm.{term_of}
 use Rattle.template_state.specs.Readers.{shared_term}
-use Rattle.delta_code.proofs.compiling.+op.Given as goal
+use Rattle.template_kept.proofs.compiling.+op.Given as goal
 
 abbrev pub invariant-ops-loop-node : goal.invariant-ops-loop-node
 invariant-ops-loop-node l = map shared_term l.made.items ≡ map term_of (take l.node-index l.nodes)

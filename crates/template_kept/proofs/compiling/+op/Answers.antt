@@ -3,7 +3,7 @@ use Rattle.std.proofs.Common.{◌≡◌, map}
 use Rattle.hist_value.specs.HistExpr.{expr_of}
 use Rattle.core_term.specs.CoreTerm.{call_term, term_of, term_in, terms_from}
 use Rattle.core_term.proofs.Rows.{term_in-call}
-use Rattle.delta_code.proofs.compiling.+op.Goals as goal
+use Rattle.template_kept.proofs.compiling.+op.Goals as goal
 
 pub form-returns-in-Call : goal.form-returns-in-Call
 form-returns-in-Call t c =
