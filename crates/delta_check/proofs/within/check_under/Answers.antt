@@ -13,12 +13,12 @@ returns-clause-typed c =
 
 pub returns-in_err-check_node-clause-untyped : goal.returns-in_err-check_node-clause-untyped
 returns-in_err-check_node-clause-untyped c =
-    let exit = err_from_is_err_and c.from_residual-in_err-check_node.result c.from_residual-in_err-check_node.ensures.1 in
+    let exit = err_from_is_err_and c.from_residual.result c.from_residual.ensures.1 in
     rw (exit.1, exit.2)
     (found_untyped (core_of c.args.c.now).funs (counts_in (core_of c.args.c.now).funs c.args.marks.now) c.requires.marks (context_in c.args.scope.now) (term_of c.args.n.now) (type_of c.args.r.now) c.in_err-check_node.field-0.0 (c.in_err-check_node.ensures.0))
 
 pub returns-in_err-check_node-clause-first : goal.returns-in_err-check_node-clause-first
 returns-in_err-check_node-clause-first c =
-    let exit = err_from_is_err_and c.from_residual-in_err-check_node.result c.from_residual-in_err-check_node.ensures.1 in
+    let exit = err_from_is_err_and c.from_residual.result c.from_residual.ensures.1 in
     rw (exit.1, exit.2)
     (found_first (core_of c.args.c.now).funs (counts_in (core_of c.args.c.now).funs c.args.marks.now) c.requires.marks (context_in c.args.scope.now) (term_of c.args.n.now) (type_of c.args.r.now) c.in_err-check_node.field-0.0 (c.in_err-check_node.ensures.0))
