@@ -1,5 +1,6 @@
 -- Tables that are read one after another.
-use Rattle.std.proofs.Common.{◌≡◌, ◌⊎◌, inl, inr, ℕ, ◌+◌, ◌<◌, List, [], ◌∷◌, ◌++◌, length, map, Option, Some, None, refl, sym, ap, ap₂, ◌∙◌, arith}
+use Rattle.std.proofs.Common.{◌≡◌, ◌⊎◌, inl, inr, ℕ, ◌+◌, ◌<◌, Bool, false, List, [], ◌∷◌, ◌++◌, length, map, Option, Some, None, Result, Ok, Err, refl, sym, ap, ap₂, ◌∙◌, append_assoc, arith}
+use Rattle.std.specs.Prelude.{◌==◌, OnOk, IfErr}
 use Rattle.stream_type.specs.StreamType.{StreamType}
 use Rattle.event_word.specs.StreamEvent.{StreamEvent}
 use Rattle.event_word.specs.Canon.{canon}
@@ -9,6 +10,20 @@ use Rattle.table_feed.specs.Tables.{or_else}
 use Rattle.delta_end.specs.declared.end.End.{End}
 use Rattle.command_feed.specs.Tables.{tables_fault, tables_in, whole_tables}
 use Rattle.command_feed.specs.Given.{AreHeld, AreRead, EndsReading}
+
+-- what follows of an answer
+pub on_ok_too : (r : Result (Unit {0}) End) (P Q : Type 0) → (P → Q) → OnOk r P → OnOk r Q
+on_ok_too (Ok x) P Q f h = f h
+on_ok_too (Err e) P Q f h = h
+
+pub if_err_too : {T : Type 0} (r : Result T End) (P Q : End → Type 0) → ((end : End) → P end → Q end) → IfErr r P → IfErr r Q
+if_err_too (Ok x) P Q f h = h
+if_err_too (Err end) P Q f h = f end h
+
+-- something is left where the list isn't empty
+pub some_left : {A : Type 0} (f : A → List ℕ) (xs : List A) (b : Bool) → b ≡ (length xs == 0) → b ≡ false → 0 < length (map f xs)
+some_left f [] b e h = cc
+some_left f (x ∷ xs) b e h = omega arith
 
 module _ (holds : Option (List ℕ → List ℕ)) (name : List ℕ) (s : StreamType) (file : ℕ) where
   -- a table and those behind it
@@ -30,6 +45,14 @@ module _ (holds : Option (List ℕ → List ℕ)) (name : List ℕ) (s : StreamT
       → AreRead holds rest (par_right s) (file + 1) later → AreRead holds (name ∷ rest) s file (words ++ later)
   reads_more rest words later some first more =
       joined rest words later first.tables more.tables first.count more.count some first.held more.held first.good more.good first.are more.are
+
+  -- behind others
+  pub reads_behind : (rest : List (List ℕ)) (old mid new : List (List StreamEvent)) → 0 < length rest
+      → (later : List (List StreamEvent)) × AreRead holds (name ∷ []) (par_left s) file later × (mid ≡ old ++ later)
+      → (later : List (List StreamEvent)) × AreRead holds rest (par_right s) (file + 1) later × (new ≡ mid ++ later)
+      → (later : List (List StreamEvent)) × AreRead holds (name ∷ rest) s file later × (new ≡ old ++ later)
+  reads_behind rest old mid new some first more =
+      (first.0 ++ more.0, reads_more rest first.0 more.0 some first.1 more.1, more.2 ∙ ap (λ (xs : List (List StreamEvent)). xs ++ more.0) first.2 ∙ append_assoc old first.0 more.0)
 
   -- what is wrong with the first is told
   pub first_is_told : (next : List ℕ) (more : List (List ℕ)) (end : End) → EndsReading holds (name ∷ []) (tables_fault file (par_left s)) end

@@ -1,6 +1,6 @@
 -- Runs on the word of tables that were read.
-use Rattle.std.proofs.Common.{◌≡◌, inl, inr, ℕ, ◌≤◌, ◌^◌, Bool, true, false, ◌&&◌, List, length, Option, Some, refl, sym, subst, ap, ◌∙◌}
-use Rattle.std.specs.Prelude.{nat_le, take}
+use Rattle.std.proofs.Common.{◌≡◌, inl, inr, ℕ, ◌≤◌, ◌^◌, Bool, true, false, ◌&&◌, List, [], ◌++◌, length, Option, Some, Result, Ok, Err, refl, sym, subst, ap, ◌∙◌}
+use Rattle.std.specs.Prelude.{nat_le, take, IfOk}
 use Rattle.std.proofs.lemmas.Bool.{leb-true}
 use Rattle.std.proofs.lemmas.List.{length-map}
 use Rattle.stream_type.specs.StreamType.{StreamType, height_of}
@@ -30,7 +30,32 @@ first_of false b e = cc
 pub input_is_low : (c : CoreProgram) → fits_of c ≡ true → height_of (input_type c) ≤ 64
 input_is_low c fits = leb-true (height_of (input_type c)) 64 (first_of (nat_le (height_of (input_type c)) 64) (nat_le (height_of c.main.result) 64) fits)
 
+-- what follows of an answer
+pub if_ok_too : {A E : Type 0} (r : Result A E) (P Q : A → Type 0) → ((x : A) → P x → Q x) → IfOk r P → IfOk r Q
+if_ok_too (Ok x) P Q f h = f x h
+if_ok_too (Err e) P Q f h = h
+
 module _ (holds : Option (List ℕ → List ℕ)) (names : List (List ℕ)) (c : CoreProgram) (schedule : List ℕ) (budget : ℕ) where
+  -- the shape that was told of the types and the number of tables, by other names
+  module _ (input output : StreamType) (n : ℕ) (in_is : input ≡ input_type c) (out_is : output ≡ c.main.result) (n_is : n ≡ length names) where
+    pub shape_of : HasShape input output n → HasShape (input_type c) c.main.result (length names)
+    shape_of shape =
+        subst (λ (k : ℕ). HasShape (input_type c) c.main.result k) n_is (subst (λ (s : StreamType). HasShape (input_type c) s n) out_is (subst (λ (s : StreamType). HasShape s output n) in_is shape))
+
+    pub not_shape : (b : Bool) → (HasShape input output n → b ≡ true) → b ≡ false → HasShape (input_type c) c.main.result (length names) → ⊥
+    not_shape b tells is shape =
+        let with_n : HasShape (input_type c) c.main.result n = subst (λ (k : ℕ). HasShape (input_type c) c.main.result k) (sym n_is) shape in
+        let with_output : HasShape (input_type c) output n = subst (λ (s : StreamType). HasShape (input_type c) s n) (sym out_is) with_n in
+        let given : b ≡ true = tells (subst (λ (s : StreamType). HasShape s output n) (sym in_is) with_output) in
+        cc
+
+  -- and words that were read behind none
+  pub read_as : (s : StreamType) (old words : List (List StreamEvent)) → s ≡ input_type c → old ≡ []
+      → (later : List (List StreamEvent)) × AreRead holds names s 0 later × (words ≡ old ++ later) → AreRead holds names (input_type c) 0 words
+  read_as s old words e none read =
+      subst (λ (ws : List (List StreamEvent)). AreRead holds names (input_type c) 0 ws) (sym (read.2 ∙ ap (λ (xs : List (List StreamEvent)). xs ++ read.0) none))
+      (subst (λ (t : StreamType). AreRead holds names t 0 read.0) e read.1)
+
   told_count : (files : List ℕ → List ℕ) → length names ≡ length (tables_in files names)
   told_count files = sym (length-map names (λ name. take 1048577 (files name)))
 

@@ -1,5 +1,5 @@
 -- How many events tables have: few enough for a run on a word.
-use Rattle.std.proofs.Common.{◌≡◌, ℕ, zero, suc, ◌+◌, ◌*◌, ◌≤◌, ◌^◌, Bool, true, false, List, [], ◌∷◌, ◌++◌, length, map, Option, Some, None, refl, sym, subst, arith, length-append}
+use Rattle.std.proofs.Common.{◌≡◌, ℕ, zero, suc, ◌+◌, ◌*◌, ◌≤◌, ◌^◌, Bool, true, false, List, [], ◌∷◌, ◌++◌, length, map, Option, Some, None, refl, sym, subst, zero-add, arith, length-append}
 use Rattle.std.specs.Prelude.{option_map, nat_le, if◌then◌else◌}
 use Rattle.std.proofs.lemmas.Bool.{leb-true}
 use Rattle.std.proofs.lemmas.List.{length-map}
@@ -48,7 +48,7 @@ next_is_one zero ((x ∷ w) ∷ v ∷ ws) = omega arith
 next_is_one (suc i) (w ∷ ws) = one_later w ws (next_of i ws) (next_is_one i ws)
 
 taken : (schedule : List ℕ) (ws : List (List StreamEvent)) → length (take_at schedule ws).events + total (take_at schedule ws).left ≡ total ws
-taken [] ws = refl
+taken [] ws = zero-add (total ws)
 taken (i ∷ schedule) ws = by_next (λ vs. taken schedule vs) (next_of i ws) (next_is_one i ws)
   where
     by_next : ((vs : List (List StreamEvent)) → length (take_at schedule vs).events + total (take_at schedule vs).left ≡ total vs) → (o : Option (StreamEvent × List (List StreamEvent))) → IsOne ws o
@@ -57,7 +57,7 @@ taken (i ∷ schedule) ws = by_next (λ vs. taken schedule vs) (next_of i ws) (n
     by_next later (Some next) h = omega (arith, h, later next.1)
 
 taken_in_rounds : (n : ℕ) (schedule : List ℕ) (ws : List (List StreamEvent)) → length (rounds n schedule ws).events + total (rounds n schedule ws).left ≡ total ws
-taken_in_rounds zero schedule ws = refl
+taken_in_rounds zero schedule ws = zero-add (total ws)
 taken_in_rounds (suc n) schedule ws =
     omega (
       arith,
@@ -140,11 +140,11 @@ rows_are_short f short (v ∷ vs) =
 few_records : (cfg : Config) (n : ℕ) (s : State) (xs : List ℕ) → length (records_from cfg n s xs) ≤ n
 unfolding records_from
 few_records cfg zero s xs = omega arith
-few_records cfg (suc n) s xs = go (next_record cfg s [] [] xs)
+few_records cfg (suc n) s xs = go (λ p. few_records cfg n p.1 p.2) (next_record cfg s [] [] xs)
   where
-    go : (o : Option Read) → length (records_next (records_from cfg n) o) ≤ suc n
-    go None = omega arith
-    go (Some p) = omega (arith, few_records cfg n p.1 p.2)
+    go : ((p : Read) → length (records_from cfg n p.1 p.2) ≤ n) → (o : Option Read) → length (records_next (records_from cfg n) o) ≤ suc n
+    go later None = omega arith
+    go later (Some p) = omega (arith, later p)
 
 few_rows : (bytes : List ℕ) → length (map row_value (table_of bytes)) ≤ length bytes + 1
 few_rows bytes =

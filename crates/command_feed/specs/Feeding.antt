@@ -39,12 +39,12 @@ pub record IsUnfed (text : List ℕ) (tables : List (List ℕ)) (what : Objectio
   pub told : Objected what ≡ told_as why
 
 -- the program of the text takes these tables, and is stopped at an event of them, as the schedule orders them
-pub record IsStopped (stops : ProgramTree → List StreamEvent → Type 0) (text : List ℕ) (schedule : List ℕ) (tables : List (List ℕ)) : Type 0 where
+pub record IsStopped (Q : ProgramTree → List StreamEvent → Type 0) (text : List ℕ) (schedule : List ℕ) (tables : List (List ℕ)) : Type 0 where
   pub program : ProgramTree
   pub core : CoreProgram
   pub accepted : IsAcceptedAs text program core
   pub takes : Takes (input_of program) (main_of program).result tables
-  pub stops : stops program (tables_word (input_of program) schedule tables)
+  pub stops : Q program (tables_word (input_of program) schedule tables)
 
 -- it makes more calls at this event than the budget, or a call at a level above 1,000
 abbrev pub Spends : ℕ → ℕ → ProgramTree → List StreamEvent → Type 0
@@ -87,7 +87,7 @@ Tells text schedule tables budget written Long = ⊥
 abbrev pub IsOfFeed : End → Type 0
 IsOfFeed Done = ⊤
 IsOfFeed (Refused why) = ⊤
-IsOfFeed (Objected what) = ⊤
+IsOfFeed (Objected (Table name file row)) = ⊤
 IsOfFeed (Budget at) = ⊤
 IsOfFeed (Deep at) = ⊤
 IsOfFeed FileFailed = ⊤

@@ -9,6 +9,7 @@ use Rattle.core_term.specs.CoreTerm.{CoreProgram}
 use Rattle.core_term.specs.Meaning.{mean, calls_of, level_of}
 use Rattle.delta_state.specs.Stands.{input_type}
 use Rattle.table_feed.specs.declared.fault.FeedFault.{FeedFault}
+use Rattle.delta_end.specs.declared.objection.Objection.TheVariants.{Table}
 use Rattle.delta_end.specs.declared.end.End.{End}
 use Rattle.delta_end.specs.declared.end.End.TheVariants.{Refused, Budget, Deep, FileFailed, Memory, Objected}
 use Rattle.command_feed.specs.Tables.{Takes, IsWrong, told_as, given_text, tables_fault, tables_word, whole_tables, IsCostlyAt, IsDeepAt, OfTables, tables_in}
@@ -51,7 +52,7 @@ EndsUnwritten c schedule tables budget end =
 -- so the command can end before it writes
 abbrev pub IsUnwritten : End → Type 0
 IsUnwritten (Refused why) = ⊤
-IsUnwritten (Objected what) = ⊤
+IsUnwritten (Objected (Table name file row)) = ⊤
 IsUnwritten (Budget at) = ⊤
 IsUnwritten (Deep at) = ⊤
 IsUnwritten FileFailed = ⊤

@@ -11,7 +11,7 @@ use Rattle.machine_parts.proofs.StandingTrees.{is_answer}
 use Rattle.kept_state.specs.KeptTree.{KeptTree}
 use Rattle.machine_kept.specs.SinceView.{AwaitsSince, answer_since}
 use Rattle.machine_kept.proofs.TidySteps.{goes_on_tidy_with, keeps_tidy_simpler}
-use Rattle.machine_kept.proofs.SinceSteps.{admits_since, is_answer_since, goes_on_since_with, keeps_simpler_since}
+use Rattle.machine_kept.proofs.SinceSteps.{is_answer_since, goes_on_since_with, keeps_simpler_since}
 use Rattle.template_state.specs.Readers.{state_in}
 use Rattle.delta_code.specs.declared.machine.Coded.{Coded}
 use Rattle.delta_code.specs.CodedView.{program_of, view_of, run_by, state_by, TakesBy, CodedStands, CodedSince}

@@ -20,6 +20,12 @@ call_with_depth functions (suc k) f vs ps h =
     let e : suc k - 1 ≡ k = omega arith in
     ap (λ n. one_call (source_body_run functions (source_call_at functions n) (functions f) vs ps)) (sym e)
 
+-- a call counts itself
+pub call_counts : (functions : ℕ → SourceBody) (k f : ℕ) (vs : List HistValue) (ps : List StreamPrefix) → 0 < (source_call_at functions k f vs ps).calls
+unfolding source_call_at
+call_counts functions zero f vs ps = omega arith
+call_counts functions (suc k) f vs ps = omega arith
+
 -- the depth at which the main program begins
 pub horizon_is : horizon ≡ 2 ^ 62
 unfolding horizon

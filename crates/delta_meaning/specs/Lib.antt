@@ -12,5 +12,6 @@ pub mod Laws
 pub mod Evaluated
 pub mod Scope
 pub mod Functions
+pub mod CallRuns
 pub mod Weights
 pub mod Splitting

@@ -1,9 +1,10 @@
 //! The meaning of expressions, form by form, over the syntax tree.
 //!
-//! Each function takes the number of calls that are left, and stops as soon as more are made. The depth
-//! stays above that number, so no call is met at which it is used up.
+//! Each function takes the number of calls that are left. The depth stays above that number, so no call is
+//! met at which it is used up. It stops at a call for which none is left, and at one that too many stand
+//! round on the stack and that has no answer yet; so it goes no deeper than a body is, so many times.
 
-ghost use Rattle.std.specs.Prelude.{◌≡◌, ℕ, ◌+◌, ◌<◌, ◌≤◌, map, IfOk, IfErr};
+ghost use Rattle.std.specs.Prelude.{◌≡◌, ℕ, ◌+◌, ◌<◌, ◌≤◌, map, All, IfOk, IfErr};
 ghost use Rattle.stream_type.specs.StreamType.{type_of};
 ghost use Rattle.stream_prefix.specs.StreamPrefix.{in_left, in_right};
 ghost use Rattle.stream_prefix.specs.Tree.{prefix_of};
@@ -19,8 +20,10 @@ ghost use Rattle.delta_meaning.specs.SourceMeaning.{is_name_head, typed_run, if_
 ghost use Rattle.delta_meaning.specs.Evaluated.{run_of, runs_of, runs_joined};
 ghost use Rattle.core_term.specs.Params.{types_listed};
 ghost use Rattle.delta_meaning.specs.Scope.{past_in};
-ghost use Rattle.delta_meaning.specs.Functions.{calls_at, run_at, head_run_at, head_type_at, run_with_one, run_with_two, run_after, arguments_at};
+ghost use Rattle.delta_meaning.specs.CallRuns.{IsRight, StopsAmong};
+ghost use Rattle.delta_meaning.specs.Functions.{functions_at, calls_at, run_at, head_run_at, head_type_at, run_with_one, run_with_two, run_after, arguments_at};
 
+use crate::answers::answer_to;
 use crate::evaluated::{
     Arguments, Evaluated, call_run, cat_run, first_run, left_run, let_run, no_arguments, one_call,
     one_more, par_run, quiet, right_run, star_run, typed_run,
@@ -31,7 +34,7 @@ use crate::looking::{
     params_of, past_run, waited,
 };
 use crate::parts::{Sided, Taken, boxed_taken, cat_parts, side_taken};
-use crate::refusal::Stop;
+use crate::pause::Pause;
 use crate::scope::{Scope, past_of_body, values_in};
 use crate::types::boxed_type;
 use bunch::Name;
@@ -44,8 +47,8 @@ use stream_prefix::{Prefix, maximal};
 use stream_type::Ty;
 
 /// The run of an expression at its place, in its scope, with its expected type, where it makes at most as
-/// many calls as are left: `source_run` in `specs/SourceMeaning.antt`. It is `Spent` only where it makes
-/// more. Its other error is want of memory.
+/// many calls as are left: `source_run` in `specs/SourceMeaning.antt`. It stops at a call only where that,
+/// should it make more than are left for it, shows that the whole does. Its other error is want of memory.
 #[cycle(evaluate)]
 #[tactic(auto, using(delta_tree::proofs::Rows::rows))]
 pub fn evaluate<'a>(
@@ -55,11 +58,12 @@ pub fn evaluate<'a>(
     e: &Exp,
     ty: &Ty,
     left: u64,
-) -> Result<Evaluated, Stop>
-    requires { left < place.now.depth }
+) -> Result<Evaluated, Pause>
+    requires room { left < place.now.depth }
+    requires answers { All (IsRight (functions_at place.now)) place.now.answers.now }
     ensures run { IfOk result (λ a. run_of a ≡ run_at place.now scope.now (expression_of e.now) (type_of ty.now)) }
     ensures counted { IfOk result (λ a. a.calls ≤ left) }
-    ensures spent { IfErr result (λ s. s ≡ Stop.Spent → left < (run_at place.now scope.now (expression_of e.now) (type_of ty.now)).calls) }
+    ensures spent { IfErr result (λ s. StopsAmong (functions_at place.now) left (run_at place.now scope.now (expression_of e.now) (type_of ty.now)).calls s) }
 {
     match &*e.form {
         Form::Var(x) => name_run(alloc, scope, *x),
@@ -102,11 +106,12 @@ fn evaluate_both<'a>(
     b: &Exp,
     t: &Ty,
     left: u64,
-) -> Result<Evaluated, Stop>
-    requires { left < place.now.depth }
+) -> Result<Evaluated, Pause>
+    requires room { left < place.now.depth }
+    requires answers { All (IsRight (functions_at place.now)) place.now.answers.now }
     ensures run { IfOk result (λ r. run_of r ≡ par_run (run_at place.now scope.now (expression_of a.now) (type_of s.now)) (run_at place.now scope.now (expression_of b.now) (type_of t.now))) }
     ensures counted { IfOk result (λ r. r.calls ≤ left) }
-    ensures spent { IfErr result (λ r. r ≡ Stop.Spent → left < (par_run (run_at place.now scope.now (expression_of a.now) (type_of s.now)) (run_at place.now scope.now (expression_of b.now) (type_of t.now))).calls) }
+    ensures spent { IfErr result (λ r. StopsAmong (functions_at place.now) left (par_run (run_at place.now scope.now (expression_of a.now) (type_of s.now)) (run_at place.now scope.now (expression_of b.now) (type_of t.now))).calls r) }
 {
     let first = evaluate(alloc, place, scope, a, s, left)?;
     let second = evaluate(alloc, place, scope, b, t, left - first.calls)?;
@@ -125,11 +130,12 @@ fn evaluate_in_turn<'a>(
     b: &Exp,
     t: &Ty,
     left: u64,
-) -> Result<Evaluated, Stop>
-    requires { left < place.now.depth }
+) -> Result<Evaluated, Pause>
+    requires room { left < place.now.depth }
+    requires answers { All (IsRight (functions_at place.now)) place.now.answers.now }
     ensures run { IfOk result (λ r. run_of r ≡ cat_run (run_at place.now scope.now (expression_of a.now) (type_of s.now)) (run_at place.now scope.now (expression_of b.now) (type_of t.now))) }
     ensures counted { IfOk result (λ r. r.calls ≤ left) }
-    ensures spent { IfErr result (λ r. r ≡ Stop.Spent → left < (cat_run (run_at place.now scope.now (expression_of a.now) (type_of s.now)) (run_at place.now scope.now (expression_of b.now) (type_of t.now))).calls) }
+    ensures spent { IfErr result (λ r. StopsAmong (functions_at place.now) left (cat_run (run_at place.now scope.now (expression_of a.now) (type_of s.now)) (run_at place.now scope.now (expression_of b.now) (type_of t.now))).calls r) }
 {
     let first = evaluate(alloc, place, scope, a, s, left)?;
     if !maximal(&first.output) {
@@ -149,11 +155,12 @@ fn evaluate_star<'a>(
     b: &Exp,
     ty: &Ty,
     left: u64,
-) -> Result<Evaluated, Stop>
-    requires { left < place.now.depth }
+) -> Result<Evaluated, Pause>
+    requires room { left < place.now.depth }
+    requires answers { All (IsRight (functions_at place.now)) place.now.answers.now }
     ensures run { IfOk result (λ r. run_of r ≡ relabel as_star (cat_run (run_at place.now scope.now (expression_of a.now) (star_item (type_of ty.now))) (run_at place.now scope.now (expression_of b.now) (star_items (type_of ty.now))))) }
     ensures counted { IfOk result (λ r. r.calls ≤ left) }
-    ensures spent { IfErr result (λ r. r ≡ Stop.Spent → left < (relabel as_star (cat_run (run_at place.now scope.now (expression_of a.now) (star_item (type_of ty.now))) (run_at place.now scope.now (expression_of b.now) (star_items (type_of ty.now))))).calls) }
+    ensures spent { IfErr result (λ r. StopsAmong (functions_at place.now) left (relabel as_star (cat_run (run_at place.now scope.now (expression_of a.now) (star_item (type_of ty.now))) (run_at place.now scope.now (expression_of b.now) (star_items (type_of ty.now))))).calls r) }
 {
     let (s, t) = star_types(&*ty, &Ty::Eps);
     let both = evaluate_in_turn(alloc, place, scope, a, s, b, t, left)?;
@@ -169,11 +176,12 @@ fn evaluate_left<'a>(
     a: &Exp,
     ty: &Ty,
     left: u64,
-) -> Result<Evaluated, Stop>
-    requires { left < place.now.depth }
+) -> Result<Evaluated, Pause>
+    requires room { left < place.now.depth }
+    requires answers { All (IsRight (functions_at place.now)) place.now.answers.now }
     ensures run { IfOk result (λ r. run_of r ≡ relabel in_left (run_at place.now scope.now (expression_of a.now) (sum_left (type_of ty.now)))) }
     ensures counted { IfOk result (λ r. r.calls ≤ left) }
-    ensures spent { IfErr result (λ r. r ≡ Stop.Spent → left < (relabel in_left (run_at place.now scope.now (expression_of a.now) (sum_left (type_of ty.now)))).calls) }
+    ensures spent { IfErr result (λ r. StopsAmong (functions_at place.now) left (relabel in_left (run_at place.now scope.now (expression_of a.now) (sum_left (type_of ty.now)))).calls r) }
 {
     let (s, _) = sum_types(&*ty, &Ty::Eps);
     let inside = evaluate(alloc, place, scope, a, s, left)?;
@@ -189,11 +197,12 @@ fn evaluate_right<'a>(
     a: &Exp,
     ty: &Ty,
     left: u64,
-) -> Result<Evaluated, Stop>
-    requires { left < place.now.depth }
+) -> Result<Evaluated, Pause>
+    requires room { left < place.now.depth }
+    requires answers { All (IsRight (functions_at place.now)) place.now.answers.now }
     ensures run { IfOk result (λ r. run_of r ≡ relabel in_right (run_at place.now scope.now (expression_of a.now) (sum_right (type_of ty.now)))) }
     ensures counted { IfOk result (λ r. r.calls ≤ left) }
-    ensures spent { IfErr result (λ r. r ≡ Stop.Spent → left < (relabel in_right (run_at place.now scope.now (expression_of a.now) (sum_right (type_of ty.now)))).calls) }
+    ensures spent { IfErr result (λ r. StopsAmong (functions_at place.now) left (relabel in_right (run_at place.now scope.now (expression_of a.now) (sum_right (type_of ty.now)))).calls r) }
 {
     let (_, t) = sum_types(&*ty, &Ty::Eps);
     let inside = evaluate(alloc, place, scope, a, t, left)?;
@@ -209,11 +218,12 @@ fn evaluate_typed<'a>(
     a: &Exp,
     t: &TyExp,
     left: u64,
-) -> Result<Evaluated, Stop>
-    requires { left < place.now.depth }
+) -> Result<Evaluated, Pause>
+    requires room { left < place.now.depth }
+    requires answers { All (IsRight (functions_at place.now)) place.now.answers.now }
     ensures run { IfOk result (λ r. run_of r ≡ typed_run (run_at place.now scope.now (expression_of a.now) (type_meant (names_known place.now.known.now) (type_tree_of t.now)))) }
     ensures counted { IfOk result (λ r. r.calls ≤ left) }
-    ensures spent { IfErr result (λ r. r ≡ Stop.Spent → left < (typed_run (run_at place.now scope.now (expression_of a.now) (type_meant (names_known place.now.known.now) (type_tree_of t.now)))).calls) }
+    ensures spent { IfErr result (λ r. StopsAmong (functions_at place.now) left (typed_run (run_at place.now scope.now (expression_of a.now) (type_meant (names_known place.now.known.now) (type_tree_of t.now)))).calls r) }
 {
     let inside = evaluate_at_type(alloc, place, scope, a, t, left)?;
     Ok(typed_run(inside)?)
@@ -230,11 +240,12 @@ fn evaluate_if<'a>(
     b: &Exp,
     ty: &Ty,
     left: u64,
-) -> Result<Evaluated, Stop>
-    requires { left < place.now.depth }
+) -> Result<Evaluated, Pause>
+    requires room { left < place.now.depth }
+    requires answers { All (IsRight (functions_at place.now)) place.now.answers.now }
     ensures run { IfOk result (λ r. run_of r ≡ if_run (value (hist_of m.now).expr (past_in scope.now)) (run_at place.now scope.now (expression_of a.now) (type_of ty.now)) (run_at place.now scope.now (expression_of b.now) (type_of ty.now))) }
     ensures counted { IfOk result (λ r. r.calls ≤ left) }
-    ensures spent { IfErr result (λ r. r ≡ Stop.Spent → left < (if_run (value (hist_of m.now).expr (past_in scope.now)) (run_at place.now scope.now (expression_of a.now) (type_of ty.now)) (run_at place.now scope.now (expression_of b.now) (type_of ty.now))).calls) }
+    ensures spent { IfErr result (λ r. StopsAmong (functions_at place.now) left (if_run (value (hist_of m.now).expr (past_in scope.now)) (run_at place.now scope.now (expression_of a.now) (type_of ty.now)) (run_at place.now scope.now (expression_of b.now) (type_of ty.now))).calls r) }
 {
     if is_left(alloc, scope, m)? {
         evaluate(alloc, place, scope, a, ty, left)
@@ -252,11 +263,12 @@ fn evaluate_at_type<'a>(
     e: &Exp,
     t: &TyExp,
     left: u64,
-) -> Result<Evaluated, Stop>
-    requires { left < place.now.depth }
+) -> Result<Evaluated, Pause>
+    requires room { left < place.now.depth }
+    requires answers { All (IsRight (functions_at place.now)) place.now.answers.now }
     ensures run { IfOk result (λ r. run_of r ≡ run_at place.now scope.now (expression_of e.now) (type_meant (names_known place.now.known.now) (type_tree_of t.now))) }
     ensures counted { IfOk result (λ r. r.calls ≤ left) }
-    ensures spent { IfErr result (λ r. r ≡ Stop.Spent → left < (run_at place.now scope.now (expression_of e.now) (type_meant (names_known place.now.known.now) (type_tree_of t.now))).calls) }
+    ensures spent { IfErr result (λ r. StopsAmong (functions_at place.now) left (run_at place.now scope.now (expression_of e.now) (type_meant (names_known place.now.known.now) (type_tree_of t.now))).calls r) }
 {
     let t = boxed_type(alloc, place.known, t)?;
     evaluate(alloc, place, scope, e, &t, left)
@@ -273,11 +285,12 @@ fn evaluate_wait<'a>(
     e: &Exp,
     ty: &Ty,
     left: u64,
-) -> Result<Evaluated, Stop>
-    requires { left < place.now.depth }
+) -> Result<Evaluated, Pause>
+    requires room { left < place.now.depth }
+    requires answers { All (IsRight (functions_at place.now)) place.now.answers.now }
     ensures run { IfOk result (λ r. (at : ℕ) → run_of r ≡ run_at place.now scope.now (wait_at at x.0 (expression_of e.now)) (type_of ty.now)) }
     ensures counted { IfOk result (λ r. r.calls ≤ left) }
-    ensures spent { IfErr result (λ r. r ≡ Stop.Spent → (at : ℕ) → left < (run_at place.now scope.now (wait_at at x.0 (expression_of e.now)) (type_of ty.now)).calls) }
+    ensures spent { IfErr result (λ r. (at : ℕ) → StopsAmong (functions_at place.now) left (run_at place.now scope.now (wait_at at x.0 (expression_of e.now)) (type_of ty.now)).calls r) }
 {
     match waited(alloc, scope, x)? {
         Some(v) => evaluate(alloc, place, &Scope::Waited(x, &v, &*scope), e, ty, left),
@@ -295,11 +308,12 @@ fn evaluate_with_head<'a>(
     e: &Exp,
     ty: &Ty,
     left: u64,
-) -> Result<Evaluated, Stop>
-    requires { left < place.now.depth }
+) -> Result<Evaluated, Pause>
+    requires room { left < place.now.depth }
+    requires answers { All (IsRight (functions_at place.now)) place.now.answers.now }
     ensures run { IfOk result (λ r. run_of r ≡ let_run (is_name_head (head_of h.now)) (head_run_at place.now scope.now (head_of h.now)) (run_after place.now scope.now (expression_of e.now) (type_of ty.now) (head_type_at place.now scope.now (head_of h.now)) (head_run_at place.now scope.now (head_of h.now)).out)) }
     ensures counted { IfOk result (λ r. r.calls ≤ left) }
-    ensures spent { IfErr result (λ r. r ≡ Stop.Spent → left < (let_run (is_name_head (head_of h.now)) (head_run_at place.now scope.now (head_of h.now)) (run_after place.now scope.now (expression_of e.now) (type_of ty.now) (head_type_at place.now scope.now (head_of h.now)) (head_run_at place.now scope.now (head_of h.now)).out)).calls) }
+    ensures spent { IfErr result (λ r. StopsAmong (functions_at place.now) left (let_run (is_name_head (head_of h.now)) (head_run_at place.now scope.now (head_of h.now)) (run_after place.now scope.now (expression_of e.now) (type_of ty.now) (head_type_at place.now scope.now (head_of h.now)) (head_run_at place.now scope.now (head_of h.now)).out)).calls r) }
 {
     let head = evaluate_head(alloc, place, scope, h, left)?;
     evaluate_let(alloc, place, scope, h, e, &head, ty, left)
@@ -316,12 +330,13 @@ fn evaluate_let<'a>(
     head: &Evaluated,
     ty: &Ty,
     left: u64,
-) -> Result<Evaluated, Stop>
+) -> Result<Evaluated, Pause>
     requires room { left < place.now.depth }
+    requires answers { All (IsRight (functions_at place.now)) place.now.answers.now }
     requires counted { head.now.calls ≤ left }
     ensures run { IfOk result (λ r. run_of r ≡ let_run (is_name_head (head_of h.now)) (run_of head.now) (run_after place.now scope.now (expression_of e.now) (type_of ty.now) (head_type_at place.now scope.now (head_of h.now)) (prefix_of head.now.output))) }
     ensures counted { IfOk result (λ r. r.calls ≤ left) }
-    ensures spent { IfErr result (λ r. r ≡ Stop.Spent → left < head.now.calls + (run_after place.now scope.now (expression_of e.now) (type_of ty.now) (head_type_at place.now scope.now (head_of h.now)) (prefix_of head.now.output)).calls) }
+    ensures spent { IfErr result (λ r. StopsAmong (functions_at place.now) left (head.now.calls + (run_after place.now scope.now (expression_of e.now) (type_of ty.now) (head_type_at place.now scope.now (head_of h.now)) (prefix_of head.now.output)).calls) r) }
 {
     let rest = left - head.calls;
     let after = evaluate_after(alloc, place, scope, h, e, &head.output, ty, rest)?;
@@ -339,11 +354,12 @@ fn evaluate_after<'a>(
     p: &Prefix,
     ty: &Ty,
     left: u64,
-) -> Result<Evaluated, Stop>
-    requires { left < place.now.depth }
+) -> Result<Evaluated, Pause>
+    requires room { left < place.now.depth }
+    requires answers { All (IsRight (functions_at place.now)) place.now.answers.now }
     ensures run { IfOk result (λ r. run_of r ≡ run_after place.now scope.now (expression_of e.now) (type_of ty.now) (head_type_at place.now scope.now (head_of h.now)) (prefix_of p.now)) }
     ensures counted { IfOk result (λ r. r.calls ≤ left) }
-    ensures spent { IfErr result (λ r. r ≡ Stop.Spent → left < (run_after place.now scope.now (expression_of e.now) (type_of ty.now) (head_type_at place.now scope.now (head_of h.now)) (prefix_of p.now)).calls) }
+    ensures spent { IfErr result (λ r. StopsAmong (functions_at place.now) left (run_after place.now scope.now (expression_of e.now) (type_of ty.now) (head_type_at place.now scope.now (head_of h.now)) (prefix_of p.now)).calls r) }
 {
     let s = boxed_head_type(alloc, place, scope, h)?;
     evaluate_bound(alloc, place, scope, e, &s, p, ty, left)
@@ -361,11 +377,12 @@ fn evaluate_bound<'a>(
     p: &Prefix,
     ty: &Ty,
     left: u64,
-) -> Result<Evaluated, Stop>
-    requires { left < place.now.depth }
+) -> Result<Evaluated, Pause>
+    requires room { left < place.now.depth }
+    requires answers { All (IsRight (functions_at place.now)) place.now.answers.now }
     ensures run { IfOk result (λ r. run_of r ≡ run_after place.now scope.now (expression_of e.now) (type_of ty.now) (type_of s.now) (prefix_of p.now)) }
     ensures counted { IfOk result (λ r. r.calls ≤ left) }
-    ensures spent { IfErr result (λ r. r ≡ Stop.Spent → left < (run_after place.now scope.now (expression_of e.now) (type_of ty.now) (type_of s.now) (prefix_of p.now)).calls) }
+    ensures spent { IfErr result (λ r. StopsAmong (functions_at place.now) left (run_after place.now scope.now (expression_of e.now) (type_of ty.now) (type_of s.now) (prefix_of p.now)).calls r) }
 {
     match &*e.form {
         Form::Let(x, _, e) => evaluate_one(alloc, place, scope, *x, s, p, e, ty, left),
@@ -413,11 +430,12 @@ fn evaluate_parts<'a>(
     e: &Exp,
     ty: &Ty,
     left: u64,
-) -> Result<Evaluated, Stop>
-    requires { left < place.now.depth }
+) -> Result<Evaluated, Pause>
+    requires room { left < place.now.depth }
+    requires answers { All (IsRight (functions_at place.now)) place.now.answers.now }
     ensures run { IfOk result (λ r. run_of r ≡ run_with_two place.now scope.now x.0 y.0 (expression_of e.now) (type_of ty.now) (cat_first (type_of s.now)) (cat_second (type_of s.now)) (first_part (prefix_of p.now)) (second_part (cat_second (type_of s.now)) (prefix_of p.now))) }
     ensures counted { IfOk result (λ r. r.calls ≤ left) }
-    ensures spent { IfErr result (λ r. r ≡ Stop.Spent → left < (run_with_two place.now scope.now x.0 y.0 (expression_of e.now) (type_of ty.now) (cat_first (type_of s.now)) (cat_second (type_of s.now)) (first_part (prefix_of p.now)) (second_part (cat_second (type_of s.now)) (prefix_of p.now))).calls) }
+    ensures spent { IfErr result (λ r. StopsAmong (functions_at place.now) left (run_with_two place.now scope.now x.0 y.0 (expression_of e.now) (type_of ty.now) (cat_first (type_of s.now)) (cat_second (type_of s.now)) (first_part (prefix_of p.now)) (second_part (cat_second (type_of s.now)) (prefix_of p.now))).calls r) }
 {
     let (t, u) = cat_types(&*s, &Ty::Eps);
     let (p, q) = cat_parts(alloc, u, p)?;
@@ -438,11 +456,12 @@ fn evaluate_side<'a>(
     p: &Prefix,
     ty: &Ty,
     left: u64,
-) -> Result<Evaluated, Stop>
-    requires { left < place.now.depth }
+) -> Result<Evaluated, Pause>
+    requires room { left < place.now.depth }
+    requires answers { All (IsRight (functions_at place.now)) place.now.answers.now }
     ensures run { IfOk result (λ r. run_of r ≡ sum_run (type_of ty.now) (prefix_of p.now) (λ q. run_with_one place.now scope.now x.0 (expression_of a.now) (type_of ty.now) (sum_left (type_of s.now)) q) (λ q. run_with_one place.now scope.now y.0 (expression_of b.now) (type_of ty.now) (sum_right (type_of s.now)) q)) }
     ensures counted { IfOk result (λ r. r.calls ≤ left) }
-    ensures spent { IfErr result (λ r. r ≡ Stop.Spent → left < (sum_run (type_of ty.now) (prefix_of p.now) (λ q. run_with_one place.now scope.now x.0 (expression_of a.now) (type_of ty.now) (sum_left (type_of s.now)) q) (λ q. run_with_one place.now scope.now y.0 (expression_of b.now) (type_of ty.now) (sum_right (type_of s.now)) q)).calls) }
+    ensures spent { IfErr result (λ r. StopsAmong (functions_at place.now) left (sum_run (type_of ty.now) (prefix_of p.now) (λ q. run_with_one place.now scope.now x.0 (expression_of a.now) (type_of ty.now) (sum_left (type_of s.now)) q) (λ q. run_with_one place.now scope.now y.0 (expression_of b.now) (type_of ty.now) (sum_right (type_of s.now)) q)).calls r) }
 {
     let (t, u) = sum_types(&*s, &Ty::Eps);
     match side_taken(p) {
@@ -466,11 +485,12 @@ fn evaluate_item<'a>(
     p: &Prefix,
     ty: &Ty,
     left: u64,
-) -> Result<Evaluated, Stop>
-    requires { left < place.now.depth }
+) -> Result<Evaluated, Pause>
+    requires room { left < place.now.depth }
+    requires answers { All (IsRight (functions_at place.now)) place.now.answers.now }
     ensures run { IfOk result (λ r. run_of r ≡ star_run (type_of ty.now) (prefix_of p.now) (run_at place.now scope.now (expression_of a.now) (type_of ty.now)) (λ q qs. run_with_two place.now scope.now y.0 ys.0 (expression_of b.now) (type_of ty.now) (star_item (type_of s.now)) (star_items (type_of s.now)) q qs)) }
     ensures counted { IfOk result (λ r. r.calls ≤ left) }
-    ensures spent { IfErr result (λ r. r ≡ Stop.Spent → left < (star_run (type_of ty.now) (prefix_of p.now) (run_at place.now scope.now (expression_of a.now) (type_of ty.now)) (λ q qs. run_with_two place.now scope.now y.0 ys.0 (expression_of b.now) (type_of ty.now) (star_item (type_of s.now)) (star_items (type_of s.now)) q qs)).calls) }
+    ensures spent { IfErr result (λ r. StopsAmong (functions_at place.now) left (star_run (type_of ty.now) (prefix_of p.now) (run_at place.now scope.now (expression_of a.now) (type_of ty.now)) (λ q qs. run_with_two place.now scope.now y.0 ys.0 (expression_of b.now) (type_of ty.now) (star_item (type_of s.now)) (star_items (type_of s.now)) q qs)).calls r) }
 {
     let (t, u) = star_types(&*s, &Ty::Eps);
     let taken = boxed_taken(alloc, p)?;
@@ -493,11 +513,12 @@ fn evaluate_one<'a>(
     e: &Exp,
     ty: &Ty,
     left: u64,
-) -> Result<Evaluated, Stop>
-    requires { left < place.now.depth }
+) -> Result<Evaluated, Pause>
+    requires room { left < place.now.depth }
+    requires answers { All (IsRight (functions_at place.now)) place.now.answers.now }
     ensures run { IfOk result (λ r. run_of r ≡ run_with_one place.now scope.now x.0 (expression_of e.now) (type_of ty.now) (type_of t.now) (prefix_of p.now)) }
     ensures counted { IfOk result (λ r. r.calls ≤ left) }
-    ensures spent { IfErr result (λ r. r ≡ Stop.Spent → left < (run_with_one place.now scope.now x.0 (expression_of e.now) (type_of ty.now) (type_of t.now) (prefix_of p.now)).calls) }
+    ensures spent { IfErr result (λ r. StopsAmong (functions_at place.now) left (run_with_one place.now scope.now x.0 (expression_of e.now) (type_of ty.now) (type_of t.now) (prefix_of p.now)).calls r) }
 {
     let inner = Scope::Stream(x, t, p, &*scope);
     evaluate(alloc, place, &inner, e, ty, left)
@@ -518,11 +539,12 @@ fn evaluate_two<'a>(
     e: &Exp,
     ty: &Ty,
     left: u64,
-) -> Result<Evaluated, Stop>
-    requires { left < place.now.depth }
+) -> Result<Evaluated, Pause>
+    requires room { left < place.now.depth }
+    requires answers { All (IsRight (functions_at place.now)) place.now.answers.now }
     ensures run { IfOk result (λ r. run_of r ≡ run_with_two place.now scope.now x.0 y.0 (expression_of e.now) (type_of ty.now) (type_of t.now) (type_of u.now) (prefix_of p.now) (prefix_of q.now)) }
     ensures counted { IfOk result (λ r. r.calls ≤ left) }
-    ensures spent { IfErr result (λ r. r ≡ Stop.Spent → left < (run_with_two place.now scope.now x.0 y.0 (expression_of e.now) (type_of ty.now) (type_of t.now) (type_of u.now) (prefix_of p.now) (prefix_of q.now)).calls) }
+    ensures spent { IfErr result (λ r. StopsAmong (functions_at place.now) left (run_with_two place.now scope.now x.0 y.0 (expression_of e.now) (type_of ty.now) (type_of t.now) (type_of u.now) (prefix_of p.now) (prefix_of q.now)).calls r) }
 {
     let outer = Scope::Stream(x, t, p, &*scope);
     let inner = Scope::Stream(y, u, q, &outer);
@@ -538,11 +560,12 @@ fn evaluate_head<'a>(
     scope: &'a Scope<'a>,
     h: &Head,
     left: u64,
-) -> Result<Evaluated, Stop>
-    requires { left < place.now.depth }
+) -> Result<Evaluated, Pause>
+    requires room { left < place.now.depth }
+    requires answers { All (IsRight (functions_at place.now)) place.now.answers.now }
     ensures run { IfOk result (λ r. run_of r ≡ head_run_at place.now scope.now (head_of h.now)) }
     ensures counted { IfOk result (λ r. r.calls ≤ left) }
-    ensures spent { IfErr result (λ r. r ≡ Stop.Spent → left < (head_run_at place.now scope.now (head_of h.now)).calls) }
+    ensures spent { IfErr result (λ r. StopsAmong (functions_at place.now) left (head_run_at place.now scope.now (head_of h.now)).calls r) }
 {
     match &*h.form {
         HeadForm::Var(x) => name_run(alloc, scope, *x),
@@ -561,11 +584,12 @@ fn evaluate_call<'a>(
     ms: &[Hist],
     es: &[Exp],
     left: u64,
-) -> Result<Evaluated, Stop>
-    requires { left < place.now.depth }
+) -> Result<Evaluated, Pause>
+    requires room { left < place.now.depth }
+    requires answers { All (IsRight (functions_at place.now)) place.now.answers.now }
     ensures run { IfOk result (λ r. (at : ℕ) → run_of r ≡ head_run_at place.now scope.now (call_head at f.0 (map hist_of ms.now) (expressions_of es.now))) }
     ensures counted { IfOk result (λ r. r.calls ≤ left) }
-    ensures spent { IfErr result (λ r. r ≡ Stop.Spent → (at : ℕ) → left < (head_run_at place.now scope.now (call_head at f.0 (map hist_of ms.now) (expressions_of es.now))).calls) }
+    ensures spent { IfErr result (λ r. (at : ℕ) → StopsAmong (functions_at place.now) left (head_run_at place.now scope.now (call_head at f.0 (map hist_of ms.now) (expressions_of es.now))).calls r) }
 {
     let values = values_in(alloc, scope, ms)?;
     let params = params_of(alloc, place, f)?;
@@ -587,12 +611,13 @@ fn evaluate_arguments<'a>(
     params: &[(Name, Ty)],
     before: Arguments,
     left: u64,
-) -> Result<Arguments, Stop>
+) -> Result<Arguments, Pause>
     requires room { left < place.now.depth }
+    requires answers { All (IsRight (functions_at place.now)) place.now.answers.now }
     requires counted { before.calls ≤ left }
     ensures runs { IfOk result (λ r. runs_of r ≡ runs_joined (runs_of before) (arguments_at place.now scope.now (expressions_of es.now) (types_listed params.now))) }
     ensures counted { IfOk result (λ r. r.calls ≤ left) }
-    ensures spent { IfErr result (λ r. r ≡ Stop.Spent → left < (runs_joined (runs_of before) (arguments_at place.now scope.now (expressions_of es.now) (types_listed params.now))).calls) }
+    ensures spent { IfErr result (λ r. StopsAmong (functions_at place.now) left (runs_joined (runs_of before) (arguments_at place.now scope.now (expressions_of es.now) (types_listed params.now))).calls r) }
 {
     let Some((e, more)) = es.split_first() else {
         return Ok(before);
@@ -603,24 +628,26 @@ fn evaluate_arguments<'a>(
     evaluate_arguments(alloc, place, scope, more, others, so_far, left)
 }
 
-// The body of a function on its arguments, counted as a call.
+/// The body of a function on its arguments, counted as a call. Where too many calls stand round it on the
+/// stack, it is put off, unless an answer says what it gives.
 #[cycle(evaluate)]
 #[tactic(auto, using(crate::proofs::Evaluations::bodies))]
-fn evaluate_body(
+pub fn evaluate_body(
     alloc: Global,
     place: &Place<'_>,
     f: Name,
     values: &[Value],
     streams: &[Prefix],
     left: u64,
-) -> Result<Evaluated, Stop>
-    requires { left < place.now.depth }
+) -> Result<Evaluated, Pause>
+    requires room { left < place.now.depth }
+    requires answers { All (IsRight (functions_at place.now)) place.now.answers.now }
     ensures run { IfOk result (λ r. run_of r ≡ calls_at place.now f.0 (map hist_value_of values.now) (map prefix_of streams.now)) }
     ensures counted { IfOk result (λ r. r.calls ≤ left) }
-    ensures spent { IfErr result (λ r. r ≡ Stop.Spent → left < (calls_at place.now f.0 (map hist_value_of values.now) (map prefix_of streams.now)).calls) }
+    ensures spent { IfErr result (λ r. StopsAmong (functions_at place.now) left (calls_at place.now f.0 (map hist_value_of values.now) (map prefix_of streams.now)).calls r) }
 {
-    if left == 0 {
-        return Err(Stop::Spent);
+    if left == 0 || place.near == 0 {
+        return answer_to(alloc, place, f, values, streams, left);
     }
     let Some(function) = function_named(place.functions, f) else {
         return Ok(one_call(quiet(Prefix::EpsEmp)));
@@ -631,6 +658,8 @@ fn evaluate_body(
         functions: place.functions,
         known: &function.known,
         depth: place.depth - 1,
+        near: place.near - 1,
+        answers: place.answers,
     };
     let scope = Scope::Params(&params, streams, &past);
     let run = evaluate(

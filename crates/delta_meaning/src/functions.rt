@@ -5,6 +5,7 @@ ghost use Rattle.delta_meaning.specs.SourceBody.{function_named, no_function};
 ghost use Rattle.delta_meaning.specs.Functions.{body_of};
 ghost use Rattle.delta_meaning.specs.Weights.{weight, heaviest};
 
+use crate::calls::Answer;
 use bunch::{Bunch, Name};
 use delta_tree::Exp;
 use stream_type::Ty;
@@ -35,6 +36,10 @@ pub struct Place<'a> {
     pub known: &'a [(Name, Ty)],
     /// The depth that calls have left.
     pub depth: u64,
+    /// How many calls may still stand inside one another on the stack.
+    pub near: u64,
+    /// Calls that were made before.
+    pub answers: &'a [Answer],
 }
 
 /// The first function with the name, or None exactly where there is none.

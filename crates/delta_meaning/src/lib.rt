@@ -2,14 +2,19 @@
 //! Both are definitions in `specs/`, over the syntax trees of programs.
 #![tactic(auto)]
 
+mod answers;
+mod calls;
 mod evaluated;
 mod evaluation;
 mod functions;
 pub mod laws;
 mod looking;
 mod parts;
+mod pause;
 mod programs;
 mod refusal;
+mod rounds;
+mod same;
 mod scope;
 mod splitting;
 mod types;

@@ -13,14 +13,16 @@ ghost use Rattle.core_term.specs.CoreTerm.{leaf_types};
 ghost use Rattle.core_term.specs.Params.{types_listed};
 ghost use Rattle.delta_meaning.specs.TypeNames.{type_meant};
 ghost use Rattle.delta_meaning.specs.KnownTypes.{names_known};
+ghost use Rattle.delta_meaning.specs.SourceBody.{SourceBody};
 ghost use Rattle.delta_meaning.specs.SourceMeaning.{is_name, is_name_head, head_type};
 ghost use Rattle.delta_meaning.specs.Evaluated.{is_left, run_of, first_type, other_types};
 ghost use Rattle.delta_meaning.specs.Scope.{types_in, streams_in, past_in};
 ghost use Rattle.delta_meaning.specs.Functions.{functions_at};
+ghost use Rattle.delta_meaning.specs.CallRuns.{StopsAmong};
 
 use crate::evaluated::{Evaluated, quiet};
 use crate::functions::{Place, function_named};
-use crate::refusal::Stop;
+use crate::pause::Pause;
 use crate::scope::{Scope, stream_at, type_at, value_in};
 use crate::types::type_meant;
 use bunch::Name;
@@ -68,10 +70,10 @@ fn head_type(alloc: Global, place: &Place<'_>, scope: &Scope<'_>, h: &Head) -> R
 }
 
 /// What has come on a name, as a run without a call. Its only error is want of memory.
-pub fn name_run(alloc: Global, scope: &Scope<'_>, x: Name) -> Result<Evaluated, Stop>
+pub fn name_run(alloc: Global, scope: &Scope<'_>, x: Name) -> Result<Evaluated, Pause>
     ensures run { IfOk result (λ r. run_of r ≡ quiet (streams_in scope.now x.0)) }
     ensures counted { (left : ℕ) → IfOk result (λ r. r.calls ≤ left) }
-    ensures spent { (left calls : ℕ) → IfErr result (λ s. s ≡ Stop.Spent → left < calls) }
+    ensures spent { (functions : ℕ → SourceBody) (left calls : ℕ) → IfErr result (StopsAmong functions left calls) }
 {
     Ok(quiet(stream_at(alloc, scope, x)?))
 }
@@ -84,20 +86,20 @@ pub fn nil_run(alloc: Global) -> Evaluated
 }
 
 /// Nothing of a type, as a run without a call. Its only error is want of memory.
-pub fn nothing_run(alloc: Global, ty: &Ty) -> Result<Evaluated, Stop>
+pub fn nothing_run(alloc: Global, ty: &Ty) -> Result<Evaluated, Pause>
     ensures run { IfOk result (λ r. run_of r ≡ quiet (emp (type_of ty.now))) }
     ensures counted { (left : ℕ) → IfOk result (λ r. r.calls ≤ left) }
-    ensures spent { (left calls : ℕ) → IfErr result (λ s. s ≡ Stop.Spent → left < calls) }
+    ensures spent { (functions : ℕ → SourceBody) (left calls : ℕ) → IfErr result (StopsAmong functions left calls) }
 {
     Ok(quiet(empty(alloc, ty)?))
 }
 
 /// The value of a historical expression as a stream of the type, without a call. Its only error is want of
 /// memory.
-pub fn past_run(alloc: Global, scope: &Scope<'_>, m: &Hist, ty: &Ty) -> Result<Evaluated, Stop>
+pub fn past_run(alloc: Global, scope: &Scope<'_>, m: &Hist, ty: &Ty) -> Result<Evaluated, Pause>
     ensures run { IfOk result (λ r. run_of r ≡ quiet (full (type_of ty.now) (value (hist_of m.now).expr (past_in scope.now)))) }
     ensures counted { (left : ℕ) → IfOk result (λ r. r.calls ≤ left) }
-    ensures spent { (left calls : ℕ) → IfErr result (λ s. s ≡ Stop.Spent → left < calls) }
+    ensures spent { (functions : ℕ → SourceBody) (left calls : ℕ) → IfErr result (StopsAmong functions left calls) }
 {
     let v = value_in(alloc, scope, m)?;
     Ok(quiet(full(alloc, ty, &v)?))

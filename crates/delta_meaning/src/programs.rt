@@ -14,9 +14,9 @@ ghost use Rattle.delta_meaning.specs.Evaluated.{run_of};
 ghost use Rattle.delta_meaning.specs.Functions.{body_of, body_at};
 
 use crate::evaluated::Evaluated;
-use crate::evaluation::evaluate;
 use crate::functions::{Function, Place};
 use crate::refusal::{EvalRefusal, Stop};
+use crate::rounds::evaluate_in_rounds;
 use crate::scope::Scope;
 use crate::splitting::parts;
 use crate::types::{boxed_params, boxed_type, params_meant, past_meant, type_meant};
@@ -96,6 +96,8 @@ fn run_among(
         functions,
         known,
         depth: HORIZON,
+        near: 0,
+        answers: &[],
     };
     body_run(alloc, &place, &*params, &p.main.body, &*ty, input, left)
 }
@@ -118,7 +120,7 @@ fn body_run(
     let names = leaves(alloc, params)?;
     let streams = parts(alloc, params, input)?;
     let scope = Scope::Params(&names, &streams, &[]);
-    evaluate(alloc, place, &scope, body, ty, left)
+    evaluate_in_rounds(alloc, place, &scope, body, ty, left)
 }
 
 // The functions among declarations as they are meant, and the names of types that are known below all.

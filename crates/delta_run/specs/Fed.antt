@@ -10,8 +10,8 @@ use Rattle.command_feed.specs.Tables.{OfTables}
 use Rattle.command_feed.specs.Feeding.{IsFed, IsUnfed, NeverStops, Tells}
 
 -- to the log, where the files have these tables
-abbrev pub FedText : Option (List ℕ → List ℕ) → (text schedule : List ℕ) (names : List (List ℕ)) (budget : ℕ) → Option (List Move)
-    → Option (List Move) → End → Type 0
+abbrev pub FedText : Option (List ℕ → List ℕ) → (text schedule : List ℕ) (names : List (List ℕ)) (budget : ℕ)
+    → Option (List Move) → Option (List Move) → End → Type 0
 FedText holds text schedule names budget old new end =
     (sent : List ℕ) × Writes old new sent × OfTables holds names (λ tables. Tells text schedule tables budget sent end)
 
@@ -19,8 +19,8 @@ FedText holds text schedule names budget old new end =
 -- what it gives on the whole of them written, or 8
 abbrev pub FeedsWell : (text schedule : List ℕ) (tables : List (List ℕ)) (budget : ℕ) → Option (List Move) → Option (List Move) → ℕ → Type 0
 FeedsWell text schedule tables budget old new status =
-    (out : List ℕ) → IsFed text tables out → NeverStops text schedule tables budget → (status ≡ 8)
-    ⊎ ((status ≡ 0) × Adds old new (λ moves. bytes_written moves ≡ out))
+    (out : List ℕ) → IsFed text tables out → NeverStops text schedule tables budget
+    → (status ≡ 8) ⊎ ((status ≡ 0) × Adds old new (λ moves. bytes_written moves ≡ out))
 
 -- tables that it doesn't take give status 13, or 8
 abbrev pub RefusesTables : List ℕ → List (List ℕ) → ℕ → Type 0

@@ -19,14 +19,14 @@ pub record Feeds (file schedule : List ℕ) (names : List (List ℕ)) (budget : 
   pub ends : OfFile before.files file (λ text. OfTables before.files names (λ tables. Adds before.log after.log (Told (Tells text schedule tables budget) end)))
   -- tables that the program takes, at none of whose events it is stopped, with no fault counted: done with that text
   -- written, or want of memory
-  pub complete : OfFile before.files file
-      (λ text. OfTables before.files names (λ tables. IsStill before.file_faults after.file_faults → IsStill before.write_faults after.write_faults
+  pub complete : OfFile before.files file (λ text. OfTables before.files names (λ tables.
+      IsStill before.file_faults after.file_faults → IsStill before.write_faults after.write_faults
       → IsStill before.note_faults after.note_faults → FeedsWell text schedule tables budget before.log after.log status))
   -- tables that it doesn't take, with no fault counted: status 13, or want of memory
-  pub untaken : OfFile before.files file
-      (λ text. OfTables before.files names (λ tables. IsStill before.file_faults after.file_faults → IsStill before.write_faults after.write_faults
+  pub untaken : OfFile before.files file (λ text. OfTables before.files names (λ tables.
+      IsStill before.file_faults after.file_faults → IsStill before.write_faults after.write_faults
       → IsStill before.note_faults after.note_faults → RefusesTables text tables status))
   -- a text that is refused for something, whatever the tables are, with no fault counted: status 3, or want of memory
-  pub refused : OfFile before.files file
-      (λ text. OfTables before.files names (λ tables. IsStill before.file_faults after.file_faults → IsStill before.write_faults after.write_faults
+  pub refused : OfFile before.files file (λ text. OfTables before.files names (λ tables.
+      IsStill before.file_faults after.file_faults → IsStill before.write_faults after.write_faults
       → IsStill before.note_faults after.note_faults → RefusesUnaccepted text status))

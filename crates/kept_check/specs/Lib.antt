@@ -1,11 +1,7 @@
 -- What the contracts cite.
-pub mod InTurn
-pub mod StateRules
-pub mod FirstUntyped
-pub mod Laws
 pub mod Arguments
 pub mod Free
-pub mod Walk
 pub mod Given
 pub mod Laters
 pub mod Sizes
+pub mod Walk

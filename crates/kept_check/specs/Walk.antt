@@ -1,15 +1,10 @@
 -- What is found as the states of a kept state are gone through in turn.
 use Rattle.std.specs.Prelude.{ℕ, zero, suc, ◌≡◌, ◌+◌, ⊤, List, [], ◌∷◌, length, Result, Ok, Err}
 use Rattle.core_term.specs.CoreTerm.{CoreBody}
-use Rattle.kept_check.specs.InTurn.{StateAt}
-use Rattle.kept_check.specs.StateRules.{IsGood}
+use Rattle.kept_rules.specs.InTurn.{StateAt}
+use Rattle.kept_rules.specs.StateRules.{IsGood, AreGood}
 use Rattle.kept_check.specs.declared.stop.Stop.{Stop}
 use Rattle.kept_check.specs.declared.stop.Stop.TheVariants.{Memory, At}
-
--- each of these is good
-abbrev pub AreGood : List CoreBody → ℕ → List StateAt → Type 0
-AreGood funs depth [] = ⊤
-AreGood funs depth (j ∷ js) = IsGood funs depth j × AreGood funs depth js
 
 -- the state with this number isn't, and those before it are
 abbrev pub IsFirstBad : List CoreBody → ℕ → List StateAt → ℕ → Type 0

@@ -13,7 +13,7 @@ ghost use Rattle.delta_state.specs.StateTree.{argument_names, free_in_state};
 ghost use Rattle.delta_state.specs.StateTyping.{marks_of_arguments, facts_of_arguments, context_of_arguments};
 ghost use Rattle.delta_keep.specs.KeptView.{state_of};
 ghost use Rattle.kept_check.specs.Arguments.{arguments_from};
-ghost use Rattle.kept_check.specs.InTurn.{own_names, names_in_turn, names_of_parts, names_of_arguments, states_of, states_in, states_of_arguments};
+ghost use Rattle.kept_rules.specs.InTurn.{own_names, names_in_turn, names_of_parts, names_of_arguments, states_of, states_in, states_of_arguments};
 ghost use Rattle.kept_check.specs.Sizes.{codes_fit, codes_fit_in, states_number, states_of_parts, states_in_arguments};
 ghost use Rattle.kept_check.specs.Walk.{FindsBad};
 

@@ -11,7 +11,7 @@ ghost use Rattle.delta_check.specs.Scopes.{context_in};
 ghost use Rattle.delta_state.specs.StateTyping.{with_known};
 ghost use Rattle.kept_state.specs.KeptNames.{IsPastApart};
 ghost use Rattle.delta_keep.specs.KeptView.{later_of};
-ghost use Rattle.kept_check.specs.StateRules.{IsGoodLater};
+ghost use Rattle.kept_rules.specs.StateRules.{IsGoodLater};
 ghost use Rattle.kept_check.specs.Laters.{IsFitLater};
 
 use crate::bound::add_bound;

@@ -1,5 +1,4 @@
-//! Kept states that are trusted: which state of one is the first that isn't typed for a program, and the
-//! reading of bytes that answers typed ones alone.
+//! Kept states read from bytes that nobody has to trust: those that are typed for a program, and no others.
 #![tactic(auto)]
 
 mod bound;
@@ -8,7 +7,6 @@ mod fault;
 mod free;
 mod holding;
 mod laters;
-pub mod laws;
 mod loading;
 mod names;
 mod placing;

@@ -13,7 +13,7 @@ ghost use Rattle.delta_state.specs.StateTree.{cat_state, argument_names, free_in
 ghost use Rattle.delta_state.specs.StateTyping.{context_held, IsHeld};
 ghost use Rattle.delta_keep.specs.KeptView.{state_of, held_of, later_of};
 ghost use Rattle.kept_check.specs.Arguments.{arguments_from};
-ghost use Rattle.kept_check.specs.StateRules.{FollowsRule, IsGoodSum, IsGoodStar, IsGoodWait};
+ghost use Rattle.kept_rules.specs.StateRules.{FollowsRule, IsGoodSum, IsGoodStar, IsGoodWait};
 ghost use Rattle.kept_check.specs.Sizes.{codes_fit};
 
 use crate::free::{free_in, free_of_case, free_of_wait};

@@ -1,7 +1,7 @@
 -- What a machine keeps that goes on from a kept state: at the beginning, after an event, and once its state is put
 -- into a simpler form.
 use Rattle.std.proofs.Common.{◌≡◌, ◌∙◌, ℕ, suc, true, ◌+◌, ◌<◌, ◌≤◌, ◌^◌, List, [], ◌∷◌, ◌++◌, length, ap, ap₂, sym, subst, arith, length-append}
-use Rattle.stream_type.specs.StreamType.{StreamType}
+use Rattle.stream_type.specs.StreamType.{StreamType, eps}
 use Rattle.stream_prefix.specs.StreamPrefix.{StreamPrefix, emp, der, join}
 use Rattle.stream_prefix.proofs.Derivations.{Derives, is_prefix}
 use Rattle.stream_prefix.proofs.Joins.{der-emp, der-join}
@@ -19,6 +19,7 @@ use Rattle.delta_state.specs.StateTree.{StateTree}
 use Rattle.delta_state.specs.StateMeaning.{types_held, prefixes_held, run_state}
 use Rattle.delta_state.specs.StateTyping.{no_pasts}
 use Rattle.delta_state.specs.Rest.{rest_of}
+use Rattle.delta_state.specs.PlaceTree.{PlaceTree}
 use Rattle.delta_state.specs.Stands.{depth_after}
 use Rattle.delta_state.proofs.SettledStates.{settled_nothing}
 use Rattle.state_steps.specs.Laws.{IsRunnable}
@@ -35,9 +36,9 @@ use Rattle.kept_state.specs.Laws.{input_since, event_since, StandsForKeptAfter, 
 use Rattle.kept_state.proofs.RestSplits.{rest_empty, rest_after_derives}
 use Rattle.kept_state.proofs.KeptSteps.{kept_derives, resumes_word, goes_on_kept_word}
 use Rattle.machine_kept.specs.KeptAwaiting.{awaited_kept}
-use Rattle.machine_kept.specs.SinceView.{place_since, answer_since, IsCostlySince, IsDeepSince}
+use Rattle.machine_kept.specs.SinceView.{place_kept, place_since, answer_since, IsCostlySince, IsDeepSince}
 use Rattle.machine_kept.specs.Keeping.{KeepsSince}
-use Rattle.machine_kept.proofs.KeptAwaited.{after_nothing, after_both, types_later, prefixes_later, place_after}
+use Rattle.machine_kept.proofs.KeptAwaited.{after_nothing, after_both, values_in_turn, types_later, prefixes_later, place_after, place_first}
 use Rattle.machine_kept.proofs.SimplerSince.{kept_outside, simpler_stands_since}
 
 -- main's parameters are distinct
@@ -55,6 +56,12 @@ output_first c k typed =
 -- what is awaited has the place of the kept state, gone on by what came
 place_is : (c : CoreProgram) → IsRunnable c → (k : KeptTree) → IsTypedKept c k → {p : StreamPrefix} → Derives (input_kept c k) p → place_in (awaited_after (awaited_kept c k) p) ≡ place_since c k p
 place_is c runnable k typed h = place_after c.main.params (types_kept c k) k.cuts (params_once c runnable) (kept_outside c k) typed.is_placed.has_cuts h
+
+-- before anything more came it is the kept state's own
+pub place_resumed : (c : CoreProgram) → IsRunnable c → (k : KeptTree) → IsTypedKept c k → place_in (awaited_kept c k) ≡ place_kept k
+place_resumed c runnable k typed =
+    place_first c.main.params (types_kept c k) k.cuts (params_once c runnable) (kept_outside c k) typed.is_placed.has_cuts
+    ∙ ap (λ (i : List StreamType). let p : PlaceTree = record { ins = i; cuts = k.cuts } in p) (values_in_turn eps (leaf_names c.main.params) k.ins (params_once c runnable) typed.is_placed.has_types)
 
 -- a machine begins with what it has to keep, in terms of what it holds then
 pub resumes_with : (c : CoreProgram) → IsRunnable c → (k : KeptTree) → IsTypedKept c k → (budget : ℕ) → budget ≤ 1000000
@@ -76,10 +83,6 @@ resumes_with c runnable k typed budget within d s a input output events e f g h 
     }
 
 module _ (c : CoreProgram) (budget : ℕ) (s : StateTree) (a : AwaitedTree) (input output : StreamType) (events spent : ℕ) (k : KeptTree) (w : List StreamEvent) (x : StreamEvent) (keeps : KeepsSince c budget s a input output events spent k w) (admits : Admits (after_word w (input_kept c k)) x) where
-  -- the type that is left admits the event,
-  pub admits_since : Admits input x
-  admits_since = subst (λ (t : StreamType). Admits t x) (sym keeps.is_input) admits
-
   -- what came, and what the event brings
   came : Derives (input_kept c k) (input_since c k w)
   came = word_derives (input_kept c k) w keeps.is_word

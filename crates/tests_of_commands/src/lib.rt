@@ -12,6 +12,8 @@ mod evaluations;
 #[cfg(test)]
 mod examples;
 #[cfg(test)]
+mod feedings;
+#[cfg(test)]
 mod outside;
 #[cfg(test)]
 mod runs;

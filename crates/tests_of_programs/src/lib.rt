@@ -8,6 +8,8 @@ mod elaboration;
 #[cfg(test)]
 mod evaluation;
 #[cfg(test)]
+mod nesting;
+#[cfg(test)]
 mod types;
 #[cfg(test)]
 mod typing;

@@ -10,7 +10,7 @@ use Rattle.delta_tree.specs.Tree.{expression_of, expressions_of, expression_form
 use Rattle.delta_tree.proofs.Rows.{expression_form_of-call, head_form_of-call}
 use Rattle.core_term.specs.Run.{Run, let_run}
 use Rattle.core_term.specs.Params.{names_in, types_listed}
-use Rattle.delta_meaning.specs.declared.refusal.Stop.TheVariants.{Spent}
+use Rattle.delta_meaning.specs.CallRuns.{StopsAmong}
 use Rattle.delta_meaning.specs.SourceMeaning.{is_name_head}
 use Rattle.delta_meaning.specs.Evaluated.{run_of}
 use Rattle.delta_meaning.specs.Functions.{run_at, head_run_at, head_type_at, run_after}
@@ -44,7 +44,7 @@ evaluate-returns-in-Var-clause-counted t c =
 
 pub evaluate-returns-in-Var-clause-spent : goal.evaluate-returns-in-Var-clause-spent
 evaluate-returns-in-Var-clause-spent t c =
-    c.name_run.ensures.spent c.args.left _
+    c.name_run.ensures.spent (functions_at c.args.place.now) c.args.left _
 
 pub evaluate-returns-in-Past-clause-run : goal.evaluate-returns-in-Past-clause-run
 evaluate-returns-in-Past-clause-run t c =
@@ -57,7 +57,7 @@ evaluate-returns-in-Past-clause-counted t c =
 
 pub evaluate-returns-in-Past-clause-spent : goal.evaluate-returns-in-Past-clause-spent
 evaluate-returns-in-Past-clause-spent t c =
-    c.past_run.ensures.spent c.args.left _
+    c.past_run.ensures.spent (functions_at c.args.place.now) c.args.left _
 
 pub evaluate-returns-in-Cons-clause-run : goal.evaluate-returns-in-Cons-clause-run
 evaluate-returns-in-Cons-clause-run t c =
@@ -155,7 +155,7 @@ evaluate-returns-in-Let-clause-spent t c =
     let h = head_of c.in-Let.h in
     let a = head_run_at i s h in
     let same : let_run (is_name_head h) a (run_after i s (expression_of e) r (head_type_at i s h) a.out) ≡ run_at i s (expression_of e) r = rw (there, c.in-Let.is) refl in
-    subst (λ (z : Run). IfErr c.evaluate_with_head.result (λ b. b ≡ Spent → c.args.left < z.calls)) same c.evaluate_with_head.ensures.spent
+    subst (λ (z : Run). IfErr c.evaluate_with_head.result (λ b. StopsAmong (functions_at i) c.args.left z.calls b)) same c.evaluate_with_head.ensures.spent
 
 pub evaluate-returns-in-LetPar-clause-run : goal.evaluate-returns-in-LetPar-clause-run
 evaluate-returns-in-LetPar-clause-run t c =
@@ -183,7 +183,7 @@ evaluate-returns-in-LetPar-clause-spent t c =
     let h = head_of c.in-LetPar.h in
     let a = head_run_at i s h in
     let same : let_run (is_name_head h) a (run_after i s (expression_of e) r (head_type_at i s h) a.out) ≡ run_at i s (expression_of e) r = rw (there, c.in-LetPar.is) refl in
-    subst (λ (z : Run). IfErr c.evaluate_with_head-in-LetPar.result (λ b. b ≡ Spent → c.args.left < z.calls)) same c.evaluate_with_head-in-LetPar.ensures.spent
+    subst (λ (z : Run). IfErr c.evaluate_with_head-in-LetPar.result (λ b. StopsAmong (functions_at i) c.args.left z.calls b)) same c.evaluate_with_head-in-LetPar.ensures.spent
 
 pub evaluate-returns-in-LetCat-clause-run : goal.evaluate-returns-in-LetCat-clause-run
 evaluate-returns-in-LetCat-clause-run t c =
@@ -211,7 +211,7 @@ evaluate-returns-in-LetCat-clause-spent t c =
     let h = head_of c.in-LetCat.h in
     let a = head_run_at i s h in
     let same : let_run (is_name_head h) a (run_after i s (expression_of e) r (head_type_at i s h) a.out) ≡ run_at i s (expression_of e) r = rw (there, c.in-LetCat.is) refl in
-    subst (λ (z : Run). IfErr c.evaluate_with_head-in-LetCat.result (λ b. b ≡ Spent → c.args.left < z.calls)) same c.evaluate_with_head-in-LetCat.ensures.spent
+    subst (λ (z : Run). IfErr c.evaluate_with_head-in-LetCat.result (λ b. StopsAmong (functions_at i) c.args.left z.calls b)) same c.evaluate_with_head-in-LetCat.ensures.spent
 
 pub evaluate-returns-in-CaseSum-clause-run : goal.evaluate-returns-in-CaseSum-clause-run
 evaluate-returns-in-CaseSum-clause-run t c =
@@ -239,7 +239,7 @@ evaluate-returns-in-CaseSum-clause-spent t c =
     let h = head_of c.in-CaseSum.h in
     let a = head_run_at i s h in
     let same : let_run (is_name_head h) a (run_after i s (expression_of e) r (head_type_at i s h) a.out) ≡ run_at i s (expression_of e) r = rw (there, c.in-CaseSum.is) refl in
-    subst (λ (z : Run). IfErr c.evaluate_with_head-in-CaseSum.result (λ b. b ≡ Spent → c.args.left < z.calls)) same c.evaluate_with_head-in-CaseSum.ensures.spent
+    subst (λ (z : Run). IfErr c.evaluate_with_head-in-CaseSum.result (λ b. StopsAmong (functions_at i) c.args.left z.calls b)) same c.evaluate_with_head-in-CaseSum.ensures.spent
 
 pub evaluate-returns-in-CaseStar-clause-run : goal.evaluate-returns-in-CaseStar-clause-run
 evaluate-returns-in-CaseStar-clause-run t c =
@@ -267,7 +267,7 @@ evaluate-returns-in-CaseStar-clause-spent t c =
     let h = head_of c.in-CaseStar.h in
     let a = head_run_at i s h in
     let same : let_run (is_name_head h) a (run_after i s (expression_of e) r (head_type_at i s h) a.out) ≡ run_at i s (expression_of e) r = rw (there, c.in-CaseStar.is) refl in
-    subst (λ (z : Run). IfErr c.evaluate_with_head-in-CaseStar.result (λ b. b ≡ Spent → c.args.left < z.calls)) same c.evaluate_with_head-in-CaseStar.ensures.spent
+    subst (λ (z : Run). IfErr c.evaluate_with_head-in-CaseStar.result (λ b. StopsAmong (functions_at i) c.args.left z.calls b)) same c.evaluate_with_head-in-CaseStar.ensures.spent
 
 pub evaluate-returns-in-Wait-clause-run : goal.evaluate-returns-in-Wait-clause-run
 evaluate-returns-in-Wait-clause-run t c =
@@ -281,7 +281,7 @@ evaluate-returns-in-Wait-clause-spent t c =
     let there : c.args.e.now.form.value ≡ c.deref.result.now = sym c.deref.ensures in
     let e = c.args.e.now in
     let is : expression_of e ≡ wait_at e.at c.in-Wait.x.0 (expression_of c.in-Wait.e) = ap (expression_form_of e.at) (there ∙ c.in-Wait.is) in
-    rw is (MatchResult-weaker c.evaluate_wait.result c.evaluate_wait.ensures.spent (λ x u. u) (λ y h p. h p e.at))
+    rw is (MatchResult-weaker c.evaluate_wait.result c.evaluate_wait.ensures.spent (λ x u. u) (λ y h. h e.at))
 
 pub evaluate-evaluate_call-requires : goal.evaluate-evaluate_call-requires
 evaluate-evaluate_call-requires t c =
@@ -305,7 +305,7 @@ evaluate-returns-in-Call-clause-spent t c =
     let e = c.args.e.now in
     let is : expression_of e ≡ call_at e.at c.in-Call.f.0 (map hist_of c.deref-in-Call.result.now) (expressions_of c.deref-in-Call-2.result.now) =
     ap (expression_form_of e.at) (there ∙ c.in-Call.is) ∙ (expression_form_of-call e.at c.in-Call.f c.in-Call.ms c.in-Call.es ∙ ap₂ (λ (m : List Hist) (l : List Exp). call_at e.at c.in-Call.f.0 (map hist_of m) (expressions_of l)) (sym c.deref-in-Call.ensures.value) (sym c.deref-in-Call-2.ensures.value)) in
-    rw is (MatchResult-weaker c.evaluate_call.result c.evaluate_call.ensures.spent (λ x u. u) (λ y h p. h p e.at))
+    rw is (MatchResult-weaker c.evaluate_call.result c.evaluate_call.ensures.spent (λ x u. u) (λ y h. h e.at))
 
 pub evaluate_with_head-returns-clause-run : goal.evaluate_with_head-returns-clause-run
 evaluate_with_head-returns-clause-run t c =
@@ -323,7 +323,7 @@ evaluate_with_head-returns-clause-spent t c =
     let e = expression_of c.args.e.now in
     let r = type_of c.args.ty.now in
     let h = head_of c.args.h.now in
-    subst (λ (z : Run). IfErr c.evaluate_let.result (λ b. b ≡ Spent → c.args.left < z.calls + (run_after i s e r (head_type_at i s h) z.out).calls)) c.in_ok-head.ensures.run c.evaluate_let.ensures.spent
+    subst (λ (z : Run). IfErr c.evaluate_let.result (λ b. StopsAmong (functions_at i) c.args.left (z.calls + (run_after i s e r (head_type_at i s h) z.out).calls) b)) c.in_ok-head.ensures.run c.evaluate_let.ensures.spent
 
 pub evaluate_bound-returns-in-Let-clause-run : goal.evaluate_bound-returns-in-Let-clause-run
 evaluate_bound-returns-in-Let-clause-run t c =
@@ -387,7 +387,7 @@ evaluate_bound-returns-in-Var-clause-counted t c =
 
 pub evaluate_bound-returns-in-Var-clause-spent : goal.evaluate_bound-returns-in-Var-clause-spent
 evaluate_bound-returns-in-Var-clause-spent t c =
-    c.nothing_run.ensures.spent c.args.left _
+    c.nothing_run.ensures.spent (functions_at c.args.place.now) c.args.left _
 
 pub evaluate_side-returns-in-Nothing-clause-counted : goal.evaluate_side-returns-in-Nothing-clause-counted
 evaluate_side-returns-in-Nothing-clause-counted t c =
@@ -395,7 +395,7 @@ evaluate_side-returns-in-Nothing-clause-counted t c =
 
 pub evaluate_side-returns-in-Nothing-clause-spent : goal.evaluate_side-returns-in-Nothing-clause-spent
 evaluate_side-returns-in-Nothing-clause-spent t c =
-    c.nothing_run.ensures.spent c.args.left _
+    c.nothing_run.ensures.spent (functions_at c.args.place.now) c.args.left _
 
 pub evaluate_item-returns-clause-counted : goal.evaluate_item-returns-clause-counted
 evaluate_item-returns-clause-counted t c =
@@ -403,7 +403,7 @@ evaluate_item-returns-clause-counted t c =
 
 pub evaluate_item-returns-clause-spent : goal.evaluate_item-returns-clause-spent
 evaluate_item-returns-clause-spent t c =
-    c.nothing_run.ensures.spent c.args.left _
+    c.nothing_run.ensures.spent (functions_at c.args.place.now) c.args.left _
 
 pub evaluate_wait-returns-in-None-clause-counted : goal.evaluate_wait-returns-in-None-clause-counted
 evaluate_wait-returns-in-None-clause-counted t c =
@@ -411,7 +411,7 @@ evaluate_wait-returns-in-None-clause-counted t c =
 
 pub evaluate_wait-returns-in-None-clause-spent : goal.evaluate_wait-returns-in-None-clause-spent
 evaluate_wait-returns-in-None-clause-spent t c =
-    MatchResult-weaker c.nothing_run.result (c.nothing_run.ensures.spent c.args.left 0) (λ x u. u) (λ y h p at. absurd (omega (arith, h p)))
+    MatchResult-weaker c.nothing_run.result (c.nothing_run.ensures.spent (functions_at c.args.place.now) c.args.left 0) (λ x u. u) (λ y h at b p m. absurd (omega (arith, h b p m)))
 
 pub evaluate_head-returns-in-Var-clause-run : goal.evaluate_head-returns-in-Var-clause-run
 evaluate_head-returns-in-Var-clause-run t c =
@@ -424,7 +424,7 @@ evaluate_head-returns-in-Var-clause-counted t c =
 
 pub evaluate_head-returns-in-Var-clause-spent : goal.evaluate_head-returns-in-Var-clause-spent
 evaluate_head-returns-in-Var-clause-spent t c =
-    c.name_run.ensures.spent c.args.left _
+    c.name_run.ensures.spent (functions_at c.args.place.now) c.args.left _
 
 pub evaluate_head-returns-in-Asc-clause-run : goal.evaluate_head-returns-in-Asc-clause-run
 evaluate_head-returns-in-Asc-clause-run t c =
@@ -462,7 +462,7 @@ evaluate_head-returns-in-Call-clause-spent t c =
     let h = c.args.h.now in
     let is : head_of h ≡ call_head h.at c.in-Call.f.0 (map hist_of c.deref-in-Call.result.now) (expressions_of c.deref-in-Call-2.result.now) =
     ap (head_form_of h.at) (there ∙ c.in-Call.is) ∙ (head_form_of-call h.at c.in-Call.f c.in-Call.ms c.in-Call.es ∙ ap₂ (λ (m : List Hist) (l : List Exp). call_head h.at c.in-Call.f.0 (map hist_of m) (expressions_of l)) (sym c.deref-in-Call.ensures.value) (sym c.deref-in-Call-2.ensures.value)) in
-    rw is (MatchResult-weaker c.evaluate_call.result c.evaluate_call.ensures.spent (λ x u. u) (λ y k p. k p h.at))
+    rw is (MatchResult-weaker c.evaluate_call.result c.evaluate_call.ensures.spent (λ x u. u) (λ y k. k h.at))
 
 pub evaluate_body-returns-clause-run : goal.evaluate_body-returns-clause-run
 evaluate_body-returns-clause-run t c =
@@ -500,7 +500,7 @@ evaluate_body-returns-in_err-run-clause-spent t c =
     let whole = body_runs fs call f (fs c.args.f.0) vs ps xs ts past c.in-Some.ensures.named (ap names_in c.deref-4.ensures.value ∙ c.in_ok-params.ensures.names) (ap types_listed c.deref-4.ensures.value ∙ c.in_ok-params.ensures.types) hidden in
     let same = ap (λ (l : List (Name × Ty)). source_run fs call (names_known l) (expression_of f.body.now) (value_at eps xs ts) (type_of f.result) (value_at eps_emp xs ps) past) c.deref-3.ensures.value ∙ whole in
     let exit = err_from_is_err_and c.from_residual-in_err-run.result c.from_residual-in_err-run.ensures.1 in
-    rw (exit.1, exit.2) (λ q.
-    let less : c.args.left - 1 < (source_body_run fs call (fs c.args.f.0) vs ps).calls = subst (λ (z : Run). c.args.left - 1 < z.calls) same (c.in_err-run.ensures.spent q) in
+    rw (exit.1, exit.2) (λ b q m.
+    let less : c.args.left - 1 < (source_body_run fs call (fs c.args.f.0) vs ps).calls = subst (λ (z : Run). c.args.left - 1 < z.calls) same (c.in_err-run.ensures.spent b q m) in
     let calls : (source_call_at fs i.depth c.args.f.0 vs ps).calls ≡ 1 + (source_body_run fs call (fs c.args.f.0) vs ps).calls = ap (λ (z : Run). z.calls) (call_with_depth fs i.depth c.args.f.0 vs ps (omega arith)) in
     omega arith)

@@ -19,7 +19,7 @@ returns-clause-run c =
     let whole = same_main_runs (map body_of i.functions.now) (map body_of i.functions.now) i.depth i.depth (names_known i.known.now) (names_known i.known.now) (expression_of c.args.body.now) (tree_of c.args.params.now)
     (type_of c.args.ty.now) (type_of c.args.ty.now) (names_in c.deref.result.now) (types_listed c.deref.result.now) (map prefix_of c.deref-2.result.now) (prefix_of c.args.input.now) refl refl refl refl
     (ap names_in c.deref.ensures.value ∙ c.in_ok-names.ensures.names) (ap types_listed c.deref.ensures.value ∙ c.in_ok-names.ensures.types) (ap (map prefix_of) c.deref-2.ensures.value ∙ c.in_ok-streams.ensures) in
-    subst (λ (x : Run). IfOk c.evaluate.result (λ r. run_of r ≡ x)) whole c.evaluate.ensures.run
+    subst (λ (x : Run). IfOk c.evaluate_in_rounds.result (λ r. run_of r ≡ x)) whole c.evaluate_in_rounds.ensures.run
 
 pub returns-clause-spent : goal.returns-clause-spent
 returns-clause-spent c =
@@ -27,4 +27,4 @@ returns-clause-spent c =
     let whole = same_main_runs (map body_of i.functions.now) (map body_of i.functions.now) i.depth i.depth (names_known i.known.now) (names_known i.known.now) (expression_of c.args.body.now) (tree_of c.args.params.now)
     (type_of c.args.ty.now) (type_of c.args.ty.now) (names_in c.deref.result.now) (types_listed c.deref.result.now) (map prefix_of c.deref-2.result.now) (prefix_of c.args.input.now) refl refl refl refl
     (ap names_in c.deref.ensures.value ∙ c.in_ok-names.ensures.names) (ap types_listed c.deref.ensures.value ∙ c.in_ok-names.ensures.types) (ap (map prefix_of) c.deref-2.ensures.value ∙ c.in_ok-streams.ensures) in
-    subst (λ (x : Run). IfErr c.evaluate.result (λ s. s ≡ Spent → c.args.left < x.calls)) whole c.evaluate.ensures.spent
+    subst (λ (x : Run). IfErr c.evaluate_in_rounds.result (λ s. s ≡ Spent → c.args.left < x.calls)) whole c.evaluate_in_rounds.ensures.spent

@@ -1,5 +1,0 @@
-use Rattle.kept_check.proofs.GoodStates.{typed_is_good}
-use Rattle.kept_check.proofs.laws.typed_is_good.Goals as goal
-
-pub returns : goal.returns
-returns c = typed_is_good

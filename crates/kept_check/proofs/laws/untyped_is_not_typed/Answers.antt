@@ -1,5 +1,0 @@
-use Rattle.kept_check.proofs.GoodStates.{untyped_is_not_typed}
-use Rattle.kept_check.proofs.laws.untyped_is_not_typed.Goals as goal
-
-pub returns : goal.returns
-returns c = untyped_is_not_typed

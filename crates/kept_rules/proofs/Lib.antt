@@ -1,0 +1,3 @@
+pub mod NamesInTurn
+pub mod GoodStates
+pub mod Examples

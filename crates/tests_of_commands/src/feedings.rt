@@ -1,0 +1,462 @@
+//! Tables fed to programs by the command `feed`, on the compiled machine and on the plain one. Each text that must be
+//! written was worked out by hand.
+
+use crate::outside::{are_written, link, outcome_on, words, written};
+use delta_code::Coded;
+use delta_state::Machine;
+use delta_step::Tree;
+use port::{MemLink, MemShelf, MemSink, Move};
+use std::alloc::Global;
+use std::test::Fail;
+
+const ADD: &str =
+    "fun add(xs : Int*, ys : Int*) : Int* = case xs of { nil => nil | x :: xt => case ys of { nil => nil | y :: yt => wait x in wait y in {x + y} :: add(xt, yt) } }
+main(xs : Int*, ys : Int*) : Int* = add(xs, ys)";
+
+const ONE: &str = "main(x : Int) : Int = x";
+
+const COPY: &str = "main(xs : Int*) : Int* = xs";
+
+const MIDDLE: &str = "main(xs : Int*, ys : Int*, zs : Int*) : Int* = ys";
+
+// Makes as many calls and one more as the numbers of the first table come to, once that has ended.
+const DOWN: &str = "fun f{n : Int}(u : 1) : Int* = if n < 1 then nil else f{n - 1}(u)
+main(xs : Int*, ys : Int*) : Int* = wait xs in f{fold xs from 0 with a, x . a + x}(())";
+
+// One level more than there may be, before any event.
+const TOO_DEEP: &str =
+    "fun nest{n : Int}(xs : Int*) : Int* = if n < 1 then xs else let ys = nest{n - 1}(xs) in ys
+main(xs : Int*) : Int* = nest{1001}(xs)";
+
+// The program of `examples/tables/bill.delta`, with its tables and the table that it gives. `tools/tour` holds these
+// texts and those of the next to the files and to README.
+const BILL: &str =
+    "// Two tables of the same articles in the same order, how many of each and what one costs: a bill of both, with the
+// number of the article, how many, what one costs, and what they cost together.
+type Row = Int . Int
+fun bill(counts : Row*, prices : Row*) : (Int . Int . Int . Int)* =
+  case counts of {
+    nil => nil
+  | count :: cs => case prices of {
+      nil => nil
+    | price :: ps => wait count in wait price in
+        {(fst count, (snd count, (snd price, snd count * snd price)))} :: bill(cs, ps)
+    }
+  }
+main(counts : Row*, prices : Row*) : (Int . Int . Int . Int)* = bill(counts, prices)
+";
+
+const COUNTS: &str = "101,2\n102,1\n107,12\n";
+
+const PRICES: &str = "101,1999\n102,49900\n107,85\n";
+
+const BILLED: &str = "101,2,1999,3998\n102,1,49900,49900\n107,12,85,1020\n";
+
+// The program of `examples/tables/balance.delta`.
+const BALANCE: &str =
+    "// The movements of an account: each with the balance behind it, and with 1 beside that where it is below zero.
+fun balance{sum : Int}(moves : (Int . Int)*) : (Int . Int . Int . Int)* =
+  case moves of {
+    nil => nil
+  | move :: rest => wait move in
+      if sum + snd move < 0
+      then {(fst move, (snd move, (sum + snd move, 1)))} :: balance{sum + snd move}(rest)
+      else {(fst move, (snd move, (sum + snd move, 0)))} :: balance{sum + snd move}(rest)
+  }
+main(moves : (Int . Int)*) : (Int . Int . Int . Int)* = balance{0}(moves)
+";
+
+const MOVES: &str = "1,50000\n3,-42000\n4,-9500\n9,20000\n";
+
+const BALANCED: &str = "1,50000,50000,0\n3,-42000,8000,0\n4,-9500,-1500,1\n9,20000,18500,0\n";
+
+/// What the command is given, and what it must write and answer.
+#[derive(Clone, Copy)]
+struct Row {
+    /// The words, parted by spaces.
+    words: &'static str,
+    /// The text of the file `program`.
+    text: &'static str,
+    /// The tables in the files `a` and `b`; the file `c` is empty.
+    first: &'static str,
+    second: &'static str,
+    output: &'static str,
+    note: &'static str,
+    status: u8,
+}
+
+const ADDED: Row = Row {
+    words: "feed program 01 a b",
+    text: ADD,
+    first: "1\n2\n",
+    second: "10\n20\n",
+    output: "11\n22\n",
+    note: "",
+    status: 0,
+};
+
+// A shelf that holds a row's files.
+fn shelf_of(alloc: Global, row: &Row) -> Result<MemShelf, Fail> {
+    let mut files = Vec::new(alloc);
+    for (name, bytes) in [
+        ("program", row.text),
+        ("a", row.first),
+        ("b", row.second),
+        ("c", ""),
+    ] {
+        let held = bytes.as_bytes().to_vec(alloc)?;
+        files.push((String::from_str(alloc, name)?, held))?;
+    }
+    Ok(MemShelf::new(alloc, files, Vec::new(alloc)))
+}
+
+// Whether a link was only written to, and in all these bytes.
+fn says(alloc: Global, link: &MemLink, output: &str) -> Result<bool, Fail> {
+    let mut all = are_written(alloc, link, output.as_bytes())?;
+    for step in link.log() {
+        all = all && matches!(step, Move::Out(_));
+    }
+    Ok(all)
+}
+
+// Whether the words over the row's files write and answer so on one machine, where a write takes at most so many
+// bytes. The link has an input, which isn't read.
+fn answers_on<M: Machine>(alloc: Global, row: &Row, most: u64) -> Result<bool, Fail> {
+    let given = words(alloc, row.words)?;
+    let mut shelf = shelf_of(alloc, row)?;
+    let mut link = link(alloc, b"DEV1", 4096, most)?;
+    let mut notes = MemSink::new(alloc, Vec::new(alloc));
+    let status = outcome_on::<M>(alloc, &given, &mut shelf, &mut link, &mut notes);
+    let told = notes.bytes() == row.note.as_bytes() && status == row.status;
+    Ok(says(alloc, &link, row.output)? && told)
+}
+
+// The same on both machines, with whole writes and byte by byte.
+fn answers(alloc: Global, row: &Row) -> Result<bool, Fail> {
+    let whole = answers_on::<Coded>(alloc, row, 4096)? && answers_on::<Tree>(alloc, row, 4096)?;
+    Ok(whole && answers_on::<Coded>(alloc, row, 1)?)
+}
+
+// The number of rows before the first that is answered otherwise, or none.
+fn first_wrong(alloc: Global, rows: &[Row]) -> Result<Option<usize>, Fail> {
+    for k in 0..rows.len() {
+        if !answers(alloc, &rows[k])? {
+            return Ok(Some(k));
+        }
+    }
+    Ok(None)
+}
+
+const FED: &[Row] = &[
+    ADDED,
+    Row {
+        words: "feed program 0 a b",
+        ..ADDED
+    },
+    Row {
+        words: "feed program 1 a b",
+        ..ADDED
+    },
+    Row {
+        words: "feed program 0011 a b",
+        ..ADDED
+    },
+    Row {
+        words: "feed --budget 1 program 0110 a -- b",
+        ..ADDED
+    },
+    Row {
+        words: "feed program 1 a b --budget=1000000",
+        ..ADDED
+    },
+    // The first table has a row more; one without rows.
+    Row {
+        first: "1\n2\n3\n",
+        ..ADDED
+    },
+    Row {
+        second: "",
+        output: "",
+        ..ADDED
+    },
+    // Numbers in quotes, other line ends, an empty line, none behind the last row, zeros in front, and a sum
+    // that stops at the least number.
+    Row {
+        first: "\"1\"\r\n\r\n-0012",
+        second: "10\n-9223372036854775808",
+        output: "11\n-9223372036854775808\n",
+        ..ADDED
+    },
+    Row {
+        words: "feed program 0 a",
+        text: COPY,
+        first: "7\n-7\n9223372036854775807\n",
+        output: "7\n-7\n9223372036854775807\n",
+        ..ADDED
+    },
+    Row {
+        words: "feed program 210 a b c",
+        text: MIDDLE,
+        output: "10\n20\n",
+        ..ADDED
+    },
+];
+
+#[test]
+fn tables_are_fed_in_any_order(rt: HostRuntime) -> Result<(), Fail> {
+    assert_eq!(rt; first_wrong(rt.alloc(), FED)?, None);
+    Ok(())
+}
+
+const EXAMPLES: &[Row] = &[
+    Row {
+        text: BILL,
+        first: COUNTS,
+        second: PRICES,
+        output: BILLED,
+        ..ADDED
+    },
+    Row {
+        words: "feed program 0 a",
+        text: BALANCE,
+        first: MOVES,
+        output: BALANCED,
+        ..ADDED
+    },
+];
+
+#[test]
+fn examples_are_answered(rt: HostRuntime) -> Result<(), Fail> {
+    assert_eq!(rt; first_wrong(rt.alloc(), EXAMPLES)?, None);
+    Ok(())
+}
+
+const REFUSED: Row = Row {
+    output: "",
+    note: "delta: table refused: Shape in 0 at 0\n",
+    status: 13,
+    ..ADDED
+};
+
+const UNTAKEN: &[Row] = &[
+    Row {
+        words: "feed program 0 a",
+        text: ONE,
+        ..REFUSED
+    },
+    Row {
+        words: "feed program 0 a",
+        ..REFUSED
+    },
+    Row {
+        words: "feed program 0 a b c",
+        ..REFUSED
+    },
+    Row {
+        words: "feed program 0 a",
+        text: "main(xs : Int*) : Int = wait xs in {0}",
+        ..REFUSED
+    },
+    Row {
+        words: "feed program 0 a",
+        text: "main(xs : (Int || Int)*) : Int* = nil",
+        ..REFUSED
+    },
+    // No file is read where the types aren't those of tables.
+    Row {
+        words: "feed program 0 gone",
+        text: ONE,
+        ..REFUSED
+    },
+    Row {
+        first: "1\nx\n",
+        note: "delta: table refused: BadNumber in 0 at 1\n",
+        ..REFUSED
+    },
+    Row {
+        second: "1,2\n",
+        note: "delta: table refused: Ragged in 1 at 0\n",
+        ..REFUSED
+    },
+    // The lowest table is told, whatever is wrong with a later one; in a row its length before its fields.
+    Row {
+        first: "1\n2\n9223372036854775808\n",
+        second: "x,y\n",
+        note: "delta: table refused: BadNumber in 0 at 2\n",
+        ..REFUSED
+    },
+    Row {
+        words: "feed program 0 a gone",
+        first: "+1\n",
+        note: "delta: table refused: BadNumber in 0 at 0\n",
+        ..REFUSED
+    },
+    Row {
+        text: BILL,
+        first: COUNTS,
+        second: "101,1999\n102,x,85\n",
+        note: "delta: table refused: Ragged in 1 at 1\n",
+        ..REFUSED
+    },
+    Row {
+        text: BILL,
+        first: COUNTS,
+        second: "101,1999\n102,\n",
+        note: "delta: table refused: BadNumber in 1 at 1\n",
+        ..REFUSED
+    },
+    Row {
+        text: "main(xs : Int*, ys : Int*) : Int* = zs",
+        first: "x\n",
+        note: "delta: program refused: Unbound at 36\n",
+        status: 3,
+        ..REFUSED
+    },
+    Row {
+        words: "feed program 0 a gone",
+        note: "delta: outside fault: file\n",
+        status: 7,
+        ..REFUSED
+    },
+];
+
+#[test]
+fn tables_are_refused(rt: HostRuntime) -> Result<(), Fail> {
+    assert_eq!(rt; first_wrong(rt.alloc(), UNTAKEN)?, None);
+    Ok(())
+}
+
+// The words of lines, each of which is no command line.
+const NO_LINES: &str = "feed
+feed program
+feed program 0
+feed program a b
+feed program 2 a b
+feed program 012 a b
+feed program 0 a b --budget 1000001
+feed program 0 a b --v2
+feed program 0 a --budget 5 b
+feed program -- 0
+feed program 0 a a a a a a a a a
+feed program 00000000000000000000000000000000000000000000000000000000000000000 a";
+
+#[test]
+fn words_that_feed_nothing(rt: HostRuntime) -> Result<(), Fail> {
+    for line in NO_LINES.split('\n') {
+        let row = Row {
+            words: line,
+            note: "delta: usage\n",
+            status: 2,
+            ..REFUSED
+        };
+        assert!(rt; answers(rt.alloc(), &row)?, "{line}");
+    }
+    Ok(())
+}
+
+const STOPPED: Row = Row {
+    words: "feed program 0 a b --budget 1",
+    text: DOWN,
+    first: "2\n",
+    second: "1\n",
+    output: "",
+    note: "delta: stopped: Budget at 3\n",
+    status: 5,
+};
+
+// The last event of the first table makes three calls. A program that looked at the tables in one go would be stopped
+// at one place, whatever the schedule.
+const BY_EVENT: &[Row] = &[
+    STOPPED,
+    Row {
+        words: "feed program 1 a b --budget 1",
+        note: "delta: stopped: Budget at 7\n",
+        ..STOPPED
+    },
+    Row {
+        words: "feed program 01 a b --budget 1",
+        note: "delta: stopped: Budget at 6\n",
+        ..STOPPED
+    },
+    Row {
+        words: "feed program 01 a b --budget 3",
+        note: "",
+        status: 0,
+        ..STOPPED
+    },
+    // Each event has the whole budget: the start makes a call, and each row one more.
+    Row {
+        words: "feed program 01 a b --budget 1",
+        ..ADDED
+    },
+    Row {
+        words: "feed program 01 a b --budget 0",
+        text: ADD,
+        note: "delta: stopped: Budget at 0\n",
+        ..STOPPED
+    },
+];
+
+#[test]
+fn programs_are_stopped_at_an_event(rt: HostRuntime) -> Result<(), Fail> {
+    assert_eq!(rt; first_wrong(rt.alloc(), BY_EVENT)?, None);
+    Ok(())
+}
+
+#[test]
+fn deep_calls_are_stopped(rt: HostRuntime) -> Result<(), Fail> {
+    let row = Row {
+        words: "feed program 0 a",
+        text: TOO_DEEP,
+        note: "delta: stopped: Deep at 0\n",
+        ..STOPPED
+    };
+    assert!(rt; answers_on::<Coded>(rt.alloc(), &row, 4096)?);
+    Ok(())
+}
+
+#[test]
+fn long_table_is_refused(rt: HostRuntime) -> Result<(), Fail> {
+    let alloc = rt.alloc();
+    let mut table = Vec::new(alloc);
+    for _ in 0..1_048_577 {
+        table.push(b'\n')?;
+    }
+    let mut files = Vec::new(alloc);
+    files.push((
+        String::from_str(alloc, "program")?,
+        ADD.as_bytes().to_vec(alloc)?,
+    ))?;
+    files.push((String::from_str(alloc, "a")?, Vec::new(alloc)))?;
+    files.push((String::from_str(alloc, "b")?, table))?;
+    let mut shelf = MemShelf::new(alloc, files, Vec::new(alloc));
+    let given = words(alloc, "feed program 0 a b")?;
+    let mut link = link(alloc, b"DEV1", 4096, 4096)?;
+    let mut notes = MemSink::new(alloc, Vec::new(alloc));
+    let status = outcome_on::<Coded>(alloc, &given, &mut shelf, &mut link, &mut notes);
+    let note: &[u8] = b"delta: table refused: Long in 1 at 0\n";
+    assert!(rt; status == 13 && notes.bytes() == note);
+    assert!(rt; says(alloc, &link, "")?);
+    Ok(())
+}
+
+// Whether a write that fails behind so many others, of four bytes each, leaves that front of the table.
+fn leaves(alloc: Global, behind: u64, front: &str) -> Result<bool, Fail> {
+    let given = words(alloc, ADDED.words)?;
+    let mut shelf = shelf_of(alloc, &ADDED)?;
+    let failing = [behind].to_vec(alloc)?;
+    let mut link = MemLink::new(alloc, Vec::new(alloc), Vec::new(alloc), failing, 4);
+    let mut notes = MemSink::new(alloc, Vec::new(alloc));
+    let status = outcome_on::<Coded>(alloc, &given, &mut shelf, &mut link, &mut notes);
+    let note: &[u8] = b"delta: outside fault: output\n";
+    let told = status == 7 && notes.bytes() == note;
+    let bytes = written(alloc, &link)?;
+    Ok(told && bytes.as_slice() == front.as_bytes())
+}
+
+#[test]
+fn failed_write_leaves_a_front(rt: HostRuntime) -> Result<(), Fail> {
+    assert!(rt; leaves(rt.alloc(), 0, "")?);
+    assert!(rt; leaves(rt.alloc(), 1, "11\n2")?);
+    Ok(())
+}
