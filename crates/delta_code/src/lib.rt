@@ -9,6 +9,7 @@ mod framing;
 mod free;
 mod keeping;
 mod machine;
+mod quiet;
 mod seeing;
 mod starting;
 mod stepping;

@@ -10,7 +10,7 @@ ghost use Rattle.stream_prefix.specs.StreamPrefix.{is_maximal};
 ghost use Rattle.stream_prefix.specs.Tree.{prefix_of};
 ghost use Rattle.hist_value.specs.HistValue.{hist_value_of};
 ghost use Rattle.hist_value.specs.HistExpr.{expr_of};
-ghost use Rattle.core_term.specs.CoreTerm.{is_var, cons_term, inl_term, inr_term, let_term, let_par_term, let_cat_term, case_sum_term, case_star_term, wait_term, call_term};
+ghost use Rattle.core_term.specs.CoreTerm.{is_var, par_term, cat_term, cons_term, inl_term, inr_term, let_term, let_par_term, let_cat_term, case_sum_term, case_star_term, wait_term, call_term};
 ghost use Rattle.core_term.specs.Run.{par_run, cat_run};
 ghost use Rattle.core_term.specs.Meaning.{call_at};
 ghost use Rattle.delta_state.specs.StateTree.{par_state, cat_state};
@@ -27,8 +27,9 @@ use crate::begun::{
     second, starred, state_before,
 };
 use crate::entering::{body_at, entered, missing, params_of};
+use crate::quiet::reach_quiet;
 use crate::seeing::{knowing, later, values_in};
-use crate::still::{at_once, held_by, named, no_items, waiting, whole_past};
+use crate::still::{held_by, waiting};
 use crate::way::{
     Reached, Way, arrived, behind_item, into_alias, into_body, into_call, into_cut, into_let,
     into_pair, into_row, into_two, no_way,
@@ -215,29 +216,13 @@ fn reach<'a>(
     ensures deep { IfErr result (λ q. q ≡ Stop.Deep → levels < (op_run code.now k scope.now past.now.value (op_term n.now.value) (type_of r.now)).level) }
 {
     match &**n {
-        Op::Var(x) => Ok(Reached::Given(named(alloc, &*scope, *x)?)),
-        Op::Eps => Ok(Reached::Given(at_once(alloc, Prefix::EpsEmp)?)),
-        Op::Unit => Ok(Reached::Given(at_once(alloc, Prefix::OneFull)?)),
-        Op::Nil => Ok(Reached::Given(no_items(alloc)?)),
-        Op::Past(m) => Ok(Reached::Given(whole_past(alloc, code, k, &*scope, past, m, r)?)),
-        Op::Par(a, b) => {
-            let (s, t) = par_types(r, &Ty::Eps);
-            let both = start_both(alloc, code, k, scope, past, a, s, b, t, left, levels)?;
-            Ok(Reached::Given(both))
+        Op::Var(_) | Op::Eps | Op::Unit | Op::Nil | Op::Past(_) => {
+            reach_quiet(alloc, code, k, &*scope, past, n, r)
         }
-        Op::Cat(a, b) => {
-            let (s, t) = cat_types(r, &Ty::Eps);
-            let two = start_in_turn(alloc, code, k, scope, past, a, s, b, t, left, levels)?;
-            Ok(Reached::Given(two))
-        }
-        Op::Inl(a) => {
-            let inside = start_left(alloc, code, k, scope, past, a, r, left, levels)?;
-            Ok(Reached::Given(inside))
-        }
-        Op::Inr(a) => {
-            let inside = start_right(alloc, code, k, scope, past, a, r, left, levels)?;
-            Ok(Reached::Given(inside))
-        }
+        Op::Par(a, b) => reach_both(alloc, code, k, scope, past, a, b, r, left, levels),
+        Op::Cat(a, b) => reach_in_turn(alloc, code, k, scope, past, a, b, r, left, levels),
+        Op::Inl(a) => reach_left(alloc, code, k, scope, past, a, r, left, levels),
+        Op::Inr(a) => reach_right(alloc, code, k, scope, past, a, r, left, levels),
         Op::Cons(a, b) => reach_cons(alloc, code, k, scope, past, a, b, r, left, levels, way),
         Op::Let(x, s, a, b) => reach_let(
             alloc, code, k, scope, past, *x, s, a, b, r, left, levels, way,
@@ -617,7 +602,7 @@ fn reach_call<'a>(
 #[cycle(start)]
 #[tactic(auto, using(crate::proofs::Easing::same_eased))]
 #[inline(never)]
-fn start_left<'a>(
+fn reach_left<'a>(
     alloc: Global,
     code: &Code,
     k: u64,
@@ -627,25 +612,25 @@ fn start_left<'a>(
     r: &Ty,
     left: u64,
     levels: u64,
-) -> Result<Begun, Stop>
+) -> Result<Reached, Stop>
     requires { left < k }
-    ensures run { IfOk result (λ x. run_of x ≡ op_run code.now k scope.now past.now.value (inl_term (op_term a.now.value)) (type_of r.now)) }
-    ensures rest { IfOk result (λ x. Eased (op_rest code.now k scope.now past.now.value (inl_term (op_term a.now.value)) (type_of r.now)) (rest_of x)) }
-    ensures counted { IfOk result (λ x. x.calls ≤ left) }
-    ensures shallow { IfOk result (λ x. x.level ≤ levels) }
+    ensures run { IfOk result (λ x. reached_run code.now k x ≡ op_run code.now k scope.now past.now.value (inl_term (op_term a.now.value)) (type_of r.now)) }
+    ensures rest { IfOk result (λ x. Eased (op_rest code.now k scope.now past.now.value (inl_term (op_term a.now.value)) (type_of r.now)) (reached_rest code.now k x)) }
+    ensures counted { IfOk result (λ x. reached_calls x ≤ left) }
+    ensures shallow { IfOk result (λ x. reached_level x ≤ levels) }
     ensures spent { IfErr result (λ x. x ≡ Stop.Spent → left < (op_run code.now k scope.now past.now.value (inl_term (op_term a.now.value)) (type_of r.now)).calls) }
     ensures deep { IfErr result (λ x. x ≡ Stop.Deep → levels < (op_run code.now k scope.now past.now.value (inl_term (op_term a.now.value)) (type_of r.now)).level) }
 {
     let (s, _) = sum_types(r, &Ty::Eps);
     let inside = start(alloc, code, k, scope, past, a, s, left, levels)?;
-    Ok(left_side(alloc, inside)?)
+    Ok(Reached::Given(left_side(alloc, inside)?))
 }
 
 // The right side of a sum.
 #[cycle(start)]
 #[tactic(auto, using(crate::proofs::Easing::same_eased))]
 #[inline(never)]
-fn start_right<'a>(
+fn reach_right<'a>(
     alloc: Global,
     code: &Code,
     k: u64,
@@ -655,82 +640,82 @@ fn start_right<'a>(
     r: &Ty,
     left: u64,
     levels: u64,
-) -> Result<Begun, Stop>
+) -> Result<Reached, Stop>
     requires { left < k }
-    ensures run { IfOk result (λ x. run_of x ≡ op_run code.now k scope.now past.now.value (inr_term (op_term a.now.value)) (type_of r.now)) }
-    ensures rest { IfOk result (λ x. Eased (op_rest code.now k scope.now past.now.value (inr_term (op_term a.now.value)) (type_of r.now)) (rest_of x)) }
-    ensures counted { IfOk result (λ x. x.calls ≤ left) }
-    ensures shallow { IfOk result (λ x. x.level ≤ levels) }
+    ensures run { IfOk result (λ x. reached_run code.now k x ≡ op_run code.now k scope.now past.now.value (inr_term (op_term a.now.value)) (type_of r.now)) }
+    ensures rest { IfOk result (λ x. Eased (op_rest code.now k scope.now past.now.value (inr_term (op_term a.now.value)) (type_of r.now)) (reached_rest code.now k x)) }
+    ensures counted { IfOk result (λ x. reached_calls x ≤ left) }
+    ensures shallow { IfOk result (λ x. reached_level x ≤ levels) }
     ensures spent { IfErr result (λ x. x ≡ Stop.Spent → left < (op_run code.now k scope.now past.now.value (inr_term (op_term a.now.value)) (type_of r.now)).calls) }
     ensures deep { IfErr result (λ x. x ≡ Stop.Deep → levels < (op_run code.now k scope.now past.now.value (inr_term (op_term a.now.value)) (type_of r.now)).level) }
 {
     let (_, t) = sum_types(r, &Ty::Eps);
     let inside = start(alloc, code, k, scope, past, a, t, left, levels)?;
-    Ok(right_side(alloc, inside)?)
+    Ok(Reached::Given(right_side(alloc, inside)?))
 }
 
-// Two terms at once, each with its type.
+// Two terms at once.
 #[cycle(start)]
 #[tactic(auto, using(crate::proofs::Easing::par_eased, machine_parts::proofs::Runs::spent_after))]
 #[inline(never)]
-fn start_both<'a>(
+fn reach_both<'a>(
     alloc: Global,
     code: &Code,
     k: u64,
     scope: &'a Scope<'a>,
     past: &Rc<Past>,
     a: &Rc<Op>,
-    s: &Ty,
     b: &Rc<Op>,
-    t: &Ty,
+    r: &Ty,
     left: u64,
     levels: u64,
-) -> Result<Begun, Stop>
+) -> Result<Reached, Stop>
     requires { left < k }
-    ensures run { IfOk result (λ x. run_of x ≡ par_run (op_run code.now k scope.now past.now.value (op_term a.now.value) (type_of s.now)) (op_run code.now k scope.now past.now.value (op_term b.now.value) (type_of t.now))) }
-    ensures rest { IfOk result (λ x. Eased (par_state (op_rest code.now k scope.now past.now.value (op_term a.now.value) (type_of s.now)) (op_rest code.now k scope.now past.now.value (op_term b.now.value) (type_of t.now))) (rest_of x)) }
-    ensures counted { IfOk result (λ x. x.calls ≤ left) }
-    ensures shallow { IfOk result (λ x. x.level ≤ levels) }
-    ensures spent { IfErr result (λ x. x ≡ Stop.Spent → left < (par_run (op_run code.now k scope.now past.now.value (op_term a.now.value) (type_of s.now)) (op_run code.now k scope.now past.now.value (op_term b.now.value) (type_of t.now))).calls) }
-    ensures deep { IfErr result (λ x. x ≡ Stop.Deep → levels < (par_run (op_run code.now k scope.now past.now.value (op_term a.now.value) (type_of s.now)) (op_run code.now k scope.now past.now.value (op_term b.now.value) (type_of t.now))).level) }
+    ensures run { IfOk result (λ x. reached_run code.now k x ≡ op_run code.now k scope.now past.now.value (par_term (op_term a.now.value) (op_term b.now.value)) (type_of r.now)) }
+    ensures rest { IfOk result (λ x. Eased (op_rest code.now k scope.now past.now.value (par_term (op_term a.now.value) (op_term b.now.value)) (type_of r.now)) (reached_rest code.now k x)) }
+    ensures counted { IfOk result (λ x. reached_calls x ≤ left) }
+    ensures shallow { IfOk result (λ x. reached_level x ≤ levels) }
+    ensures spent { IfErr result (λ x. x ≡ Stop.Spent → left < (op_run code.now k scope.now past.now.value (par_term (op_term a.now.value) (op_term b.now.value)) (type_of r.now)).calls) }
+    ensures deep { IfErr result (λ x. x ≡ Stop.Deep → levels < (op_run code.now k scope.now past.now.value (par_term (op_term a.now.value) (op_term b.now.value)) (type_of r.now)).level) }
 {
+    let (s, t) = par_types(r, &Ty::Eps);
     let one = start(alloc, code, k, scope, past, a, s, left, levels)?;
     let two = start(alloc, code, k, scope, past, b, t, left - one.calls, levels)?;
-    Ok(both(alloc, one, two)?)
+    Ok(Reached::Given(both(alloc, one, two)?))
 }
 
-// Two terms one after the other, each with its type: the second only once the first is whole.
+// Two terms one after the other: the second only once the first is whole.
 #[cycle(start)]
 #[tactic(auto, using(crate::proofs::Easing::cat_eased, crate::proofs::Easing::same_eased, machine_parts::proofs::Runs::in_turn, machine_parts::proofs::Deeper::turn_deep))]
 #[inline(never)]
-fn start_in_turn<'a>(
+fn reach_in_turn<'a>(
     alloc: Global,
     code: &Code,
     k: u64,
     scope: &'a Scope<'a>,
     past: &Rc<Past>,
     a: &Rc<Op>,
-    s: &Ty,
     b: &Rc<Op>,
-    t: &Ty,
+    r: &Ty,
     left: u64,
     levels: u64,
-) -> Result<Begun, Stop>
+) -> Result<Reached, Stop>
     requires { left < k }
-    ensures run { IfOk result (λ x. run_of x ≡ cat_run (op_run code.now k scope.now past.now.value (op_term a.now.value) (type_of s.now)) (op_run code.now k scope.now past.now.value (op_term b.now.value) (type_of t.now))) }
-    ensures rest { IfOk result (λ x. Eased (if is_maximal (op_run code.now k scope.now past.now.value (op_term a.now.value) (type_of s.now)).out then op_rest code.now k scope.now past.now.value (op_term b.now.value) (type_of t.now) else cat_state (op_rest code.now k scope.now past.now.value (op_term a.now.value) (type_of s.now)) (record { term = op_term b.now.value; past = known_in past.now.value; depth = k })) (rest_of x)) }
-    ensures counted { IfOk result (λ x. x.calls ≤ left) }
-    ensures shallow { IfOk result (λ x. x.level ≤ levels) }
-    ensures spent { IfErr result (λ x. x ≡ Stop.Spent → left < (cat_run (op_run code.now k scope.now past.now.value (op_term a.now.value) (type_of s.now)) (op_run code.now k scope.now past.now.value (op_term b.now.value) (type_of t.now))).calls) }
-    ensures deep { IfErr result (λ x. x ≡ Stop.Deep → levels < (cat_run (op_run code.now k scope.now past.now.value (op_term a.now.value) (type_of s.now)) (op_run code.now k scope.now past.now.value (op_term b.now.value) (type_of t.now))).level) }
+    ensures run { IfOk result (λ x. reached_run code.now k x ≡ op_run code.now k scope.now past.now.value (cat_term (op_term a.now.value) (op_term b.now.value)) (type_of r.now)) }
+    ensures rest { IfOk result (λ x. Eased (op_rest code.now k scope.now past.now.value (cat_term (op_term a.now.value) (op_term b.now.value)) (type_of r.now)) (reached_rest code.now k x)) }
+    ensures counted { IfOk result (λ x. reached_calls x ≤ left) }
+    ensures shallow { IfOk result (λ x. reached_level x ≤ levels) }
+    ensures spent { IfErr result (λ x. x ≡ Stop.Spent → left < (op_run code.now k scope.now past.now.value (cat_term (op_term a.now.value) (op_term b.now.value)) (type_of r.now)).calls) }
+    ensures deep { IfErr result (λ x. x ≡ Stop.Deep → levels < (op_run code.now k scope.now past.now.value (cat_term (op_term a.now.value) (op_term b.now.value)) (type_of r.now)).level) }
 {
+    let (s, t) = cat_types(r, &Ty::Eps);
     let one = start(alloc, code, k, scope, past, a, s, left, levels)?;
     if !maximal(&one.output) {
         let code = later(b, past, k)?;
-        return Ok(first(alloc, one, code)?);
+        return Ok(Reached::Given(first(alloc, one, code)?));
     }
     let two = start(alloc, code, k, scope, past, b, t, left - one.calls, levels)?;
-    Ok(second(alloc, one, two)?)
+    Ok(Reached::Given(second(alloc, one, two)?))
 }
 
 // Arguments, for parameters of these types; one without a parameter counts as of type `eps`, and no state

@@ -26,7 +26,7 @@ use crate::told::{
 use bunch::Name;
 use in_place::go_behind;
 use machine_parts::entry::Entry;
-use machine_parts::holding::hold;
+use machine_parts::holding;
 use machine_parts::levels::{after_head, inside, on_arguments};
 use machine_parts::parts::{
     Cut, Sided, Taken, cat_types, copied, cut_taken, first_part, items_after, nothing_yet,
@@ -547,6 +547,14 @@ fn goes(begun: Begun) -> Gone
         },
         state: Some(begun.state),
     }
+}
+
+// What comes is put behind what is held.
+#[inline(never)]
+fn hold<'a>(alloc: Global, held: &mut Vec<Entry>, scope: &'a Scope<'a>) -> Result<(), Memory>
+    ensures { OnOk result (map entry_in held.new.items ≡ held_more (map entry_in held.old.items) (streams_in scope.now)) }
+{
+    holding::hold(alloc, held, &*scope)
 }
 
 // `let (x; y) = z` round what is left, once what came of z, of this type, is known.

@@ -32,11 +32,11 @@ decreases-reach_sum l = 4 * (weight_of_calls l.k (bodies_in l.code.now) + (1 + (
 abbrev pub decreases-reach_star : goal.decreases-reach_star
 decreases-reach_star l = 4 * (weight_of_calls l.k (bodies_in l.code.now) + (1 + (weight (op_term l.a.now.value) + weight (op_term l.b.now.value))))
 
-abbrev pub decreases-start_both : goal.decreases-start_both
-decreases-start_both l = 4 * (weight_of_calls l.k (bodies_in l.code.now) + (1 + (weight (op_term l.a.now.value) + weight (op_term l.b.now.value))))
+abbrev pub decreases-reach_both : goal.decreases-reach_both
+decreases-reach_both l = 4 * (weight_of_calls l.k (bodies_in l.code.now) + (1 + (weight (op_term l.a.now.value) + weight (op_term l.b.now.value))))
 
-abbrev pub decreases-start_in_turn : goal.decreases-start_in_turn
-decreases-start_in_turn l = 4 * (weight_of_calls l.k (bodies_in l.code.now) + (1 + (weight (op_term l.a.now.value) + weight (op_term l.b.now.value))))
+abbrev pub decreases-reach_in_turn : goal.decreases-reach_in_turn
+decreases-reach_in_turn l = 4 * (weight_of_calls l.k (bodies_in l.code.now) + (1 + (weight (op_term l.a.now.value) + weight (op_term l.b.now.value))))
 
 abbrev pub decreases-reach_cons : goal.decreases-reach_cons
 decreases-reach_cons l = 4 * (weight_of_calls l.k (bodies_in l.code.now) + (2 + (weight (op_term l.a.now.value) + weight (op_term l.b.now.value))))
@@ -47,11 +47,11 @@ decreases-reach_pair l = 4 * (weight_of_calls l.k (bodies_in l.code.now) + (1 + 
 abbrev pub decreases-reach_row : goal.decreases-reach_row
 decreases-reach_row l = 4 * (weight_of_calls l.k (bodies_in l.code.now) + (1 + weight (op_term l.a.now.value)))
 
-abbrev pub decreases-start_left : goal.decreases-start_left
-decreases-start_left l = 4 * (weight_of_calls l.k (bodies_in l.code.now) + (1 + weight (op_term l.a.now.value)))
+abbrev pub decreases-reach_left : goal.decreases-reach_left
+decreases-reach_left l = 4 * (weight_of_calls l.k (bodies_in l.code.now) + (1 + weight (op_term l.a.now.value)))
 
-abbrev pub decreases-start_right : goal.decreases-start_right
-decreases-start_right l = 4 * (weight_of_calls l.k (bodies_in l.code.now) + (1 + weight (op_term l.a.now.value)))
+abbrev pub decreases-reach_right : goal.decreases-reach_right
+decreases-reach_right l = 4 * (weight_of_calls l.k (bodies_in l.code.now) + (1 + weight (op_term l.a.now.value)))
 
 abbrev pub decreases-reach_wait : goal.decreases-reach_wait
 decreases-reach_wait l = 4 * (weight_of_calls l.k (bodies_in l.code.now) + (1 + weight (op_term l.a.now.value)))
