@@ -27,7 +27,7 @@ use Rattle.delta_run.specs.Checked.{RefusesUnaccepted}
 use Rattle.delta_run.proofs.Told.{told_moves}
 
 module _ (holds : Option (List ℕ → List ℕ)) (text schedule : List ℕ) (names : List (List ℕ)) (budget : ℕ) (old new : Option (List Move)) (files : List ℕ → List ℕ) (holds_are : holds ≡ Some files) where
-  tables : List (List ℕ)
+  abbrev pub tables : List (List ℕ)
   tables = tables_in files names
 
   -- what was told of the tables that the shelf tells
