@@ -44,20 +44,20 @@ pub record IsUnbounded (text : List ℕ) (why : BoundName) (at : ℕ) : Type 0 w
   pub no_bound : HasNoBound (program_places program) core why at
 
 -- the line that tells a bound
-abbrev pub line_of : ℕ → List ℕ
-line_of n = codes "bound " ++ (decimal n ++ 10 ∷ [])
+abbrev pub bound_line : ℕ → List ℕ
+bound_line n = codes "bound " ++ (decimal n ++ 10 ∷ [])
 
 -- the line that tells the bound of the text's program was written
 pub record TellsAll (text written : List ℕ) : Type 0 where
   pub number : ℕ
   pub bounded : IsBounded text number
-  pub all : written ≡ line_of number
+  pub all : written ≡ bound_line number
 
 -- a front of it was written
 pub record TellsFront (text written : List ℕ) : Type 0 where
   pub number : ℕ
   pub bounded : IsBounded text number
-  pub front : Begins written (line_of number)
+  pub front : Begins written (bound_line number)
 
 -- these bytes were written for the text, and then the command ended so
 abbrev pub Tells : List ℕ → List ℕ → End → Type 0

@@ -21,7 +21,7 @@ use Rattle.delta_end.specs.End.{WriteCause}
 use Rattle.checked_program.specs.Acceptance.{IsAcceptedAs}
 use Rattle.command_feed.specs.Tables.{Takes, IsWrong, told_as, given_text, tables_word, IsCostlyAt, IsDeepAt, OfTables}
 use Rattle.command_feed.specs.Feeding.{input_of, IsFed, IsUnfed, IsStopped, Spends, Sinks, Tells, TellsFront, IsOfFeed}
-use Rattle.command_feed.specs.Given.{AreHeld, EndsRunning, EndsUnwritten, Gives, IsUnwritten}
+use Rattle.command_feed.specs.Given.{AreHeld, EndsRunning, EndsUnwritten, GivesText, IsUnwritten}
 
 -- what is said of a program: its types, what it gives, its calls and their levels
 record Way : Type 0 where
@@ -68,7 +68,7 @@ module _ (p : ProgramTree) (c : CoreProgram) (a : IsAccepted p c) where
 
 module _ (text : List ℕ) (p : ProgramTree) (c : CoreProgram) (a : IsAcceptedAs text p c) where
   -- what the core gives is fed
-  pub is_fed : (tables : List (List ℕ)) (out : List ℕ) → Gives c tables out → IsFed text tables out
+  pub is_fed : (tables : List (List ℕ)) (out : List ℕ) → GivesText c tables out → IsFed text tables out
   is_fed tables out gives = record {
     program = p;
     core = c;
