@@ -7,7 +7,7 @@ use Rattle.delta_tree.specs.SyntaxTree.{ProgramTree}
 use Rattle.delta_meaning.specs.NodePlaces.{program_places}
 use Rattle.delta_end.specs.declared.objection.BoundName.{BoundName}
 use Rattle.delta_end.specs.declared.objection.BoundName.TheVariants.{Unbounded, Cycle, Large}
-use Rattle.delta_end.specs.declared.objection.Objection.TheVariants.{Derivation, Bound, Table}
+use Rattle.delta_end.specs.declared.objection.Objection.TheVariants.{Derivation, Bound, Table, State}
 use Rattle.delta_end.specs.declared.end.End.{End}
 use Rattle.delta_end.specs.declared.end.End.TheVariants.{Done, Usage, Refused, Input, Budget, Deep, Open, FileFailed, ReadFailed, WriteFailed, Memory, Long, Objected}
 use Rattle.checked_program.specs.Acceptance.{IsAcceptedAs, IsRefusedAs}
@@ -67,6 +67,7 @@ Tells text written (Refused (Some why)) = IsRefusedAs text why × (written ≡ [
 Tells text written (Objected (Bound why at)) = IsUnbounded text why at × (written ≡ [])
 Tells text written (Objected (Derivation why at)) = ⊥
 Tells text written (Objected (Table name file row)) = ⊥
+Tells text written (Objected (State name at)) = ⊥
 Tells text written WriteFailed = TellsFront text written
 Tells text written Memory = (written ≡ []) ⊎ TellsFront text written
 Tells text written Usage = ⊥

@@ -14,7 +14,7 @@ use Rattle.delta_meaning.proofs.KeptTypes.{elaborated_has_types}
 use Rattle.delta_elab.specs.Accepted.{IsAccepted}
 use Rattle.table_feed.specs.declared.fault.FeedFault.{FeedFault}
 use Rattle.table_feed.specs.declared.fault.FeedFault.TheVariants as fault
-use Rattle.delta_end.specs.declared.objection.Objection.TheVariants.{Derivation, Bound, Table}
+use Rattle.delta_end.specs.declared.objection.Objection.TheVariants.{Derivation, Bound, Table, State}
 use Rattle.delta_end.specs.declared.end.End.{End}
 use Rattle.delta_end.specs.declared.end.End.TheVariants.{Done, Usage, Refused, Input, Budget, Deep, Open, FileFailed, ReadFailed, WriteFailed, Memory, Long, Objected}
 use Rattle.delta_end.specs.End.{WriteCause}
@@ -137,6 +137,7 @@ unwritten_ends (Refused why) is = tt
 unwritten_ends (Objected (Table name file row)) is = tt
 unwritten_ends (Objected (Derivation name at)) is = absurd is
 unwritten_ends (Objected (Bound name at)) is = absurd is
+unwritten_ends (Objected (State name at)) is = absurd is
 unwritten_ends (Budget at) is = tt
 unwritten_ends (Deep at) is = tt
 unwritten_ends FileFailed is = tt

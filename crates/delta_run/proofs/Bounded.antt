@@ -5,7 +5,7 @@ use Rattle.port.specs.declared.fault.IoFault.{IoFault}
 use Rattle.port.specs.Faults.{HasCause}
 use Rattle.port.specs.Moves.{bytes_written}
 use Rattle.delta_end.specs.declared.objection.BoundName.{BoundName}
-use Rattle.delta_end.specs.declared.objection.Objection.TheVariants.{Derivation, Bound, Table}
+use Rattle.delta_end.specs.declared.objection.Objection.TheVariants.{Derivation, Bound, Table, State}
 use Rattle.delta_end.specs.declared.end.End.{End}
 use Rattle.delta_end.specs.declared.end.End.TheVariants.{Done, Usage, Refused, Input, Budget, Deep, Open, FileFailed, ReadFailed, WriteFailed, Memory, Long, Objected}
 use Rattle.delta_end.specs.End.{FileCause, WriteCause}
@@ -81,6 +81,7 @@ module _ (text : List ℕ) (old new : Option (List Move)) where
     bounded_well Long ran file write is n bounded = absurd ran.2
     bounded_well (Objected (Derivation told there)) ran file write is n bounded = absurd ran.2
     bounded_well (Objected (Table told there row)) ran file write is n bounded = absurd ran.2
+    bounded_well (Objected (State told there)) ran file write is n bounded = absurd ran.2
 
     -- that of one without is objected to
     pub unbounded_well : (end : End) → BoundedText text old new end → FileCause end file0 file1 → WriteCause end write0 write1 → AnswerOf end said status → ObjectsWell text status
@@ -100,6 +101,7 @@ module _ (text : List ℕ) (old new : Option (List Move)) where
     unbounded_well Long ran file write is why at none = absurd ran.2
     unbounded_well (Objected (Derivation told there)) ran file write is why at none = absurd ran.2
     unbounded_well (Objected (Table told there row)) ran file write is why at none = absurd ran.2
+    unbounded_well (Objected (State told there)) ran file write is why at none = absurd ran.2
 
     as_done : (status ≡ 8) ⊎ (status ≡ 0) → (status ≡ 8) ⊎ (status ≡ 0) ⊎ (status ≡ 12)
     as_done (inl eight) = inl eight
@@ -127,6 +129,7 @@ module _ (text : List ℕ) (old new : Option (List Move)) where
     judged_well Long ran file write is p c a = absurd ran.2
     judged_well (Objected (Derivation told there)) ran file write is p c a = absurd ran.2
     judged_well (Objected (Table told there row)) ran file write is p c a = absurd ran.2
+    judged_well (Objected (State told there)) ran file write is p c a = absurd ran.2
 
     -- and any other is refused
     pub refused_text : (end : End) → BoundedText text old new end → FileCause end file0 file1 → WriteCause end write0 write1 → AnswerOf end said status → RefusesUnaccepted text status
@@ -146,3 +149,4 @@ module _ (text : List ℕ) (old new : Option (List Move)) where
     refused_text Long ran file write is why r = absurd ran.2
     refused_text (Objected (Derivation told there)) ran file write is why r = absurd ran.2
     refused_text (Objected (Table told there row)) ran file write is why r = absurd ran.2
+    refused_text (Objected (State told there)) ran file write is why r = absurd ran.2
