@@ -1,6 +1,7 @@
 -- What is left is that of the run, whose machine is of the program that it began with.
-use Rattle.std.proofs.Common.{inl, sym, refl, ap, Err, ◌∙◌}
+use Rattle.std.proofs.Common.{inl, sym, refl, subst, ap, Err, ◌∙◌}
 use Rattle.core_term.specs.CoreTerm.{core_of}
+use Rattle.delta_loop.specs.Stopping.{StopsFor}
 use Rattle.delta_output.specs.OneShot.{meaning_of}
 use Rattle.delta_runner.specs.CoreOneShot.{one_shot}
 use Rattle.delta_runner.proofs.Stepping.{ran_not}
@@ -32,4 +33,4 @@ returns-in-Err-Stopped-clause-saved g c =
       left1 = g.L.Link.left c.stop_first.new.link;
     } in
     saves_nothing w c.args.name.now (g.S.Shelf.holds c.args.shelf.now) c.stop_first.result c.stop_first.ensures.end c.stop_first.ensures.ill
-    (c.stop_first.ensures.ran P refl (c.begin.ensures.stopped c.in-Err-Stopped.why (c.in-Err-Stopped.is ∙ ap Err c.in-Err-Stopped.field-0-is)))
+    (c.stop_first.ensures.ran P refl (subst (StopsFor P) (sym c.in-Err-Stopped.why-is) (c.begin.ensures.stopped c.in-Err-Stopped.why (c.in-Err-Stopped.is ∙ ap Err c.in-Err-Stopped.field-0-is))))
