@@ -1,18 +1,21 @@
 -- A chain of items: what is to be given behind those that are whole is what was to be given in all.
-use Rattle.std.proofs.Common.{◌≡◌, ◌∙◌, ℕ, ◌+◌, ◌-◌, ◌<◌, ◌≤◌, max, Bool, true, false, true≢false, ap, ap₂, refl, sym, subst, arith}
+use Rattle.std.proofs.Common.{◌≡◌, ◌∙◌, ℕ, ◌+◌, ◌-◌, ◌<◌, ◌≤◌, max, Bool, true, false, true≢false, ap, refl, sym, subst, arith}
 use Rattle.stream_type.specs.StreamType.{StreamType, eps, one, int, cat, par, sum, star}
 use Rattle.stream_prefix.specs.StreamPrefix.{is_maximal}
 use Rattle.core_term.specs.CoreTerm.{CoreTerm, cons_term}
 use Rattle.core_term.specs.Parts.{star_item, star_items, as_star}
 use Rattle.core_term.specs.Run.{Run, relabel, cat_run, cat_run_at}
-use Rattle.delta_state.specs.StateTree.{StateTree}
+use Rattle.delta_state.specs.StateTree.{StateTree, cat_state}
 use Rattle.machine_parts.specs.declared.scope.Scope.{Scope}
-use Rattle.machine_parts.proofs.Runs.{rest_goes}
+use Rattle.machine_parts.proofs.Runs.{rest_goes, rest_waits}
 use Rattle.template_state.specs.declared.code.Code.{Code}
 use Rattle.template_state.specs.declared.live.Past.{Past}
+use Rattle.template_state.specs.Readers.{known_in}
+use Rattle.delta_code.specs.Eased.{Eased}
 use Rattle.delta_code.specs.declared.way.Way.{Way}
 use Rattle.delta_code.specs.Steps.{op_run, op_rest}
 use Rattle.delta_code.specs.Way.{after}
+use Rattle.delta_code.proofs.Easing.{eased_same, eased_then, eased_cat}
 use Rattle.delta_code.proofs.Gains.{cons_runs}
 
 -- The run `first`, which leaves `kept`, was to come at the end of the way `old`, with `n` calls left. It is `rest`,
@@ -73,14 +76,19 @@ module _ (code : Code) (k : ℕ) (s : Scope) (es : Past) where
       → op_rest code k s es (cons_term a b) r ≡ op_rest code k s es b (star_items r)
   cons_rest a b r head e w = sym (rest_goes head _ _ _ e w)
 
+  -- what is left of an item that isn't whole, and of the items after it
+  pub cons_waits : (a b : CoreTerm) (r : StreamType) (head : Run) (left : StateTree) → head ≡ op_run code k s es a (star_item r) → is_maximal head.out ≡ false → Eased (op_rest code k s es a (star_item r)) left
+      → Eased (op_rest code k s es (cons_term a b) r) (cat_state left (record { term = b; past = known_in es; depth = k }))
+  cons_waits a b r head left e w h = eased_then (eased_same (sym (rest_waits head _ _ _ e w))) (eased_cat h)
+
   -- behind an item that is whole
-  pub chain_behind : {a b : CoreTerm} {r : StreamType} {first head : Run} {kept : StateTree} {old mid new : Way} {n m levels : ℕ}
+  pub chain_behind : (a b : CoreTerm) (r : StreamType) {first head : Run} {kept : StateTree} {old mid new : Way} {n m levels : ℕ}
       → Chained first (op_run code k s es (cons_term a b) r) kept (op_rest code k s es (cons_term a b) r) old mid n m levels
       → head ≡ op_run code k s es a (star_item r) → is_maximal head.out ≡ true → head.calls ≤ m → head.level ≤ levels
       → ((z : Run) → after new z ≡ after mid (relabel as_star (cat_run_at true head z)))
       → new.layers ≡ mid.layers → new.calls ≡ mid.calls + head.calls → new.level ≡ max mid.level head.level
       → Chained first (op_run code k s es b (star_items r)) kept (op_rest code k s es b (star_items r)) old new n (m - head.calls) levels
-  chain_behind {a = a} {b = b} {r = r} {head = head} {mid = mid} h e w c l behind layers calls level =
+  chain_behind a b r {head = head} {mid = mid} h e w c l behind layers calls level =
       let x = op_run code k s es a (star_item r) in
       let y = op_run code k s es b (star_items r) in
       let whole : is_maximal x.out ≡ true = subst (λ (z : Run). is_maximal z.out ≡ true) e w in
@@ -104,10 +112,10 @@ module _ (code : Code) (k : ℕ) (s : Scope) (es : Past) where
       }
 
   -- the items after it, where they are a chain again
-  pub chain_again : {b x y : CoreTerm} {r : StreamType} {first : Run} {kept : StateTree} {old new : Way} {n m levels : ℕ}
+  pub chain_again : (b x y : CoreTerm) (r : StreamType) {first : Run} {kept : StateTree} {old new : Way} {n m levels : ℕ}
       → Chained first (op_run code k s es b (star_items r)) kept (op_rest code k s es b (star_items r)) old new n m levels → b ≡ cons_term x y
       → Chained first (op_run code k s es (cons_term x y) r) kept (op_rest code k s es (cons_term x y) r) old new n m levels
-  chain_again {x = x} {y = y} {r = r} {first = first} {kept = kept} {old = old} {new = new} {n = n} {m = m} {levels = levels} h e =
+  chain_again b x y r {first = first} {kept = kept} {old = old} {new = new} {n = n} {m = m} {levels = levels} h e =
       let run = ap (λ (z : CoreTerm). op_run code k s es z (star_items r)) e ∙ run_again x y r in
       let rest = ap (λ (z : CoreTerm). op_rest code k s es z (star_items r)) e ∙ rest_again x y r in
       subst (λ (z : Run × StateTree). Chained first z.0 kept z.1 old new n m levels) (λ i. (run i, rest i)) h
