@@ -4,7 +4,7 @@ use Rattle.stream_type.specs.StreamType.{StreamType, eps, one, int, cat, par, su
 use Rattle.stream_prefix.specs.StreamPrefix.{is_maximal}
 use Rattle.core_term.specs.CoreTerm.{CoreTerm, cons_term}
 use Rattle.core_term.specs.Parts.{star_item, star_items, as_star}
-use Rattle.core_term.specs.Run.{Run, relabel, cat_run, cat_run_at}
+use Rattle.core_term.specs.Run.{Run, relabel, cat_run_at}
 use Rattle.delta_state.specs.StateTree.{StateTree, cat_state}
 use Rattle.machine_parts.specs.declared.scope.Scope.{Scope}
 use Rattle.machine_parts.proofs.Runs.{rest_goes, rest_waits}

@@ -1,5 +1,5 @@
 -- What a call and a called body are, and what is left where a way goes on.
-use Rattle.std.proofs.Common.{◌≡◌, ℕ, suc, ◌+◌, ◌-◌, ◌*◌, ◌<◌, ◌≤◌, List, map, subst, sym, refl, ap, ap₂, ◌∙◌, arith, rules}
+use Rattle.std.proofs.Common.{◌≡◌, suc, ◌+◌, ◌-◌, ◌*◌, ◌<◌, ◌≤◌, List, map, subst, sym, refl, ap, ap₂, ◌∙◌, arith, rules}
 use Rattle.std.proofs.lemmas.Result.{IfOk-weaker, MatchResult-weaker, err_from_is_err_and}
 use Rattle.stream_type.specs.StreamType.{StreamType, type_of}
 use Rattle.stream_prefix.specs.Tree.{prefix_of}

@@ -1,11 +1,10 @@
 -- What is left to go through: what calls may weigh at the depth, and the weight of what stands there.
-use Rattle.std.proofs.Common.{◌≡◌, ◌≤◌, ◌<◌, ◌+◌, ◌*◌, max}
+use Rattle.std.proofs.Common.{◌≡◌, ◌≤◌, ◌+◌, ◌*◌, max}
 use Rattle.stream_type.specs.StreamType.{type_of}
 use Rattle.core_term.specs.CoreTerm.{cons_term}
 use Rattle.machine_parts.specs.Weights.{weight, weight_of_all, weight_of_calls}
 use Rattle.template_state.specs.Readers.{op_term, operand_terms}
 use Rattle.template_state.specs.Templates.{bodies_in}
-use Rattle.delta_code.specs.Begun.{run_of, rest_of}
 use Rattle.delta_code.specs.Eased.{Eased}
 use Rattle.delta_code.specs.Steps.{op_run, op_rest}
 use Rattle.delta_code.specs.Way.{within, after, reached_run, reached_rest, reached_calls, reached_level}
