@@ -2,4 +2,5 @@
 pub mod SameProgram
 pub mod Easing
 pub mod Gains
+pub mod Chain
 pub mod Taking

@@ -248,7 +248,8 @@ fn reach<'a>(
     }
 }
 
-// An item in front of the items after it, which stand at its own level.
+// An item in front of the items after it, which stand at its own level. Of a chain of items each is a turn of the
+// loop, so that a long one takes no more of the stack than a short one.
 #[cycle(start)]
 #[tactic(auto, using(crate::proofs::Easing::reached_eased, machine_parts::proofs::Runs::in_turn, machine_parts::proofs::Deeper::turn_deep))]
 #[inline(never)]
@@ -275,14 +276,23 @@ fn reach_cons<'a>(
     ensures deep { IfErr result (λ q. q ≡ Stop.Deep → levels < (op_run code.now k scope.now past.now.value (cons_term (op_term a.now.value) (op_term b.now.value)) (type_of r.now)).level) }
 {
     let (s, t) = star_types(r, &Ty::Eps);
-    let head = start(alloc, code, k, scope, past, a, s, left, levels)?;
-    if !maximal(&head.output) {
-        let items = first(alloc, head, later(b, past, k)?)?;
-        return Ok(Reached::Given(starred(alloc, items)?));
+    let mut left = left;
+    let mut item = a;
+    let mut more = b;
+    'items: loop {
+        let head = start(alloc, code, k, scope, past, item, s, left, levels)?;
+        if !maximal(&head.output) {
+            let items = first(alloc, head, later(more, past, k)?)?;
+            return Ok(Reached::Given(starred(alloc, items)?));
+        }
+        left -= head.calls;
+        behind_item(way, head)?;
+        let Op::Cons(next, after) = &**more else {
+            return reach(alloc, code, k, scope, past, more, t, left, levels, way);
+        };
+        item = next;
+        more = after;
     }
-    let rest = left - head.calls;
-    behind_item(way, head)?;
-    reach(alloc, code, k, scope, past, b, t, rest, levels, way)
 }
 
 // A let, whose body stands at its own level where the head is a name or whole.

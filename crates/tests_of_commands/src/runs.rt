@@ -62,6 +62,12 @@ const TOO_DEEP: &str =
     "fun nest{n : Int}(x : Int) : Int = if n < 1 then x else let y = nest{n - 1}(x) in y
 main(x : Int) : Int = nest{1001}(x)";
 
+// The same with a chain of items in front of each call.
+const DEEP_CHAINS: &str = "fun nest{n : Int}(u : 1) : Int* =
+  if n < 1 then nil
+  else {1} :: {2} :: {3} :: {4} :: {5} :: {6} :: {7} :: {8} :: (nest{n - 1}(u) : Int*)
+main(x : Int) : Int = let y = nest{999}(()) in x";
+
 const AFTER_NOTHING: &str = "main(x : eps; y : Int) : Int = y";
 
 const THREE: &str = "item\nF int 3\ncut\nend\n";
@@ -377,6 +383,12 @@ fn many_calls_at_one_level_are_one_event(rt: HostRuntime) -> Result<(), Fail> {
 const NESTS: &[Row] = &[
     Row {
         text: DEEPEST,
+        input: "int 4\n",
+        output: Some("int 4\n"),
+        ..ROW
+    },
+    Row {
+        text: DEEP_CHAINS,
         input: "int 4\n",
         output: Some("int 4\n"),
         ..ROW

@@ -1,30 +1,34 @@
 -- What a call and a called body are, and what is left where a way goes on.
-use Rattle.std.proofs.Common.{◌≡◌, ℕ, suc, ◌+◌, ◌-◌, ◌*◌, ◌<◌, ◌≤◌, List, map, subst, sym, refl, ap, ap₂, ◌∙◌, arith, rules}
+use Rattle.std.proofs.Common.{◌≡◌, suc, ◌+◌, ◌-◌, ◌*◌, ◌<◌, ◌≤◌, List, map, subst, sym, refl, ap, ap₂, ◌∙◌, arith, rules}
 use Rattle.std.proofs.lemmas.Result.{IfOk-weaker, MatchResult-weaker, err_from_is_err_and}
-use Rattle.stream_type.specs.StreamType.{type_of}
+use Rattle.stream_type.specs.StreamType.{StreamType, type_of}
 use Rattle.stream_prefix.specs.Tree.{prefix_of}
 use Rattle.hist_value.specs.declared.expr.Expr.{Expr}
 use Rattle.hist_value.specs.HistExpr.{expr_of}
 use Rattle.hist_value.specs.HistValue.{hist_value_of}
-use Rattle.core_term.specs.CoreTerm.{CoreTerm, CoreBody, fun_at, call_term}
+use Rattle.core_term.specs.CoreTerm.{CoreTerm, CoreBody, fun_at, cons_term, call_term}
 use Rattle.core_term.specs.Parts.{star_item, star_items}
 use Rattle.core_term.specs.Run.{one_call}
 use Rattle.core_term.specs.Meaning.{run_at, call_at}
+use Rattle.delta_state.specs.StateTree.{cat_state}
 use Rattle.delta_state.specs.StateMeaning.{past_in, types_held, prefixes_held}
 use Rattle.delta_state.specs.Rest.{rest_at, call_rest_at}
 use Rattle.machine_parts.specs.declared.entry.Entry.{Entry}
 use Rattle.machine_parts.specs.Entry.{entry_in}
 use Rattle.machine_parts.specs.Weights.{weight, heaviest}
-use Rattle.machine_parts.proofs.Runs.{body_weighs_less, heaviest_is, in_turn}
+use Rattle.machine_parts.proofs.Deeper.{cat_deep_first}
+use Rattle.machine_parts.proofs.Runs.{body_weighs_less, heaviest_is}
 use Rattle.machine_parts.proofs.Entering.{one_at_least}
 use Rattle.template_state.specs.declared.code.Operands.{Operands}
 use Rattle.template_state.specs.Readers.{op_term, operand_terms, known_in}
 use Rattle.template_state.specs.Templates.{bodies_in}
-use Rattle.delta_code.specs.Begun.{run_of}
-use Rattle.delta_code.specs.Steps.{funs_of, op_run}
+use Rattle.delta_code.specs.Begun.{run_of, rest_of}
+use Rattle.delta_code.specs.Eased.{Eased}
+use Rattle.delta_code.specs.Steps.{funs_of, op_run, op_rest}
 use Rattle.delta_code.specs.Way.{after, reached_run, reached_rest}
-use Rattle.delta_code.proofs.Easing.{eased_then, eased_same, within_eased, cat_eased, let_eased, frame_eased, moved}
-use Rattle.delta_code.proofs.Gains.{cons_runs, gained_spent, gained_deep}
+use Rattle.delta_code.proofs.Easing.{eased_then, eased_same, within_eased, let_eased, frame_eased, moved}
+use Rattle.delta_code.proofs.Gains.{gained_spent, gained_deep}
+use Rattle.delta_code.proofs.Chain.{chain_deep, cons_waits, chain_behind, chain_again}
 use Rattle.delta_code.proofs.starting.+start.Goals as goal
 
 pub reach_pair-returns-clause-rest : goal.reach_pair-returns-clause-rest
@@ -47,20 +51,41 @@ pub reach_sum-returns-in_ok-into_alias-in-Right-clause-rest : goal.reach_sum-ret
 reach_sum-returns-in_ok-into_alias-in-Right-clause-rest t c =
     IfOk-weaker c.reach-in-Right.result _ _ (λ e h. eased_then (within_eased c.args.way.now.layers (eased_same (search rules))) (eased_then (eased_same (sym (c.in_ok-into_alias-in-Right.ensures _))) h)) c.reach-in-Right.ensures.rest
 
-pub reach_cons-returns-clause-rest : goal.reach_cons-returns-clause-rest
-reach_cons-returns-clause-rest t c =
-    IfOk-weaker c.reach.result _ _ (λ e h. eased_then (within_eased c.args.way.now.layers (eased_same (sym (search (rules, in_turn))))) (moved _ _ c.in_ok-behind_item.ensures.rest h)) c.reach.ensures.rest
-
-pub reach_cons-returns-clause-run : goal.reach_cons-returns-clause-run
-reach_cons-returns-clause-run t c =
+pub reach_cons-returns-in_err-head-clause-deep : goal.reach_cons-returns-in_err-head-clause-deep
+reach_cons-returns-in_err-head-clause-deep t c =
     let a = c.args in
-    let x = op_run a.code.now a.k a.scope.now a.past.now.value (op_term a.a.now.value) (star_item (type_of a.r.now)) in
-    let y = op_run a.code.now a.k a.scope.now a.past.now.value (op_term a.b.now.value) (star_items (type_of a.r.now)) in
-    IfOk-weaker c.reach.result _ _ (λ e h. h ∙ (c.in_ok-behind_item.ensures.run _ ∙ ap (after a.way.now) (cons_runs (run_of c.in_ok-head.head) _ x y (search rules) (search rules) (search rules)))) c.reach.ensures.run
+    let item = op_run a.code.now a.k a.scope.now a.past.now.value (op_term c.items.item.now.value) in
+    let more = op_run a.code.now a.k a.scope.now a.past.now.value (op_term c.items.more.now.value) (star_items (type_of a.r.now)) in
+    let exit = err_from_is_err_and c.from_residual.result c.from_residual.ensures.1 in
+    rw (exit.1, exit.2) (λ q. chain_deep c.items.invariant.0 (cat_deep_first (item (star_item (type_of a.r.now))) more a.levels
+    (subst (λ (t : StreamType). a.levels < (item t).level) c.star_types.ensures.item (c.in_err-head.ensures.deep q))))
 
 pub reach_cons-returns-then-not-maximal-clause-rest : goal.reach_cons-returns-then-not-maximal-clause-rest
 reach_cons-returns-then-not-maximal-clause-rest t c =
-    within_eased c.args.way.now.layers (cat_eased {l = record { term = op_term c.args.b.now.value; past = known_in c.args.past.now.value; depth = c.args.k }} c.in_ok-head.ensures.rest (sym (search (rules, in_turn))) (search rules))
+    let a = c.args in
+    let run = op_run a.code.now a.k a.scope.now a.past.now.value (op_term c.items.item.now.value) in
+    let rest = op_rest a.code.now a.k a.scope.now a.past.now.value (op_term c.items.item.now.value) in
+    let head = c.in_ok-head.head in
+    let same = c.star_types.ensures.item in
+    let waits = cons_waits a.code.now a.k a.scope.now a.past.now.value (op_term c.items.item.now.value) (op_term c.items.more.now.value) (type_of a.r.now) (run_of head) (rest_of head) (c.in_ok-head.ensures.run ∙ ap run same) (search rules)
+    (subst (λ (t : StreamType). Eased (rest t) (rest_of head)) same c.in_ok-head.ensures.rest) in
+    let left = c.in_ok-starred.ensures.rest ∙ (c.in_ok-items.ensures.rest ∙ ap (cat_state (rest_of head)) c.in_ok-later.ensures) in
+    moved _ _ c.items.invariant.0.layers (within_eased c.items.way.layers (eased_then (eased_same c.items.invariant.0.state) (eased_then waits (eased_same (sym left)))))
+
+pub reach_cons-items-preserved : goal.reach_cons-items-preserved
+reach_cons-items-preserved t c =
+    let a = c.args in
+    let item = op_term c.items.item.now.value in
+    let more = op_term c.items.more.now.value in
+    let next = op_term c.in-Cons.next.value in
+    let others = op_term c.in-Cons.after.value in
+    let run = c.in_ok-head.ensures.run ∙ ap (op_run a.code.now a.k a.scope.now a.past.now.value item) c.star_types.ensures.item in
+    let is : more ≡ cons_term next others = ap op_term (sym c.deref-in-items.ensures ∙ c.in-Cons.is) in
+    let on = c.in_ok-behind_item.ensures in
+    let behind = chain_behind a.code.now a.k a.scope.now a.past.now.value item more (type_of a.r.now) c.items.invariant.0 run (search rules) c.in_ok-head.ensures.counted c.in_ok-head.ensures.shallow on.run on.rest on.calls on.level in
+    let light = c.items.invariant.1 in
+    let heavy = ap weight is in
+    (chain_again a.code.now a.k a.scope.now a.past.now.value more next others (type_of a.r.now) behind is, omega (arith, light, heavy))
 
 pub reach_let-returns-clause-rest : goal.reach_let-returns-clause-rest
 reach_let-returns-clause-rest t c =

@@ -1,11 +1,14 @@
 -- What is left to go through: what calls may weigh at the depth, and the weight of what stands there.
-use Rattle.std.proofs.Common.{◌≡◌, ◌≤◌, ◌<◌, ◌+◌, ◌*◌, max}
+use Rattle.std.proofs.Common.{◌≡◌, ◌≤◌, ◌+◌, ◌*◌, max}
+use Rattle.stream_type.specs.StreamType.{type_of}
+use Rattle.core_term.specs.CoreTerm.{cons_term}
 use Rattle.machine_parts.specs.Weights.{weight, weight_of_all, weight_of_calls}
 use Rattle.template_state.specs.Readers.{op_term, operand_terms}
 use Rattle.template_state.specs.Templates.{bodies_in}
-use Rattle.delta_code.specs.Begun.{run_of, rest_of}
 use Rattle.delta_code.specs.Eased.{Eased}
+use Rattle.delta_code.specs.Steps.{op_run, op_rest}
 use Rattle.delta_code.specs.Way.{within, after, reached_run, reached_rest, reached_calls, reached_level}
+use Rattle.delta_code.proofs.Chain.{Chained}
 use Rattle.delta_code.proofs.starting.+start.Given as goal
 
 abbrev pub decreases-start : goal.decreases-start
@@ -72,3 +75,15 @@ invariant-go_on-calls l = (after l.way (reached_run l.code l.k l.reached) ≡ af
 
 abbrev pub decreases-go_on-calls : goal.decreases-go_on-calls
 decreases-go_on-calls l = l.k
+
+-- what the items from here on give behind those before them is what the chain was to give; and they weigh no more
+abbrev pub invariant-reach_cons-items : goal.invariant-reach_cons-items
+invariant-reach_cons-items l =
+    let all = cons_term (op_term l.a.value) (op_term l.b.value) in
+    let rest = cons_term (op_term l.item.value) (op_term l.more.value) in
+    Chained (op_run l.code l.k l.scope l.past.value all (type_of l.r)) (op_run l.code l.k l.scope l.past.value rest (type_of l.r)) (op_rest l.code l.k l.scope l.past.value all (type_of l.r))
+    (op_rest l.code l.k l.scope l.past.value rest (type_of l.r)) l.initial.way l.way l.initial.left l.left l.levels
+    × (weight (op_term l.item.value) + weight (op_term l.more.value) ≤ weight (op_term l.a.value) + weight (op_term l.b.value))
+
+abbrev pub decreases-reach_cons-items : goal.decreases-reach_cons-items
+decreases-reach_cons-items l = weight (op_term l.more.value)
