@@ -15,13 +15,13 @@ const SAME: &[u8] = b"main(x : Int) : Int = x";
 const UNBOUND: &[u8] = b"main(x : Int) : Int = y";
 
 // A header alone.
-const HEADER: &[u8] = &[68, 69, 86, 1];
+const HEADER: &[u8] = &[68, 69, 86, 49];
 
 // A header and the number 7.
-const SEVEN: &[u8] = &[68, 69, 86, 1, 0, 17, 0, 0, 0, 0, 0, 0, 0, 7];
+const SEVEN: &[u8] = &[68, 69, 86, 49, 0, 17, 0, 0, 0, 0, 0, 0, 0, 7];
 
 // A header and a byte that begins no frame of a number.
-const WRONG: &[u8] = &[68, 69, 86, 1, 0, 16];
+const WRONG: &[u8] = &[68, 69, 86, 49, 0, 16];
 
 // What is kept of the first program before any event: its types, and its name as its state.
 const FRESH: &[u8] = &[
@@ -57,10 +57,10 @@ fn end_of(alloc: Global, text: &[u8], input: &[u8], shelf: &mut MemShelf) -> Res
     ))
 }
 
-// Whether the name holds bytes that begin so, or none where none are asked for.
+// Whether the name holds bytes that begin so.
 fn begins(shelf: &mut MemShelf, name: &str, bytes: &[u8]) -> bool {
     match shelf.read(name) {
-        Ok(held) => held.starts_with(bytes) && held.is_empty() == bytes.is_empty(),
+        Ok(held) => held.starts_with(bytes),
         Err(_) => false,
     }
 }
@@ -89,7 +89,8 @@ fn leaves_nothing(alloc: Global, text: &[u8], input: &[u8]) -> Result<bool, Fail
     let mut shelf = shelf_failing(alloc, &[])?;
     let ended = end_of(alloc, text, input, &mut shelf)?;
     let ill = matches!(ended, End::Refused(Some(_)) | End::Input(_));
-    Ok(ill && begins(&mut shelf, "state", b"") && begins(&mut shelf, "other", OTHER))
+    let missing = shelf.read("state").is_err();
+    Ok(ill && missing && begins(&mut shelf, "other", OTHER))
 }
 
 #[test]
