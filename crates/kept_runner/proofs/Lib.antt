@@ -1,0 +1,4 @@
+-- Lemmas.
+pub mod Stepping
+pub mod Speaking
+pub mod JoinedRuns
