@@ -30,13 +30,13 @@ use Rattle.kept_state.proofs.RestSplits.{rest_empty}
 use Rattle.machine_kept.specs.SinceView.{answer_since, IsCostlySince, IsDeepSince}
 use Rattle.kept_session.specs.declared.session.Resumed.{Resumed}
 use Rattle.kept_session.specs.declared.session.Life.TheVariants.{Open, Closed}
-use Rattle.kept_session.specs.Standing.{Stands, IsClosed, IsLive}
+use Rattle.kept_session.specs.Standing.{Runs, Stands, IsClosed, IsLive}
 use Rattle.kept_session.proofs.KeptGrowth.{answer_is_prefix, left_falls}
 use Rattle.delta_loop.specs.Meaning.{Meaning, IsCostly, IsDeep, Stands as LoopStands}
 use Rattle.delta_loop.specs.Loop.{Ran}
 use Rattle.delta_loop.proofs.Opening.{ran_nothing}
 use Rattle.kept_runner.specs.KeptOneShot.{meaning_since}
-use Rattle.kept_runner.specs.Standing.{StandsFor}
+use Rattle.kept_runner.specs.Standing.{IsOf, StandsFor}
 use Rattle.kept_runner.specs.declared.runner.ResumedRunner.{ResumedRunner}
 
 -- the answer to an event has no longer paths than the output
@@ -79,6 +79,14 @@ module _ {M : Type 0} (seen : M → MachineView) (since : M → KeptTree → Lis
     none_lost = lost ∙ s.none_lost;
   }
 
+  -- what its session ran, it runs after an event that it took
+  pub of_next : (program : CoreProgram) (k : KeptTree) (budget : ℕ) (word more : List StreamEvent) (next : Resumed M) → Stands seen since runner.session program k budget word
+      → Stands seen since next program k budget more → (c : CoreProgram) → IsOf seen runner.session c → IsOf seen next c
+  of_next program k budget word more next before after c of machine runs =
+      let both : Open machine ≡ Open after.machine = sym runs ∙ after.is_open in
+      let same : machine ≡ after.machine = cc in
+      ap (λ (m : M). (seen m).program) same ∙ after.at.program ∙ sym before.at.program ∙ of before.machine before.is_open
+
   module _ (P : Meaning) (word : List StreamEvent) (s : StandsFor seen since runner P word) (x : StreamEvent) where
     -- it tells the fault of an event
     pub fault_here : P.fault word x ≡ fault_of x (type_of runner.session.rest)
@@ -117,6 +125,10 @@ module _ {M : Type 0} (seen : M → MachineView) (since : M → KeptTree → Lis
 
     pub deep_here : IsDeepSince s.program s.kept 1000 word x → IsDeep P word x
     deep_here deep = subst (λ (Q : Meaning). IsDeep Q word x) (sym s.means) deep
+
+-- a closed session runs no machine
+pub of_closed : {M : Type 0} (seen : M → MachineView) (session : Resumed M) (cause : Cause) → IsClosed session cause → (c : CoreProgram) → IsOf seen session c
+of_closed seen session cause closed c machine runs = absurd (let both : Open machine ≡ Closed cause = sym runs ∙ closed in cc)
 
 -- a run that wanted memory before anything was read or written
 pub ran_not : (P : Meaning) (log : Option (List Move)) (left : Option (List ℕ)) → Ran P log log left left Memory

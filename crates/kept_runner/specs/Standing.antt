@@ -7,9 +7,18 @@ use Rattle.core_term.specs.CoreTerm.{CoreProgram}
 use Rattle.delta_state.specs.MachineView.{MachineView}
 use Rattle.kept_state.specs.KeptTree.{KeptTree}
 use Rattle.delta_loop.specs.Meaning.{Meaning}
-use Rattle.kept_session.specs.Standing.{Stands}
+use Rattle.kept_session.specs.declared.session.Resumed.{Resumed}
+use Rattle.kept_session.specs.Standing.{Runs, Stands}
 use Rattle.kept_runner.specs.KeptOneShot.{meaning_since}
 use Rattle.kept_runner.specs.declared.runner.ResumedRunner.{ResumedRunner}
+
+-- an open session's machine is one of this program
+abbrev pub IsOf : {M : Type 0} → (M → MachineView) → Resumed M → CoreProgram → Type 0
+IsOf {M} seen session c = (machine : M) → Runs session machine → (seen machine).program ≡ c
+
+-- the second runner's machine is of the program that the first one's is of
+abbrev pub IsOfSame : {M : Type 0} → (M → MachineView) → ResumedRunner M → ResumedRunner M → Type 0
+IsOfSame {M} seen old new = (c : CoreProgram) → IsOf seen old.session c → IsOf seen new.session c
 
 -- its session stands for a program's kept state after the word, which is what the loop is told, and frames of its
 -- version are long enough for the output; no answer was lost

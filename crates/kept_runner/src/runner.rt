@@ -8,7 +8,7 @@ ghost use Rattle.kept_state.specs.KeptTyping.{IsTypedKept};
 ghost use Rattle.delta_keep.specs.KeptView.{kept_of};
 ghost use Rattle.delta_loop.specs.Meaning.{HasBegun};
 ghost use Rattle.kept_runner.specs.KeptOneShot.{meaning_since};
-ghost use Rattle.kept_runner.specs.Standing.{StandsFor};
+ghost use Rattle.kept_runner.specs.Standing.{IsOfSame, StandsFor};
 
 use crate::framing::word_frames;
 use core_term::Checked;
@@ -39,6 +39,12 @@ pub struct ResumedRunner<M> {
 
 impl<M: Keeping> Stepper for ResumedRunner<M> {
     ghost stands = { StandsFor M.seen M.since };
+
+    ghost same_program = { IsOfSame M.seen };
+
+    ghost same_at_first = { λ _ _ of. of };
+
+    ghost same_throughout = { λ _ _ _ before after c of. after c (before c of) };
 
     // No run reads so many events that a kept state's own and these pass the most: its bytes hold fewer. So want of
     // memory is never answered for that.
