@@ -31,7 +31,7 @@ module _ {M : Type 0} (seen : M → MachineView) (stands : M → List StreamEven
   -- so what is kept of it is what is to be kept of the run
   leaves : (holds : List ℕ → Type 0) → KeptAs seen stands runner holds → (k : KeptTree) × (places : List ℕ) × Leaves w end k × holds (kept_bytes k places)
   leaves holds kept =
-      let is = kept w.meaning w.core (whole to.ran.input) (to.state well) of few in (is.0, is.1, record { ran = to.ran; well = well; kept = is.2 }, is.3)
+      let is = kept w.meaning w.core (whole to.ran.input) (to.state well) of few in (is.0, is.1, record { ran = to.ran; well = well; kept = is.2; output = is.3 }, is.4)
 
   -- the bytes that were written are its
   pub is_saved : (files : Option (List ℕ → List ℕ)) (name bytes : List ℕ) → KeptAs seen stands runner (λ its. bytes ≡ its) → Keeps files name bytes → IsSaved w files name end

@@ -12,6 +12,7 @@ use Rattle.event_word.specs.StreamEvent.{StreamEvent}
 use Rattle.event_frame.specs.Reading.{whole}
 use Rattle.core_term.specs.CoreTerm.{CoreProgram}
 use Rattle.delta_state.specs.MachineView.{MachineView, input_of}
+use Rattle.delta_state.specs.Stands.{output_left}
 use Rattle.kept_state.specs.KeptTree.{KeptTree}
 use Rattle.kept_state.specs.KeptBytes.{kept_bytes, most_bytes}
 use Rattle.kept_state.specs.Laws.{IsKept}
@@ -33,7 +34,7 @@ module _ {M : Type 0} (seen : M → MachineView) (stands : M → List StreamEven
   abbrev pub KeptAs : (List ℕ → Type 0) → Type 0
   KeptAs holds =
       (P : Meaning) (c : CoreProgram) (word : List StreamEvent) → StandsFor seen stands runner P word → IsOf seen runner.session c → length word ≤ 2 ^ 41
-      → (k : KeptTree) × (places : List ℕ) × IsKept c (input_of c word) k × holds (kept_bytes k places)
+      → (k : KeptTree) × (places : List ℕ) × IsKept c (input_of c word) k × (k.out ≡ output_left c (input_of c word)) × holds (kept_bytes k places)
 
 -- a run of a program with this core, what is told of the link before and after it, and what it left of the input
 pub record Way : Type 0 where
@@ -57,6 +58,7 @@ pub record Leaves (w : Way) (end : End) (k : KeptTree) : Type 0 where
   pub ran : Ended w end
   pub well : IsWellEnded end
   pub kept : IsKept w.core (input_of w.core (whole ran.input)) k
+  pub output : k.out ≡ output_left w.core (input_of w.core (whole ran.input))
 
 -- the file of this name holds the bytes of what is to be kept of it
 pub record IsSaved (w : Way) (files : Option (List ℕ → List ℕ)) (name : List ℕ) (end : End) : Type 0 where

@@ -6,6 +6,7 @@ ghost use Rattle.event_word.specs.StreamEvent.{StreamEvent};
 ghost use Rattle.core_term.specs.CoreTerm.{core_of};
 ghost use Rattle.delta_state.specs.PlainState.{without_marks};
 ghost use Rattle.delta_state.specs.MachineView.{input_of};
+ghost use Rattle.delta_state.specs.Stands.{output_left};
 ghost use Rattle.kept_state.specs.KeptTree.{KeptTree};
 ghost use Rattle.kept_state.specs.KeptTyping.{IsTypedKept};
 ghost use Rattle.kept_state.specs.Laws.{IsKept};
@@ -27,13 +28,16 @@ pub trait Keeping: Machine {
     ghost since: { Self → KeptTree → List StreamEvent → Type 0 };
 
     /// What is to be kept of it. Where it stands for its program after a word of at most 2^41 events, what is
-    /// kept is typed and goes on just as the program (`IsKept` in `kept_state`). Its only error is want of memory.
+    /// kept is typed and goes on just as the program (`IsKept` in `kept_state`), and its output's type is what is left of
+    /// the program's. Its only error is want of memory.
     fn to_kept(&self, alloc: Global) -> Result<Kept, Memory>
         ensures events { IfOk result (λ k. (kept_of k).events ≡ (Self.seen self.now).events) }
         ensures place { IfOk result (λ k. place_kept (kept_of k) ≡ (Self.seen self.now).place) }
         ensures state { IfOk result (λ k. without_marks (kept_of k).state ≡ (Self.seen self.now).state) }
         ensures kept { IfOk result (λ k. (word : List StreamEvent) → Self.stands self.now word → (Self.seen self.now).events ≤ 2 ^ 41
-            → IsKept (Self.seen self.now).program (input_of (Self.seen self.now).program word) (kept_of k)) };
+            → IsKept (Self.seen self.now).program (input_of (Self.seen self.now).program word) (kept_of k)) }
+        ensures output { IfOk result (λ k. (word : List StreamEvent) → Self.stands self.now word
+            → (kept_of k).out ≡ output_left (Self.seen self.now).program (input_of (Self.seen self.now).program word)) };
 
     /// A machine that goes on from what was kept of a run of the program, or of whatever is typed for it. The budget
     /// is the number of calls that it may make at each event. Its only error is want of memory.

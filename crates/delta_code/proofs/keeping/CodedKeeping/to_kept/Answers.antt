@@ -27,3 +27,6 @@ returns-clause-kept c word stands few =
     (c.in_ok-place.ensures ∙ ap (λ (a : Awaited). place_in (awaited_in a)) c.deref-2.ensures)
     (c.in_ok-out.ensures ∙ ap (λ (t : Ty). type_of t) c.deref-3.ensures)
     (c.in_ok-state.ensures ∙ ap (λ (s : Live). state_in s) c.deref.ensures)
+
+pub returns-clause-output : goal.returns-clause-output
+returns-clause-output c word stands = c.in_ok-out.ensures ∙ ap (λ (t : Ty). type_of t) c.deref-3.ensures ∙ stands.below.keeps.keeps.is_output
