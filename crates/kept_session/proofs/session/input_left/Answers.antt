@@ -17,4 +17,5 @@ returns c =
     let d = core_of c.args.c.now in
     let k = kept_of c.args.k.now in
     let awaits = c.in_ok-awaited.ensures ∙ ap₂ (λ (ts : List Ty) (cs : List Bool). awaited_left d.main.params (types_left d.main.params (map type_of ts)) cs) c.deref.ensures.value c.deref-2.ensures.value in
-    ?
+    ap (λ (t : Ty). type_of t) c.into_inner.ensures
+    ∙ (c.in_ok-left.ensures ∙ (ap awaited_type (ap (λ (a : Awaited). awaited_in a) c.deref-3.ensures ∙ awaits) ∙ type_awaited d.main.params (types_kept d k) k.cuts))

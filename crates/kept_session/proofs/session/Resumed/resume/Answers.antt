@@ -1,5 +1,5 @@
 -- What stands before anything more has come.
-use Rattle.std.proofs.Common.{ap, refl, subst, ◌∙◌}
+use Rattle.std.proofs.Common.{◌≡◌, ◌+◌, ap, refl, subst, ◌∙◌, arith}
 use Rattle.stream_type.specs.declared.ty.Ty.{Ty}
 use Rattle.stream_type.specs.StreamType.{type_of}
 use Rattle.core_term.specs.declared.program.Core.{Core}
@@ -15,6 +15,7 @@ use Rattle.kept_session.proofs.session.Resumed.resume.Goals as goal
 pub returns-clause-stands : goal.returns-clause-stands
 returns-clause-stands g c =
     let same = c.core-core.ensures.program in
+    let none_more : c.args.k.now.events ≡ c.args.k.now.events + 0 = omega arith in
     record {
       machine = c.in_ok-machine.machine;
       is_open = refl;
@@ -27,5 +28,5 @@ returns-clause-stands g c =
           c.requires.typed c.in_ok-machine.ensures.program c.in_ok-machine.ensures.budget c.in_ok-machine.ensures.stands
           (c.in_ok-rest.ensures ∙ ap (λ (d : Core). input_kept (core_of d) (kept_of c.args.k.now)) same)
           (c.in_ok-output.ensures ∙ ap (λ (t : Ty). type_of t) c.deref.ensures);
-      count = ?;
+      count = none_more;
     }
