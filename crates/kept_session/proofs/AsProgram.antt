@@ -1,5 +1,5 @@
 -- Where a state was kept of a program, what is said to each event since is what the program says.
-use Rattle.std.proofs.Common.{◌≡◌, ◌+◌, ◌<◌, ◌≤◌, ℕ, List, [], ◌∷◌, ◌++◌, ◌∙◌, ap, ap₂, sym, subst, arith, refl, append_assoc}
+use Rattle.std.proofs.Common.{◌≡◌, ℕ, List, [], ◌∷◌, ◌++◌, ◌∙◌, ap, ap₂, sym, subst, arith, refl, append_assoc}
 use Rattle.stream_type.specs.StreamType.{StreamType}
 use Rattle.stream_prefix.specs.StreamPrefix.{StreamPrefix, IsPart, der, join}
 use Rattle.stream_prefix.specs.Increment.{increment}
@@ -18,7 +18,7 @@ use Rattle.event_word.specs.Admits.{Admits}
 use Rattle.state_steps.proofs.LongerWords.{event_follows, prefix_with_event}
 use Rattle.state_steps.proofs.RunnablePrograms.{mean_derives}
 use Rattle.kept_state.specs.KeptTree.{KeptTree}
-use Rattle.kept_state.specs.KeptMeaning.{input_kept, mean_kept, calls_kept, level_kept}
+use Rattle.kept_state.specs.KeptMeaning.{input_kept, mean_kept, calls_kept}
 use Rattle.kept_state.specs.Laws.{IsKept, input_since, event_since}
 use Rattle.kept_state.proofs.KeptSteps.{kept_derives}
 use Rattle.machine_kept.specs.SinceView.{answer_since, IsCostlySince, IsDeepSince}

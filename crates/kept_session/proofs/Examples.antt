@@ -1,11 +1,10 @@
 -- A session that goes on from a kept state, at single ones. Each answer was worked out by hand, and the check computes
 -- it.
-use Rattle.std.proofs.Common.{◌≡◌, ◌≤◌, ℕ, List, [], ◌∷◌, refl, arith}
+use Rattle.std.proofs.Common.{◌≡◌, ◌≤◌, ℕ, [], ◌∷◌, refl, arith}
 use Rattle.std.specs.Prelude.{pos, Some}
 use Rattle.std.proofs.lemmas.List.Elements.{All-nil}
 use Rattle.stream_type.specs.StreamType.{eps, int, cat}
-use Rattle.stream_type.specs.declared.ty.Ty.TheVariants.{Eps, Int as IntType}
-use Rattle.stream_prefix.specs.StreamPrefix.{eps_emp, int_emp, int_full, cat_both}
+use Rattle.stream_type.specs.declared.ty.Ty.TheVariants.{Int as IntType}
 use Rattle.bunch.specs.BunchTree.{leaf}
 use Rattle.event_word.specs.declared.event.Step.TheVariants.{First}
 use Rattle.event_word.specs.declared.event.Leaf.TheVariants.{Int, Cut}

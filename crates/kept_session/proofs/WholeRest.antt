@@ -1,5 +1,5 @@
 -- Where the whole of the input has come, what was said since the kept state is whole.
-use Rattle.std.proofs.Common.{◌≡◌, ℕ, Bool, true, false, List, Some, None, IsTrue, if◌then◌else◌, ⊎_elim, ◌∙◌, ap, sym, subst, refl}
+use Rattle.std.proofs.Common.{◌≡◌, ℕ, Bool, true, false, List, Some, None, if◌then◌else◌, ⊎_elim, ◌∙◌, ap, sym, subst, refl}
 use Rattle.std.specs.Prelude.{unwrap_or}
 use Rattle.stream_type.specs.StreamType.{StreamType, eps, null_of}
 use Rattle.stream_prefix.specs.StreamPrefix.{StreamPrefix, der, is_maximal}
