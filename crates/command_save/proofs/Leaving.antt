@@ -1,9 +1,14 @@
 -- What is left of a run, by how it ended.
-use Rattle.std.proofs.Common.{◌≡◌, ◌≢◌, ◌⊎◌, inl, inr, ◌≤◌, ◌<◌, ◌^◌, ℕ, List, Option, Some, length, refl, arith}
+use Rattle.std.proofs.Common.{◌≡◌, ◌≢◌, ◌⊎◌, inl, inr, ◌≤◌, ◌<◌, ◌^◌, ℕ, List, Option, Some, length, refl, sym, subst, ◌∙◌, arith}
 use Rattle.port.specs.Files.{ChangesOnly, Keeps}
 use Rattle.event_word.specs.StreamEvent.{StreamEvent}
 use Rattle.event_frame.specs.Reading.{whole}
-use Rattle.delta_state.specs.MachineView.{MachineView}
+use Rattle.core_term.specs.CoreTerm.{CoreProgram}
+use Rattle.delta_state.specs.MachineView.{MachineView, StandsAfter, input_of}
+use Rattle.delta_state.specs.Stands.{output_left}
+use Rattle.delta_session.specs.declared.session.Life.TheVariants.{Open as IsRunning}
+use Rattle.delta_session.specs.Standing.{Runs}
+use Rattle.kept_state.specs.Laws.{IsKept}
 use Rattle.kept_state.specs.KeptTree.{KeptTree}
 use Rattle.kept_state.specs.KeptBytes.{kept_bytes, most_bytes}
 use Rattle.delta_end.specs.declared.objection.StateName.TheVariants.{Large}
@@ -20,6 +25,25 @@ use Rattle.command_save.specs.Leaving.{StandsForSome, KeptAs, Way, Ended, EndedW
 -- where nothing was written each name holds what it held
 pub changes_nothing : (files : Option (List ℕ → List ℕ)) (name : List ℕ) → ChangesOnly files files name
 changes_nothing files name told is = (told, is, λ other ne. refl)
+
+-- what the machine of a runner keeps is kept of the runner
+pub kept_as : {M : Type 0} (seen : M → MachineView) (stands : M → List StreamEvent → Type 0) (after : (m : M) (word : List StreamEvent) → stands m word → StandsAfter (seen m) word)
+    (runner : Runner M) (machine : M) → Runs runner.session machine → (k : KeptTree) (places : List ℕ)
+    → ((word : List StreamEvent) → stands machine word → (seen machine).events ≤ 2 ^ 41 → IsKept (seen machine).program (input_of (seen machine).program word) k)
+    → ((word : List StreamEvent) → stands machine word → k.out ≡ output_left (seen machine).program (input_of (seen machine).program word))
+    → (holds : List ℕ → Type 0) → holds (kept_bytes k places) → KeptAs seen stands runner holds
+kept_as {M} seen stands after runner machine runs k places kept output holds it P c word s of few =
+    let same : (seen machine).program ≡ c = of machine runs in
+    let both : IsRunning machine ≡ IsRunning s.standing.machine = sym runs ∙ s.standing.is_open in
+    let one : machine ≡ s.standing.machine = cc in
+    let state : stands machine word = subst (λ (m : M). stands m word) (sym one) s.standing.at.state in
+    let count : (seen machine).events ≡ length word = (after machine word state).is_count in (
+      k,
+      places,
+      subst (λ (d : CoreProgram). IsKept d (input_of d word) k) same (kept word state (omega (arith, count, few))),
+      subst (λ (d : CoreProgram). k.out ≡ output_left d (input_of d word)) same (output word state),
+      it,
+    )
 
 -- a run that ended well left the runner standing after all events of its input
 module _ {M : Type 0} (seen : M → MachineView) (stands : M → List StreamEvent → Type 0) (runner : Runner M) (w : Way) (end : End)
@@ -46,6 +70,11 @@ module _ {M : Type 0} (seen : M → MachineView) (stands : M → List StreamEven
 
   pub ended_well : EndedWell w
   ended_well = (end, well, to.ran)
+
+-- done and open are good ends
+pub is_well : (end : End) → (end ≡ Done) ⊎ (end ≡ Open) → IsWellEnded end
+is_well end (inl is) = subst IsWellEnded (sym is) tt
+is_well end (inr is) = subst IsWellEnded (sym is) tt
 
 -- the command ended as the run, which ended well
 pub saves_well : (w : Way) (name : List ℕ) (old new : Option (List ℕ → List ℕ)) (end : End) → IsWellEnded end → IsSaved w new name end → ChangesOnly old new name

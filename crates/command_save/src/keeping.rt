@@ -1,6 +1,6 @@
 //! Runs a checked program, and leaves its state on a shelf.
 
-ghost use Rattle.std.specs.Prelude.{◌≡◌, ◌≤◌, ◌<◌, ℕ, List, Option, IsTrue, IfOk, IsErrOf};
+ghost use Rattle.std.specs.Prelude.{◌≡◌, ◌≤◌, ◌<◌, ℕ, List, Option, IsTrue, IfOk, IsErrOf, length};
 ghost use Rattle.stream_type.specs.StreamType.{reach_of};
 ghost use Rattle.port.specs.declared.link.Move.{Move};
 ghost use Rattle.event_frame.specs.Frames.{longest};

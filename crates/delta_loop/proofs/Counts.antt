@@ -24,12 +24,13 @@ events_taken (Some v) word fit =
 -- each byte that is read ends one event at most
 events_read : (place : Place) (at : ℕ) (bytes : List ℕ) → length (reading_from place at bytes).word ≤ length bytes
 events_read place at [] = omega arith
-events_read place at (byte ∷ bytes) = by_move (advance place at byte)
+events_read place at (byte ∷ bytes) = by_move (advance place at byte) (λ next. events_read next (at + 1) bytes)
   where
-    by_move : (m : Move) → length (go_on m (λ next. reading_from next (at + 1) bytes)).word ≤ suc (length bytes)
-    by_move (Goes next) = let rest = events_read next (at + 1) bytes in omega (arith, rest)
-    by_move (Gives x next) = let rest = events_read next (at + 1) bytes in omega (arith, rest)
-    by_move (Faults fault) = omega arith
+    by_move : (m : Move) → ((next : Place) → length (reading_from next (at + 1) bytes).word ≤ length bytes)
+        → length (go_on m (λ next. reading_from next (at + 1) bytes)).word ≤ suc (length bytes)
+    by_move (Goes next) rest = let few = rest next in omega (arith, few)
+    by_move (Gives x next) rest = let few = rest next in omega (arith, few)
+    by_move (Faults fault) rest = omega arith
 
 -- so there are no more events than bytes
 pub events_whole : (input : List ℕ) → length (whole input) ≤ length input

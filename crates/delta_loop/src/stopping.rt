@@ -2,7 +2,7 @@
 
 ghost use Rattle.std.specs.Prelude.{◌≡◌, Some};
 ghost use Rattle.delta_end.specs.End.{IsOfLoop, ReadCause, WriteCause};
-ghost use Rattle.delta_loop.specs.Loop.{Ran};
+ghost use Rattle.delta_loop.specs.Loop.{IsWellEnded, Ran};
 ghost use Rattle.delta_loop.specs.Meaning.{Meaning};
 ghost use Rattle.delta_loop.specs.Stopping.{StopsFor};
 
@@ -21,9 +21,10 @@ pub enum Stop {
 }
 
 /// Ends a run of a program that is stopped before any event: a header of the version is written, and
-/// nothing is read.
+/// nothing is read. It is no good end.
 pub fn stop_first<L: Link>(version: Version, stop: Stop, link: &mut L) -> End
     ensures ran { (P : Meaning) → P.version ≡ Some version → StopsFor P stop → Ran P (L.log link.old) (L.log link.new) (L.left link.old) (L.left link.new) result }
+    ensures ill { IsWellEnded result → ⊥ }
     ensures end { IsOfLoop result }
     ensures read { ReadCause result (L.read_faults link.old) (L.read_faults link.new) }
     ensures write { WriteCause result (L.write_faults link.old) (L.write_faults link.new) }

@@ -1,0 +1,35 @@
+-- What is left is that of the run, whose machine is of the program that it began with.
+use Rattle.std.proofs.Common.{inl, sym, refl, ap, Err, ◌∙◌}
+use Rattle.core_term.specs.CoreTerm.{core_of}
+use Rattle.delta_output.specs.OneShot.{meaning_of}
+use Rattle.delta_runner.specs.CoreOneShot.{one_shot}
+use Rattle.delta_runner.proofs.Stepping.{ran_not}
+use Rattle.command_save.specs.Leaving.{Way}
+use Rattle.command_save.proofs.Leaving.{changes_nothing, saves_nothing}
+use Rattle.command_save.proofs.keeping.save_checked.Goals as goal
+
+pub returns-in-Ok-clause-saved : goal.returns-in-Ok-clause-saved
+returns-in-Ok-clause-saved g c =
+    let core = core_of c.args.c.now in
+    let begun = rw (sym c.deref.ensures.value) at c.in-Ok.ensures.begun in
+    c.leave.ensures.left (meaning_of c.args.version c.args.budget (one_shot core)) core _ _ _ _ (c.run_machine-end.ensures.program core c.in-Ok.ensures.program)
+    (c.run_machine-end.ensures.ran (meaning_of c.args.version c.args.budget (one_shot core)) begun)
+
+pub returns-in-Err-Memory-clause-saved : goal.returns-in-Err-Memory-clause-saved
+returns-in-Err-Memory-clause-saved g c =
+    (inl (ran_not _ (g.L.Link.log c.args.link.now) (g.L.Link.left c.args.link.now)), changes_nothing (g.S.Shelf.holds c.args.shelf.now) c.args.name.now)
+
+pub returns-in-Err-Stopped-clause-saved : goal.returns-in-Err-Stopped-clause-saved
+returns-in-Err-Stopped-clause-saved g c =
+    let core = core_of c.args.c.now in
+    let P = meaning_of c.args.version c.args.budget (one_shot core) in
+    let w : Way = record {
+      meaning = P;
+      core = core;
+      old = g.L.Link.log c.args.link.now;
+      new = g.L.Link.log c.stop_first.new.link;
+      left0 = g.L.Link.left c.args.link.now;
+      left1 = g.L.Link.left c.stop_first.new.link;
+    } in
+    saves_nothing w c.args.name.now (g.S.Shelf.holds c.args.shelf.now) c.stop_first.result c.stop_first.ensures.end c.stop_first.ensures.ill
+    (c.stop_first.ensures.ran P refl (c.begin.ensures.stopped c.in-Err-Stopped.why (c.in-Err-Stopped.is ∙ ap Err c.in-Err-Stopped.field-0-is)))
