@@ -130,6 +130,10 @@ module _ {M : Type 0} (seen : M → MachineView) (since : M → KeptTree → Lis
 pub of_closed : {M : Type 0} (seen : M → MachineView) (session : Resumed M) (cause : Cause) → IsClosed session cause → (c : CoreProgram) → IsOf seen session c
 of_closed seen session cause closed c machine runs = absurd (let both : Open machine ≡ Closed cause = sym runs ∙ closed in cc)
 
+-- one that is as before runs what it ran
+pub of_same : {M : Type 0} (seen : M → MachineView) (old new : Resumed M) → new ≡ old → (c : CoreProgram) → IsOf seen old c → IsOf seen new c
+of_same {M} seen old new same c of = subst (λ (o : Resumed M). IsOf seen o c) (sym same) of
+
 -- a run that wanted memory before anything was read or written
 pub ran_not : (P : Meaning) (log : Option (List Move)) (left : Option (List ℕ)) → Ran P log log left left Memory
 ran_not P log left = (ran_nothing {M = Unit {0}} (λ m Q w. Unit {0}) P log left tt).ran

@@ -1,9 +1,7 @@
-use Rattle.std.proofs.Common.{Err, ◌∙◌, ap, sym, refl, subst}
+use Rattle.std.proofs.Common.{Err, ◌∙◌, ap, sym, refl}
 use Rattle.event_frame.specs.Frames.{frames}
-use Rattle.kept_session.specs.declared.session.Resumed.{Resumed}
 use Rattle.delta_session.specs.declared.refusal.Cause.TheVariants.{Memory, Budget, Deep}
-use Rattle.kept_runner.specs.Standing.{IsOf}
-use Rattle.kept_runner.proofs.Stepping.{within_here, fault_here, stands_next, answered, costly_here, deep_here, closed_stands_not, lost_stands_not, stands_same, of_next, of_closed}
+use Rattle.kept_runner.proofs.Stepping.{within_here, fault_here, stands_next, answered, costly_here, deep_here, closed_stands_not, lost_stands_not, stands_same, of_next, of_closed, of_same}
 use Rattle.kept_runner.proofs.runner.ResumedRunnerStepper.step.Goals as goal
 
 pub word_frames-requires : goal.word_frames-requires
@@ -83,22 +81,22 @@ returns-in-Ok-clause-program g c p of =
 
 pub returns-in-Err-Memory-clause-program : goal.returns-in-Err-Memory-clause-program
 returns-in-Err-Memory-clause-program g c p of =
-    let is = c.in-Err-Memory.is ∙ ap Err c.in-Err-Memory.field-0-is in of_closed g.M.Machine.seen _ Memory (c.feed.ensures.closes Memory is).closed p
+    let is = c.in-Err-Memory.is ∙ ap Err c.in-Err-Memory.field-0-is in of_closed g.M.Machine.seen c.feed.new.self Memory (c.feed.ensures.closes Memory is).closed p
 
 pub returns-in-Err-Budget-clause-program : goal.returns-in-Err-Budget-clause-program
 returns-in-Err-Budget-clause-program g c p of =
     let is = c.in-Err-Budget.is ∙ ap Err c.in-Err-Budget.field-0-is in
-    of_closed g.M.Machine.seen _ (Budget c.in-Err-Budget.field-0-0) (c.feed.ensures.closes (Budget c.in-Err-Budget.field-0-0) is).closed p
+    of_closed g.M.Machine.seen c.feed.new.self (Budget c.in-Err-Budget.field-0-0) (c.feed.ensures.closes (Budget c.in-Err-Budget.field-0-0) is).closed p
 
 pub returns-clause-program : goal.returns-clause-program
 returns-clause-program g c p of =
     let is = c.in-Err-Deep.is ∙ ap Err c.in-Err-Deep.field-0-is in
-    of_closed g.M.Machine.seen _ (Deep c.in-Err-Deep.field-0-0) (c.feed.ensures.closes (Deep c.in-Err-Deep.field-0-0) is).closed p
+    of_closed g.M.Machine.seen c.feed.new.self (Deep c.in-Err-Deep.field-0-0) (c.feed.ensures.closes (Deep c.in-Err-Deep.field-0-0) is).closed p
 
 pub returns-in-Err-Closed-clause-program : goal.returns-in-Err-Closed-clause-program
 returns-in-Err-Closed-clause-program g c p of =
-    let same = rw c.in-Err-Closed.field-0-is at c.in-Err-Closed.ensures.unchanged in subst (λ (o : Resumed g.M.Self). IsOf g.M.Machine.seen o p) (sym same) of
+    let same = rw c.in-Err-Closed.field-0-is at c.in-Err-Closed.ensures.unchanged in of_same g.M.Machine.seen c.args.self.now.session c.feed.new.self same p of
 
 pub returns-in-Err-Refused-clause-program : goal.returns-in-Err-Refused-clause-program
 returns-in-Err-Refused-clause-program g c p of =
-    let same = rw c.in-Err-Refused.field-0-is at c.in-Err-Refused.ensures.unchanged in subst (λ (o : Resumed g.M.Self). IsOf g.M.Machine.seen o p) (sym same) of
+    let same = rw c.in-Err-Refused.field-0-is at c.in-Err-Refused.ensures.unchanged in of_same g.M.Machine.seen c.args.self.now.session c.feed.new.self same p of
