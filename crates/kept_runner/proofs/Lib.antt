@@ -2,3 +2,4 @@
 pub mod Stepping
 pub mod Speaking
 pub mod JoinedRuns
+pub mod Examples

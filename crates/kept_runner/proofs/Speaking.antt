@@ -1,8 +1,8 @@
 -- What is put out where a run goes on from a kept state.
 use Rattle.std.proofs.Common.{◌≡◌, ℕ, List, [], ◌∷◌, ◌++◌, ap, sym, subst, refl, ◌∙◌}
 use Rattle.std.proofs.lemmas.Grind.{flat_map-append}
-use Rattle.stream_prefix.specs.StreamPrefix.{StreamPrefix, IsPart, join}
-use Rattle.stream_prefix.proofs.Derivations.{Derives, derives, is_prefix}
+use Rattle.stream_prefix.specs.StreamPrefix.{StreamPrefix, IsPart}
+use Rattle.stream_prefix.proofs.Derivations.{derives, is_prefix}
 use Rattle.event_word.specs.StreamEvent.{StreamEvent}
 use Rattle.event_word.specs.Canon.{canon}
 use Rattle.event_frame.specs.declared.version.Version.{Version}

@@ -1,5 +1,5 @@
 -- A runner that goes on from a kept state, from before an event to after it.
-use Rattle.std.proofs.Common.{◌≡◌, ◌≤◌, ◌<◌, ◌^◌, ℕ, List, [], ◌∷◌, ◌++◌, inl, Option, None, true, ◌∙◌, ap, sym, subst, arith}
+use Rattle.std.proofs.Common.{◌≡◌, ◌≤◌, ℕ, List, [], ◌∷◌, ◌++◌, inl, Option, None, true, ◌∙◌, ap, sym, subst, arith}
 use Rattle.stream_type.specs.StreamType.{StreamType, type_of, reach_of}
 use Rattle.stream_prefix.specs.StreamPrefix.{IsPrefix, emp}
 use Rattle.port.specs.declared.link.Move.{Move}
@@ -21,16 +21,15 @@ use Rattle.delta_state.specs.StateTyping.{no_pasts}
 use Rattle.delta_state.proofs.SettledStates.{settled_nothing}
 use Rattle.state_steps.proofs.SourceSteps.{extends_types}
 use Rattle.delta_session.specs.declared.refusal.Cause.{Cause}
-use Rattle.delta_session.specs.Standing.{CanRun}
 use Rattle.kept_state.specs.KeptTree.{KeptTree}
 use Rattle.kept_state.specs.KeptTyping.{IsTypedKept, types_kept, context_kept}
-use Rattle.kept_state.specs.KeptMeaning.{input_kept, split_kept, mean_kept, output_since}
+use Rattle.kept_state.specs.KeptMeaning.{input_kept, split_kept, output_since}
 use Rattle.kept_state.specs.Laws.{input_since}
 use Rattle.kept_state.proofs.RestSplits.{rest_empty}
 use Rattle.machine_kept.specs.SinceView.{answer_since, IsCostlySince, IsDeepSince}
 use Rattle.kept_session.specs.declared.session.Resumed.{Resumed}
 use Rattle.kept_session.specs.declared.session.Life.TheVariants.{Open, Closed}
-use Rattle.kept_session.specs.Standing.{Runs, Stands, IsClosed, IsLive}
+use Rattle.kept_session.specs.Standing.{Stands, IsClosed, IsLive}
 use Rattle.kept_session.proofs.KeptGrowth.{answer_is_prefix, left_falls}
 use Rattle.delta_loop.specs.Meaning.{Meaning, IsCostly, IsDeep, Stands as LoopStands}
 use Rattle.delta_loop.specs.Loop.{Ran}
