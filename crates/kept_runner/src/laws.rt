@@ -1,0 +1,30 @@
+//! The laws of what is put out where a run goes on from a kept state, each the contract of a function with nothing in
+//! it. What they say stands in `specs/Laws.antt`.
+
+ghost use Rattle.kept_runner.specs.Laws.{OutputIsSpoken, SpokenIsMeant, OrderDoesNotMatter, NothingIsRevised, RunsJoin};
+
+/// What is written is the frames of the canonical words of the successive increments, without a header.
+pub fn output_is_spoken()
+    ensures { OutputIsSpoken }
+{}
+
+/// The events put out are a word of what is left of the output's type, and stand for the meaning of a typed kept state
+/// on all that came since.
+pub fn spoken_is_meant()
+    ensures { SpokenIsMeant }
+{}
+
+/// Words with equal prefixes give outputs with equal prefixes.
+pub fn order_does_not_matter()
+    ensures { OrderDoesNotMatter }
+{}
+
+/// What was said is a part of what is said when more came.
+pub fn nothing_is_revised()
+    ensures { NothingIsRevised }
+{}
+
+/// What was written before the state was kept, and what is written from there on, are what one run writes.
+pub fn runs_join()
+    ensures { RunsJoin }
+{}

@@ -1,0 +1,6 @@
+-- Lemmas.
+pub mod KeptGrowth
+pub mod WholeRest
+pub mod Feeding
+pub mod AsProgram
+pub mod Examples
