@@ -1,0 +1,87 @@
+-- What is behind the end of a run that goes on, and behind a refusal.
+use Rattle.std.proofs.Common.{◌≡◌, ◌⊎◌, inl, inr, ℕ, List, Option, Some, Err, take, subst}
+use Rattle.port.specs.declared.link.Move.{Move}
+use Rattle.event_frame.specs.declared.version.Version.{Version}
+use Rattle.delta_tree.specs.SyntaxTree.{ProgramTree}
+use Rattle.core_term.specs.CoreTerm.{CoreProgram}
+use Rattle.delta_keep.specs.declared.kept.Kept.{Kept}
+use Rattle.kept_check.specs.declared.fault.KeepFault.{KeepFault}
+use Rattle.kept_check.specs.declared.fault.KeepFault.TheVariants as fault
+use Rattle.kept_check.specs.Loading.{TellsKeepFault}
+use Rattle.delta_end.specs.declared.end.End.{End}
+use Rattle.delta_end.specs.declared.end.End.TheVariants.{Done, Usage, Refused, Input, Budget, Deep, Open, FileFailed, ReadFailed, WriteFailed, Memory, Long, Objected}
+use Rattle.checked_program.specs.Acceptance.{IsWritable}
+use Rattle.delta_loop.specs.History.{IsUntouched}
+use Rattle.command_resume.specs.Resuming.{end_of, IsSmallFault, GoesOn, Resumes, OfState, ResumesFile}
+use Rattle.command_resume.specs.Texts.{ResumesIts, ResumesText}
+use Rattle.command_resume.proofs.Places.{form_within}
+
+-- a fault that is told of bytes has a small place
+pub is_small : (c : CoreProgram) (bytes : List ℕ) (f : KeepFault) → TellsKeepFault c bytes (Err f) → IsSmallFault f
+is_small c bytes fault.Memory told = tt
+is_small c bytes (fault.Form at) told = form_within bytes at told
+is_small c bytes (fault.Untyped n) told = tt
+is_small c bytes (fault.Version n) told = tt
+
+module _ (c : CoreProgram) (budget : ℕ) (v : Version) (bytes : List ℕ) (old new : Option (List Move)) (left0 left1 : Option (List ℕ)) where
+  -- what is told is what is wrong first
+  pub refuses : (f : KeepFault) → TellsKeepFault c bytes (Err f) → IsUntouched old new left0 left1 → Resumes c budget v bytes old new left0 left1 (end_of f)
+  refuses fault.Memory told untouched = inl untouched
+  refuses (fault.Form at) told untouched = (told, untouched)
+  refuses (fault.Untyped n) told untouched = (told, untouched)
+  refuses (fault.Version n) told untouched = (told, untouched)
+
+  -- a run that goes on ends as a run
+  pub goes_on : (end : End) → GoesOn c budget v bytes old new left0 left1 end → Resumes c budget v bytes old new left0 left1 end
+  goes_on Done on = on
+  goes_on Usage on = on
+  goes_on (Refused why) on = on
+  goes_on (Input fault) on = on
+  goes_on (Budget at) on = on
+  goes_on (Deep at) on = on
+  goes_on Open on = on
+  goes_on FileFailed on = on
+  goes_on ReadFailed on = on
+  goes_on WriteFailed on = on
+  goes_on Memory on = inr on
+  goes_on Long on = on
+  goes_on (Objected what) on = absurd on.ran.at.may
+
+module _ (c : CoreProgram) (budget : ℕ) (v : Version) (files : Option (List ℕ → List ℕ)) (name : List ℕ) (old new : Option (List Move)) (left0 left1 : Option (List ℕ)) (bytes : List ℕ)
+    (held : (told : List ℕ → List ℕ) → files ≡ Some told → bytes ≡ take 1048577 (told name)) where
+  -- so it is where the bytes are those of a file
+  moved : (end : End) → Resumes c budget v bytes old new left0 left1 end → OfState files name (λ bs. Resumes c budget v bs old new left0 left1 end)
+  moved end resumed told there = subst (λ (bs : List ℕ). Resumes c budget v bs old new left0 left1 end) (held told there) resumed
+
+  pub of_file : (end : End) → Resumes c budget v bytes old new left0 left1 end → ResumesFile c budget v files name old new left0 left1 end
+  of_file Done resumed = moved Done resumed
+  of_file Usage resumed = moved Usage resumed
+  of_file (Refused why) resumed = absurd resumed.ran.at.may
+  of_file (Input fault) resumed = moved (Input fault) resumed
+  of_file (Budget at) resumed = moved (Budget at) resumed
+  of_file (Deep at) resumed = moved (Deep at) resumed
+  of_file Open resumed = moved Open resumed
+  of_file FileFailed resumed = absurd resumed.ran.at.may
+  of_file ReadFailed resumed = moved ReadFailed resumed
+  of_file WriteFailed resumed = moved WriteFailed resumed
+  of_file Memory (inl untouched) = inl untouched
+  of_file Memory (inr on) = inr (λ told there. subst (λ (bs : List ℕ). GoesOn c budget v bs old new left0 left1 Memory) (held told there) on)
+  of_file Long resumed = moved Long resumed
+  of_file (Objected what) resumed = moved (Objected what) resumed
+
+module _ (text : List ℕ) (budget : ℕ) (v : Version) (files : Option (List ℕ → List ℕ)) (name : List ℕ) (old new : Option (List Move)) (left0 left1 : Option (List ℕ)) where
+  -- so the command ended so for the text
+  pub resumes_text : (end : End) → ResumesIts text budget v files name old new left0 left1 end → ResumesText text budget v files name old new left0 left1 end
+  resumes_text Done its = its
+  resumes_text Usage its = its
+  resumes_text (Refused why) its = absurd its.resumes
+  resumes_text (Input fault) its = its
+  resumes_text (Budget at) its = its
+  resumes_text (Deep at) its = its
+  resumes_text Open its = its
+  resumes_text FileFailed its = its
+  resumes_text ReadFailed its = its
+  resumes_text WriteFailed its = its
+  resumes_text Memory its = inr its
+  resumes_text Long its = its
+  resumes_text (Objected what) its = its

@@ -1,0 +1,3 @@
+-- Lemmas.
+pub mod Places
+pub mod Ends
