@@ -1,0 +1,4 @@
+pub mod Arguments
+pub mod NameLists
+pub mod FreeLists
+pub mod Lists

@@ -1,0 +1,7 @@
+-- What the contracts cite.
+pub mod Arguments
+pub mod Free
+pub mod Given
+pub mod Laters
+pub mod Sizes
+pub mod Walk
