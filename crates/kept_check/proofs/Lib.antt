@@ -2,3 +2,11 @@ pub mod Arguments
 pub mod NameLists
 pub mod FreeLists
 pub mod Lists
+pub mod ReadSizes
+pub mod Turns
+pub mod ParameterFacts
+pub mod LetPlaces
+pub mod BoundTogether
+pub mod InputContexts
+pub mod Placed
+pub mod FirstStates

@@ -3,5 +3,6 @@ pub mod Arguments
 pub mod Free
 pub mod Given
 pub mod Laters
+pub mod Loading
 pub mod Sizes
 pub mod Walk

@@ -1,20 +1,23 @@
 //! The walk over the states of a kept state, to the first that isn't as it should be.
 
-ghost use Rattle.std.specs.Prelude.{◌≡◌, ◌<◌, ◌+◌, ◌^◌, ◌++◌, true, ℕ, IfOk, OnOk};
-ghost use Rattle.stream_type.specs.StreamType.{type_of};
+ghost use Rattle.std.specs.Prelude.{◌≡◌, ◌↔◌, ◌==◌, ◌<◌, ◌+◌, ◌^◌, ◌&&◌, ◌||◌, ◌++◌, true, ℕ, IsTrue, IfOk, OnOk};
+ghost use Rattle.stream_type.specs.StreamType.{type_of, eps};
 ghost use Rattle.bunch.specs.Names.{numbers_of};
 ghost use Rattle.bunch.specs.Facts.{place_let};
 ghost use Rattle.core_term.specs.CoreTerm.{core_of, typed_names_of};
+ghost use Rattle.core_term.specs.FreeNames.{bound_names, is_distinct};
 ghost use Rattle.core_term.specs.Inert.{is_inert_fun};
-ghost use Rattle.core_term.specs.Typing.{with_name};
+ghost use Rattle.core_term.specs.Typing.{type_at, with_name};
 ghost use Rattle.delta_check.specs.Counting.{counts_in};
 ghost use Rattle.delta_check.specs.Scopes.{context_in, given_at, facts_given, place_known};
 ghost use Rattle.delta_state.specs.StateTree.{argument_names, free_in_state};
 ghost use Rattle.delta_state.specs.StateTyping.{marks_of_arguments, facts_of_arguments, context_of_arguments};
-ghost use Rattle.delta_keep.specs.KeptView.{state_of};
-ghost use Rattle.kept_check.specs.Arguments.{arguments_from};
-ghost use Rattle.kept_rules.specs.InTurn.{own_names, names_in_turn, names_of_parts, names_of_arguments, states_of, states_in, states_of_arguments};
-ghost use Rattle.kept_check.specs.Sizes.{codes_fit, codes_fit_in, states_number, states_of_parts, states_in_arguments};
+ghost use Rattle.kept_state.specs.KeptBytes.{nodes_in_state, nodes_in_arguments};
+ghost use Rattle.kept_rules.specs.InTurn.{own_names, names_in_turn, names_of_parts, names_of_arguments, state_at, states_of, states_in, states_of_arguments};
+ghost use Rattle.kept_rules.specs.StateRules.{FollowsRule, IsGood};
+ghost use Rattle.delta_keep.specs.KeptView.{state_of, later_of};
+ghost use Rattle.kept_check.specs.Arguments.{arguments_from, are_before, are_behind};
+ghost use Rattle.kept_check.specs.Sizes.{states_number, states_of_parts, states_in_arguments};
 ghost use Rattle.kept_check.specs.Walk.{FindsBad};
 
 use crate::bound::add_bound;
@@ -47,20 +50,51 @@ pub fn check_state<'a>(
     number: u32,
 ) -> Result<u32, Stop>
     requires number { number + states_number (state_of s.now) < 2 ^ 32 }
-    requires size { codes_fit (state_of s.now) }
+    requires size { nodes_in_state (state_of s.now) < 2 ^ 32 }
     requires marks { (f : ℕ) → counts_in (core_of c.now).funs marks.now f ≡ is_inert_fun (core_of c.now).funs f }
+    requires once { IsTrue (is_distinct (numbers_of bound.old.items)) }
     ensures found { FindsBad (core_of c.now).funs depth number (states_of (context_in scope.now) (type_of r.now) (numbers_of bound.old.items) (state_of s.now)) result }
     ensures names { OnOk result (numbers_of bound.new.items ≡ numbers_of bound.old.items ++ names_in_turn (state_of s.now)) }
 {
     let own = own_names(alloc, s)?;
-    let good = are_distinct(&own)
-        && are_apart(&own, bound)
-        && follows_rule(alloc, c, marks, depth, scope, s, r)?;
-    if !good {
+    if !is_good(alloc, c, marks, depth, scope, s, r, bound, &own)? {
         return Err(Stop::At(number));
     }
     bound.extend_from_slice(&own)?;
     check_parts(alloc, c, marks, depth, s, r, scope, bound, number + 1)
+}
+
+// Whether a state follows its rule and binds no name again, where `own` are the names that it binds.
+fn is_good(
+    alloc: Global,
+    c: &Core,
+    marks: &[bool],
+    depth: u64,
+    scope: &Scope<'_>,
+    s: &KeptState,
+    r: &Ty,
+    bound: &[Name],
+    own: &[Name],
+) -> Result<bool, Memory>
+    requires size { nodes_in_state (state_of s.now) < 2 ^ 32 }
+    requires marks { (f : ℕ) → counts_in (core_of c.now).funs marks.now f ≡ is_inert_fun (core_of c.now).funs f }
+    requires once { IsTrue (is_distinct (numbers_of bound.now)) }
+    requires own { numbers_of own.now ≡ own_names (state_of s.now) }
+    ensures { IfOk result (λ b. IsTrue b ↔ IsGood (core_of c.now).funs depth (state_at (context_in scope.now) (type_of r.now) (numbers_of bound.now) (state_of s.now))) }
+{
+    if binds_once(bound, own) {
+        follows_rule(alloc, c, marks, depth, scope, s, r)
+    } else {
+        Ok(false)
+    }
+}
+
+// Whether the names beside those that are bound before them are bound once.
+fn binds_once(bound: &[Name], own: &[Name]) -> bool
+    requires { IsTrue (is_distinct (numbers_of bound.now)) }
+    ensures { result ≡ is_distinct (numbers_of bound.now ++ numbers_of own.now) }
+{
+    are_distinct(own) && are_apart(own, bound)
 }
 
 // The names that a state binds by its own form and in its code that isn't reached.
@@ -121,8 +155,10 @@ fn check_parts<'a>(
     number: u32,
 ) -> Result<u32, Stop>
     requires number { number + states_of_parts (state_of s.now) < 2 ^ 32 }
-    requires size { codes_fit (state_of s.now) }
+    requires size { nodes_in_state (state_of s.now) < 2 ^ 32 }
     requires marks { (f : ℕ) → counts_in (core_of c.now).funs marks.now f ≡ is_inert_fun (core_of c.now).funs f }
+    requires once { IsTrue (is_distinct (numbers_of bound.old.items)) }
+    requires rule { FollowsRule (core_of c.now).funs depth (context_in scope.now) (state_of s.now) (type_of r.now) }
     ensures found { FindsBad (core_of c.now).funs depth number (states_in (context_in scope.now) (type_of r.now) (numbers_of bound.old.items) (state_of s.now)) result }
     ensures names { OnOk result (numbers_of bound.new.items ≡ numbers_of bound.old.items ++ names_of_parts (state_of s.now)) }
 {
@@ -192,9 +228,9 @@ fn check_two<'a>(
     number: u32,
 ) -> Result<u32, Stop>
     requires number { number + (states_number (state_of a.now) + states_number (state_of b.now)) < 2 ^ 32 }
-    requires first { codes_fit (state_of a.now) }
-    requires second { codes_fit (state_of b.now) }
+    requires size { nodes_in_state (state_of a.now) + nodes_in_state (state_of b.now) < 2 ^ 32 }
     requires marks { (f : ℕ) → counts_in (core_of c.now).funs marks.now f ≡ is_inert_fun (core_of c.now).funs f }
+    requires once { IsTrue (is_distinct (numbers_of bound.old.items)) }
     ensures found { FindsBad (core_of c.now).funs depth number (states_of (context_in outer.now) (type_of s.now) (numbers_of bound.old.items) (state_of a.now)
         ++ states_of (context_in inner.now) (type_of r.now) (numbers_of bound.old.items ++ names_in_turn (state_of a.now)) (state_of b.now)) result }
     ensures names { OnOk result (numbers_of bound.new.items ≡ numbers_of bound.old.items ++ (names_in_turn (state_of a.now) ++ names_in_turn (state_of b.now))) }
@@ -220,9 +256,9 @@ fn check_let<'a>(
     number: u32,
 ) -> Result<u32, Stop>
     requires number { number + (states_number (state_of a.now) + states_number (state_of b.now)) < 2 ^ 32 }
-    requires first { codes_fit (state_of a.now) }
-    requires second { codes_fit (state_of b.now) }
+    requires size { nodes_in_state (state_of a.now) + nodes_in_state (state_of b.now) < 2 ^ 32 }
     requires marks { (f : ℕ) → counts_in (core_of c.now).funs marks.now f ≡ is_inert_fun (core_of c.now).funs f }
+    requires once { IsTrue (is_distinct (numbers_of bound.old.items)) }
     ensures found { FindsBad (core_of c.now).funs depth number (states_of (context_in scope.now) (type_of t.now) (numbers_of bound.old.items) (state_of a.now)
         ++ states_of (with_name x.0 (type_of t.now) (place_let x.0 (free_in_state (state_of a.now)) true (context_in scope.now).order) (context_in scope.now)) (type_of r.now) (numbers_of bound.old.items ++ names_in_turn (state_of a.now)) (state_of b.now)) result }
     ensures names { OnOk result (numbers_of bound.new.items ≡ numbers_of bound.old.items ++ (names_in_turn (state_of a.now) ++ names_in_turn (state_of b.now))) }
@@ -262,9 +298,10 @@ fn check_frame<'a>(
     number: u32,
 ) -> Result<u32, Stop>
     requires number { number + (states_in_arguments (arguments_from args.now) + states_number (state_of s.now)) < 2 ^ 32 }
-    requires first { codes_fit_in (arguments_from args.now) }
-    requires second { codes_fit (state_of s.now) }
+    requires size { nodes_in_arguments (arguments_from args.now) + nodes_in_state (state_of s.now) < 2 ^ 32 }
     requires marks { (f : ℕ) → counts_in (core_of c.now).funs marks.now f ≡ is_inert_fun (core_of c.now).funs f }
+    requires once { IsTrue (is_distinct (numbers_of bound.old.items)) }
+    requires parameters { IsTrue (is_distinct (argument_names (arguments_from args.now))) }
     ensures found { FindsBad (core_of c.now).funs depth number (states_of_arguments (context_in scope.now) (numbers_of bound.old.items) (arguments_from args.now)
         ++ states_of (context_of_arguments (context_in scope.now) (arguments_from args.now)) (type_of r.now) (argument_names (arguments_from args.now)) (state_of s.now)) result }
     ensures names { OnOk result (numbers_of bound.new.items ≡ numbers_of bound.old.items ++ names_of_arguments (arguments_from args.now)) }
@@ -290,8 +327,9 @@ fn check_arguments<'a>(
     number: u32,
 ) -> Result<u32, Stop>
     requires number { number + states_in_arguments (arguments_from args.now) < 2 ^ 32 }
-    requires size { codes_fit_in (arguments_from args.now) }
+    requires size { nodes_in_arguments (arguments_from args.now) < 2 ^ 32 }
     requires marks { (f : ℕ) → counts_in (core_of c.now).funs marks.now f ≡ is_inert_fun (core_of c.now).funs f }
+    requires once { IsTrue (is_distinct (numbers_of bound.old.items)) }
     ensures found { FindsBad (core_of c.now).funs depth number (states_of_arguments (context_in scope.now) (numbers_of bound.old.items) (arguments_from args.now)) result }
     ensures names { OnOk result (numbers_of bound.new.items ≡ numbers_of bound.old.items ++ names_of_arguments (arguments_from args.now)) }
 {
@@ -324,6 +362,7 @@ fn parameter_order(
     scope: &Scope<'_>,
     args: &[Argument],
 ) -> Result<Vec<(Name, Name)>, Memory>
+    requires { IsTrue (is_distinct (argument_names (arguments_from args.now))) }
     ensures { IfOk result (λ v. (x y : ℕ) → facts_given v.items x y ≡ facts_of_arguments (context_in scope.now) (arguments_from args.now) x y) }
 {
     let mut facts = Vec::new(alloc);
@@ -342,11 +381,27 @@ fn add_order(
     free: &[Name],
     args: &[Argument],
     facts: &mut Vec<(Name, Name)>,
-) -> Result<(), Memory> {
+) -> Result<(), Memory>
+    ensures { OnOk result ((x y : ℕ) → facts_given facts.new.items x y
+        ≡ (facts_given facts.old.items x y || ((x == u.0) && are_behind (context_in scope.now) (numbers_of free.now) (arguments_from args.now) y))) }
+{
     for arg in args {
-        if all_before(scope, free, &free_in(alloc, &arg.state)?) {
+        if stands_before(alloc, scope, free, &arg.state)? {
             facts.push((u, arg.name))?;
         }
     }
     Ok(())
+}
+
+// Whether each of the names stands before each free name of a state.
+fn stands_before(
+    alloc: Global,
+    scope: &Scope<'_>,
+    names: &[Name],
+    s: &KeptState,
+) -> Result<bool, Memory>
+    ensures { IfOk result (λ b. b ≡ are_before (context_in scope.now) (numbers_of names.now) (free_in_state (state_of s.now))) }
+{
+    let others = free_in(alloc, s)?;
+    Ok(all_before(scope, names, &others))
 }

@@ -1,8 +1,8 @@
 //! Whether what a kept state says of the input may be so.
 
-ghost use Rattle.std.specs.Prelude.{◌≡◌, ◌↔◌, ◌+◌, ◌<◌, take, drop, IsTrue, IfSome, IfNone};
+ghost use Rattle.std.specs.Prelude.{◌≡◌, ◌↔◌, ◌+◌, ◌<◌, nat_le, take, drop, length, IsTrue, IfSome, IfNone};
 ghost use Rattle.std.specs.List.{list_all};
-ghost use Rattle.stream_type.specs.StreamType.{type_of, null_of, eps};
+ghost use Rattle.stream_type.specs.StreamType.{type_of, null_of, reach_of, eps};
 ghost use Rattle.bunch.specs.BunchTree.{tree_of, leaf_names};
 ghost use Rattle.core_term.specs.Agreement.{types_in};
 ghost use Rattle.core_term.specs.Parts.{is_same_type};
@@ -13,8 +13,8 @@ use bunch::{Bunch, Name};
 use core_term::params::type_of_name;
 use stream_type::{Ty, null, same};
 
-/// How many of n are left after the semicolons of a bunch, or None where there are more of these.
-pub fn left_of(b: &Bunch, n: usize) -> Option<usize>
+// How many of n are left after the semicolons of a bunch, or None where there are more of these.
+fn left_of(b: &Bunch, n: usize) -> Option<usize>
     ensures left { IfSome result (λ m. m + semi_count (tree_of b.now) ≡ n) }
     ensures none { IfNone result (n < semi_count (tree_of b.now)) }
 {
@@ -22,6 +22,29 @@ pub fn left_of(b: &Bunch, n: usize) -> Option<usize>
         Bunch::Empty | Bunch::Leaf(_, _) => Some(n),
         Bunch::Comma(a, b) => left_of(b, left_of(a, n)?),
         Bunch::Semi(a, b) => left_of(b, left_of(a, n.checked_sub(1)?)?),
+    }
+}
+
+/// Whether there is a mark for each semicolon of a bunch.
+pub fn has_cuts(b: &Bunch, cuts: &[bool]) -> bool
+    ensures { IsTrue result ↔ (length cuts.now ≡ semi_count (tree_of b.now)) }
+{
+    match left_of(b, cuts.len()) {
+        Some(left) => left == 0,
+        None => false,
+    }
+}
+
+/// Whether the reach of a type is n at least.
+pub fn reaches(t: &Ty, n: u32) -> bool
+    ensures { result ≡ nat_le n (reach_of (type_of t.now)) }
+{
+    match t {
+        Ty::Eps | Ty::One | Ty::Int => n == 0,
+        Ty::Cat(a, b) => n == 0 || reaches(a, n - 1) || reaches(b, n),
+        Ty::Par(a, b) => n == 0 || reaches(a, n - 1) || reaches(b, n - 1),
+        Ty::Sum(a, b) => reaches(a, n) || reaches(b, n),
+        Ty::Star(a) => n == 0 || reaches(a, n - 1),
     }
 }
 
