@@ -31,7 +31,7 @@ joined (x ∷ xs) ys d e h =
     rest z i false j = j
 
 -- so both tests tell whether all are distinct
-pub once_joined : (xs ys : List ℕ) → is_distinct xs ≡ true → (is_distinct ys && list_all (λ y. not (holds y xs)) ys) ≡ is_distinct (xs ++ ys)
+once_joined : (xs ys : List ℕ) → is_distinct xs ≡ true → (is_distinct ys && list_all (λ y. not (holds y xs)) ys) ≡ is_distinct (xs ++ ys)
 once_joined xs ys d = go (is_distinct ys && list_all (λ y. not (holds y xs)) ys) (is_distinct (xs ++ ys)) refl refl
   where
     apart : (is_distinct ys && list_all (λ y. not (holds y xs)) ys) ≡ true → (z : ℕ) → holds z ys ≡ true → holds z xs ≡ false
@@ -43,3 +43,10 @@ once_joined xs ys d = go (is_distinct ys && list_all (λ y. not (holds y xs)) ys
     go false true e f =
         absurd (true≢false (sym (both (is_distinct ys) (list_all (λ y. not (holds y xs)) ys) (distinct_right xs ys f) (holds-all (λ y. not (holds y xs)) ys (λ z i. ap not (parts_apart xs ys f z i)))) ∙ e))
     go false false e f = e ∙ sym f
+
+-- as far as they are run
+pub once_then : (xs ys : List ℕ) (a b : Bool) → is_distinct xs ≡ true → a ≡ is_distinct ys → a ≡ true → b ≡ list_all (λ y. not (holds y xs)) ys → b ≡ is_distinct (xs ++ ys)
+once_then xs ys a b d e h f = f ∙ ap (λ c. c && list_all (λ y. not (holds y xs)) ys) (sym h ∙ e) ∙ once_joined xs ys d
+
+pub once_else : (xs ys : List ℕ) (a : Bool) → is_distinct xs ≡ true → a ≡ is_distinct ys → a ≡ false → a ≡ is_distinct (xs ++ ys)
+once_else xs ys a d e h = h ∙ ap (λ c. c && list_all (λ y. not (holds y xs)) ys) (sym h ∙ e) ∙ once_joined xs ys d

@@ -30,11 +30,11 @@ given_is (p ∷ v) x = go (x == p.0.0) (given_is v x)
 not_there : (xs : List ℕ) (ts : List StreamType) (x : ℕ) → holds x xs ≡ false → value_at eps xs ts x ≡ eps
 not_there [] ts x h = refl
 not_there (y ∷ xs) [] x h = refl
-not_there (y ∷ xs) (t ∷ ts) x h = go (x == y) h
+not_there (y ∷ xs) (t ∷ ts) x h = go (x == y) (not_there xs ts x) h
   where
-    go : (b : Bool) → (b || holds x xs) ≡ false → (if b then t else value_at eps xs ts x) ≡ eps
-    go true i = absurd (true≢false i)
-    go false i = not_there xs ts x i
+    go : (b : Bool) → (holds x xs ≡ false → value_at eps xs ts x ≡ eps) → (b || holds x xs) ≡ false → (if b then t else value_at eps xs ts x) ≡ eps
+    go true f i = absurd (true≢false i)
+    go false f i = f i
 
 given-value : (v : List (Name × Ty)) (x : ℕ) → type_given v x ≡ value_at eps (names_in v) (types_listed v) x
 given-value v x = ap (λ o. unwrap_or o eps) (given_is v x) ∙ go (holds x (names_in v)) refl

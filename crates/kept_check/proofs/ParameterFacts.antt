@@ -103,11 +103,11 @@ row_put false g r = refl
 -- where no parameter stands twice, the one with a name is the first
 not_there : (p : StateTree → Bool) (args : ArgumentTrees) (x : ℕ) → holds x (argument_names args) ≡ false → some_argument p args x ≡ false
 not_there p no_arguments x h = refl
-not_there p (argument_before u t s args) x h = go (x == u) h
+not_there p (argument_before u t s args) x h = go (x == u) (not_there p args x) h
   where
-    go : (b : Bool) → (b || holds x (argument_names args)) ≡ false → ((b && p s) || some_argument p args x) ≡ false
-    go true i = absurd (true≢false i)
-    go false i = not_there p args x i
+    go : (b : Bool) → (holds x (argument_names args) ≡ false → some_argument p args x ≡ false) → (b || holds x (argument_names args)) ≡ false → ((b && p s) || some_argument p args x) ≡ false
+    go true f i = absurd (true≢false i)
+    go false f i = f i
 
 not_true : (b : Bool) → not b ≡ true → b ≡ false
 not_true true h = absurd (true≢false (sym h))
@@ -115,7 +115,7 @@ not_true false h = refl
 
 some_is : (p : StateTree → Bool) (args : ArgumentTrees) (x : ℕ) → is_distinct (argument_names args) ≡ true → some_argument p args x ≡ (holds x (argument_names args) && p (argument_at args x))
 some_is p no_arguments x d = refl
-some_is p (argument_before u t s args) x d = go (x == u) refl
+some_is p (argument_before u t s args) x d = go (x == u) refl (some_is p args x (and_second (not (holds u (argument_names args))) (is_distinct (argument_names args)) d))
   where
     rest : Bool
     rest = some_argument p args x
@@ -127,9 +127,9 @@ some_is p (argument_before u t s args) x d = go (x == u) refl
     or_not true r e = refl
     or_not false r e = e
 
-    go : (b : Bool) → (x == u) ≡ b → ((b && p s) || rest) ≡ ((b || holds x (argument_names args)) && p (if b then s else argument_at args x))
-    go true e = or_not (p s) rest (alone (eqb-true x u e))
-    go false e = some_is p args x (and_second (not (holds u (argument_names args))) (is_distinct (argument_names args)) d)
+    go : (b : Bool) → (x == u) ≡ b → rest ≡ (holds x (argument_names args) && p (argument_at args x)) → ((b && p s) || rest) ≡ ((b || holds x (argument_names args)) && p (if b then s else argument_at args x))
+    go true e f = or_not (p s) rest (alone (eqb-true x u e))
+    go false e f = f
 
 and_assoc : (a b d : Bool) → (a && (b && d)) ≡ ((a && b) && d)
 and_assoc true b d = refl

@@ -22,23 +22,28 @@ same_told false s t h = go (is_same_type s t) refl
     go true e = absurd (true≢false (sym (h.1 (is_same_type-true s t e))))
     go false e = sym e
 
--- all names of a bunch are over where each of them is
-pub over_told : (b : Bool) (a : BunchTree) (types : NameTypes) → b ≡ list_all (λ x. null_of (types x)) (leaf_names a) → IsTrue b ↔ IsOver a types
-over_told b a types e = (λ h. all-holds (λ x. null_of (types x)) (leaf_names a) (sym e ∙ h), λ f. e ∙ holds-all (λ x. null_of (types x)) (leaf_names a) f)
+-- all names of a bunch are over where each of them is, and more is asked of its parts
+pub over_then : (b r : Bool) (a : BunchTree) (types : NameTypes) (P Q : Type 0) → b ≡ list_all (λ x. null_of (types x)) (leaf_names a) → b ≡ true → (IsTrue r ↔ (P × Q)) → IsTrue r ↔ (IsOver a types × P × Q)
+over_then b r a types P Q e h k = (λ i. (all-holds (λ x. null_of (types x)) (leaf_names a) (sym e ∙ h), (k.0 i).0, (k.0 i).1), λ p. k.1 (p.1, p.2))
+
+pub over_else : (b : Bool) (a : BunchTree) (types : NameTypes) (P Q : Type 0) → b ≡ list_all (λ x. null_of (types x)) (leaf_names a) → b ≡ false → IsTrue b ↔ (IsOver a types × P × Q)
+over_else b a types P Q e h = (λ i. absurd (true≢false (sym i ∙ h)), λ p. e ∙ holds-all (λ x. null_of (types x)) (leaf_names a) p.0)
 
 -- a bunch is untouched where each name has its type, and no mark has come
-pub untouched_told : (b d : Bool) (a : BunchTree) (types : NameTypes) (cuts : List Bool) → b ≡ list_all (λ x. is_same_type (types x) (types_in a x)) (leaf_names a) → (IsTrue d ↔ IsUncut a cuts)
-    → IsTrue (b && d) ↔ IsUntouched a types cuts
-untouched_told b d a types cuts e h = (
-  λ i. record {
-    are_declared = λ x m. is_same_type-true (types x) (types_in a x) (all-holds (λ y. is_same_type (types y) (types_in a y)) (leaf_names a) (sym e ∙ and_first b d i) x m);
-    are_uncut = h.0 (and_second b d i);
-  },
-  λ u. both (e ∙ holds-all (λ y. is_same_type (types y) (types_in a y)) (leaf_names a) (λ x m. ap (is_same_type (types x)) (sym (u.are_declared x m)) ∙ is_same_type-same (types x))) (h.1 u.are_uncut),
-)
-  where
-    both : b ≡ true → d ≡ true → (b && d) ≡ true
-    both i j = ap (λ c. c && d) i ∙ j
+abbrev AreDeclared : BunchTree → NameTypes → Bool
+AreDeclared a types = list_all (λ x. is_same_type (types x) (types_in a x)) (leaf_names a)
+
+declared_told : (a : BunchTree) (types : NameTypes) → AreDeclared a types ≡ true → (x : ℕ) → holds x (leaf_names a) ≡ true → types x ≡ types_in a x
+declared_told a types e x m = is_same_type-true (types x) (types_in a x) (all-holds (λ y. is_same_type (types y) (types_in a y)) (leaf_names a) e x m)
+
+all_declared : (a : BunchTree) (types : NameTypes) → ((x : ℕ) → holds x (leaf_names a) ≡ true → types x ≡ types_in a x) → AreDeclared a types ≡ true
+all_declared a types h = holds-all (λ y. is_same_type (types y) (types_in a y)) (leaf_names a) (λ x m. ap (is_same_type (types x)) (sym (h x m)) ∙ is_same_type-same (types x))
+
+pub untouched_then : (b d : Bool) (a : BunchTree) (types : NameTypes) (cuts : List Bool) → b ≡ AreDeclared a types → b ≡ true → (IsTrue d ↔ IsUncut a cuts) → IsTrue d ↔ IsUntouched a types cuts
+untouched_then b d a types cuts e h k = (λ i. record { are_declared = declared_told a types (sym e ∙ h); are_uncut = k.0 i }, λ u. k.1 u.are_uncut)
+
+pub untouched_else : (b : Bool) (a : BunchTree) (types : NameTypes) (cuts : List Bool) → b ≡ AreDeclared a types → b ≡ false → IsTrue b ↔ IsUntouched a types cuts
+untouched_else b a types cuts e h = (λ i. absurd (true≢false (sym i ∙ h)), λ u. e ∙ all_declared a types u.are_declared)
 
 -- a name that isn't in a bunch has no type there
 second : (c d : Bool) (s t : StreamType) → (c || d) ≡ false → (d ≡ false → t ≡ eps) → (if c then s else t) ≡ eps

@@ -1,5 +1,5 @@
 -- What is read has no more states, and no more nodes of code and of types, than bytes.
-use Rattle.std.proofs.Common.{◌≡◌, ◌+◌, ◌<◌, ◌≤◌, ◌^◌, ℕ, suc, List, [], ◌∷◌, ◌++◌, length, drop, get_or, length-append, subst, arith}
+use Rattle.std.proofs.Common.{◌≡◌, ◌+◌, ◌<◌, ◌≤◌, ◌^◌, ℕ, suc, List, [], ◌∷◌, ◌++◌, length, drop, get_or, length-append, arith}
 use Rattle.std.specs.List.{All}
 use Rattle.std.proofs.lemmas.List.Elements.{All-append, All-nil, All-cons}
 use Rattle.stream_type.specs.StreamType.{StreamType, eps, one, int, cat, par, sum, star, size_of}
@@ -9,142 +9,143 @@ use Rattle.kept_state.specs.KeptTree.{KeptTree}
 use Rattle.kept_state.specs.KeptBytes.{short_bytes, long_bytes, list_bytes, bool_bytes, type_bytes, expr_bytes, places_behind, node_bytes, inside, term_bytes, terms_bytes, known_bytes, held_name_bytes, later_bytes, nodes_in_state, nodes_in_arguments, state_bytes, arguments_bytes, kept_bytes, most_bytes}
 use Rattle.kept_check.specs.Sizes.{codes_fit, states_of_parts, states_in_arguments, states_number, IsSmall}
 
--- bytes stand before so many, or behind them
-before : (n : ℕ) (xs ys : List ℕ) → n ≤ length xs → n ≤ length (xs ++ ys)
-before n xs ys h = omega (arith, h, length-append xs ys)
+-- there are so many bytes at least
+record IsLong (n : ℕ) (bytes : List ℕ) : Type 0 where
+  at : n ≤ length bytes
 
-behind : (n : ℕ) (xs ys : List ℕ) → n ≤ length ys → n ≤ length (xs ++ ys)
-behind n xs ys h = omega (arith, h, length-append xs ys)
+-- so there are beside others
+before : {n : ℕ} {xs : List ℕ} (ys : List ℕ) → IsLong n xs → IsLong n (xs ++ ys)
+before {xs = xs} ys h = record { at = omega (arith, h.at, length-append xs ys) }
 
-both : (m n : ℕ) (xs ys : List ℕ) → m ≤ length xs → n ≤ length ys → m + n ≤ length (xs ++ ys)
-both m n xs ys h k = omega (arith, h, k, length-append xs ys)
+behind : {n : ℕ} {ys : List ℕ} (xs : List ℕ) → IsLong n ys → IsLong n (xs ++ ys)
+behind {ys = ys} xs h = record { at = omega (arith, h.at, length-append xs ys) }
+
+both : {m n : ℕ} {xs ys : List ℕ} → IsLong m xs → IsLong n ys → IsLong (m + n) (xs ++ ys)
+both {xs = xs} {ys = ys} h k = record { at = omega (arith, h.at, k.at, length-append xs ys) }
 
 -- one byte more
-one_more : (n : ℕ) (xs : List ℕ) (b : ℕ) → n ≤ length xs → 1 + n ≤ length (b ∷ xs)
-one_more n xs b h = omega (arith, h)
+one_more : {n : ℕ} {xs : List ℕ} (b : ℕ) → IsLong n xs → IsLong (1 + n) (b ∷ xs)
+one_more b h = record { at = omega (arith, h.at) }
+
+-- a byte
+one_byte : (b : ℕ) (xs : List ℕ) → IsLong 1 (b ∷ xs)
+one_byte b xs = record { at = omega arith }
+
+-- none are needed for none
+nothing : (xs : List ℕ) → IsLong 0 xs
+nothing xs = record { at = omega arith }
+
+-- fewer, too
+fewer : {m n : ℕ} {xs : List ℕ} → IsLong n xs → m ≤ n → IsLong m xs
+fewer h l = record { at = omega (arith, l, h.at) }
 
 -- a type
-type_long : (t : StreamType) → size_of t ≤ length (type_bytes t)
-type_long eps = omega arith
-type_long one = omega arith
-type_long int = omega arith
-type_long (cat a b) = one_more _ _ 3 (both _ _ _ _ (type_long a) (type_long b))
-type_long (par a b) = one_more _ _ 4 (both _ _ _ _ (type_long a) (type_long b))
-type_long (sum a b) = one_more _ _ 5 (both _ _ _ _ (type_long a) (type_long b))
-type_long (star a) = one_more _ _ 6 (type_long a)
+type_long : (t : StreamType) → IsLong (size_of t) (type_bytes t)
+type_long eps = one_byte 0 []
+type_long one = one_byte 1 []
+type_long int = one_byte 2 []
+type_long (cat a b) = one_more 3 (both (type_long a) (type_long b))
+type_long (par a b) = one_more 4 (both (type_long a) (type_long b))
+type_long (sum a b) = one_more 5 (both (type_long a) (type_long b))
+type_long (star a) = one_more 6 (type_long a)
+
+-- a node
+node_long : {n : ℕ} (places : List ℕ) {bytes : List ℕ} → IsLong n bytes → IsLong n (node_bytes places bytes)
+node_long places h = behind (short_bytes (get_or places 0 0)) h
 
 mutual
   -- a term
-  term_long : (e : CoreTerm) (places : List ℕ) → node_count e ≤ length (term_bytes e places)
-  term_long (var_term x) places = omega arith
-  term_long eps_term places = omega arith
-  term_long unit_term places = omega arith
-  term_long nil_term places = omega arith
-  term_long (past_term m) places = omega arith
-  term_long (par_term a b) places = one_more _ _ 4 (both _ _ _ _ (node_long a places) (node_long b (places_behind a places)))
-  term_long (cat_term a b) places = one_more _ _ 5 (both _ _ _ _ (node_long a places) (node_long b (places_behind a places)))
-  term_long (cons_term a b) places = one_more _ _ 9 (both _ _ _ _ (node_long a places) (node_long b (places_behind a places)))
-  term_long (inl_term a) places = one_more _ _ 6 (node_long a places)
-  term_long (inr_term a) places = one_more _ _ 7 (node_long a places)
+  term_long : (e : CoreTerm) (places : List ℕ) → IsLong (node_count e) (term_bytes e places)
+  term_long (var_term x) places = one_byte 0 (short_bytes x)
+  term_long eps_term places = one_byte 1 []
+  term_long unit_term places = one_byte 2 []
+  term_long nil_term places = one_byte 8 []
+  term_long (past_term m) places = one_byte 3 (expr_bytes m)
+  term_long (par_term a b) places = one_more 4 (both (node_long places (term_long a (inside places))) (node_long (places_behind a places) (term_long b (inside (places_behind a places)))))
+  term_long (cat_term a b) places = one_more 5 (both (node_long places (term_long a (inside places))) (node_long (places_behind a places) (term_long b (inside (places_behind a places)))))
+  term_long (cons_term a b) places = one_more 9 (both (node_long places (term_long a (inside places))) (node_long (places_behind a places) (term_long b (inside (places_behind a places)))))
+  term_long (inl_term a) places = one_more 6 (node_long places (term_long a (inside places)))
+  term_long (inr_term a) places = one_more 7 (node_long places (term_long a (inside places)))
   term_long (let_term x s a b) places =
-      one_more _ _ 10 (behind _ (short_bytes x) _ (behind _ (type_bytes s) _ (both _ _ _ _ (node_long a places) (node_long b (places_behind a places)))))
-  term_long (let_par_term x y z a) places = one_more _ _ 11 (behind _ (short_bytes x) _ (behind _ (short_bytes y) _ (behind _ (short_bytes z) _ (node_long a places))))
-  term_long (let_cat_term x y z a) places = one_more _ _ 12 (behind _ (short_bytes x) _ (behind _ (short_bytes y) _ (behind _ (short_bytes z) _ (node_long a places))))
+      one_more 10 (behind (short_bytes x) (behind (type_bytes s) (both (node_long places (term_long a (inside places))) (node_long (places_behind a places) (term_long b (inside (places_behind a places)))))))
+  term_long (let_par_term x y z a) places = one_more 11 (behind (short_bytes x) (behind (short_bytes y) (behind (short_bytes z) (node_long places (term_long a (inside places))))))
+  term_long (let_cat_term x y z a) places = one_more 12 (behind (short_bytes x) (behind (short_bytes y) (behind (short_bytes z) (node_long places (term_long a (inside places))))))
   term_long (case_sum_term z t x a y b) places =
-      one_more _ _ 13 (behind _ (short_bytes z) _ (behind _ (type_bytes t) _ (behind _ (short_bytes x) _
-      (both _ _ _ _ (node_long a places) (behind _ (short_bytes y) _ (node_long b (places_behind a places)))))))
+      one_more 13 (behind (short_bytes z) (behind (type_bytes t) (behind (short_bytes x) (both (node_long places (term_long a (inside places))) (behind (short_bytes y) (node_long (places_behind a places) (term_long b (inside (places_behind a places)))))))))
   term_long (case_star_term z t a y ys b) places =
-      one_more _ _ 14 (behind _ (short_bytes z) _ (behind _ (type_bytes t) _
-      (both _ _ _ _ (node_long a places) (behind _ (short_bytes y) _ (behind _ (short_bytes ys) _ (node_long b (places_behind a places)))))))
-  term_long (wait_term x t a) places = one_more _ _ 15 (behind _ (short_bytes x) _ (behind _ (type_bytes t) _ (node_long a places)))
+      one_more 14 (behind (short_bytes z) (behind (type_bytes t) (both (node_long places (term_long a (inside places))) (behind (short_bytes y) (behind (short_bytes ys) (node_long (places_behind a places) (term_long b (inside (places_behind a places)))))))))
+  term_long (wait_term x t a) places = one_more 15 (behind (short_bytes x) (behind (type_bytes t) (node_long places (term_long a (inside places)))))
   term_long (call_term f ms es) places =
-      one_more _ _ 16 (behind _ (short_bytes f) _ (behind _ (list_bytes expr_bytes ms) _ (behind _ (short_bytes (term_count es)) _ (terms_long es places))))
-
-  -- a node
-  node_long : (e : CoreTerm) (places : List ℕ) → node_count e ≤ length (node_bytes places (term_bytes e (inside places)))
-  node_long e places = behind _ (short_bytes (get_or places 0 0)) _ (term_long e (inside places))
+      one_more 16 (behind (short_bytes f) (behind (list_bytes expr_bytes ms) (behind (short_bytes (term_count es)) (terms_long es places))))
 
   -- the terms of a call
-  terms_long : (es : CoreTerms) (places : List ℕ) → node_counts es ≤ length (terms_bytes es places)
-  terms_long no_terms places = omega arith
-  terms_long (term_before e es) places = both _ _ _ _ (node_long e places) (terms_long es (places_behind e places))
+  terms_long : (es : CoreTerms) (places : List ℕ) → IsLong (node_counts es) (terms_bytes es places)
+  terms_long no_terms places = nothing []
+  terms_long (term_before e es) places = both (node_long places (term_long e (inside places))) (terms_long es (places_behind e places))
 
 -- code that isn't reached
-later_long : (l : LaterTree) (places : List ℕ) → node_count l.term ≤ length (later_bytes l places)
-later_long l places = before _ _ _ (node_long l.term places)
+later_long : (l : LaterTree) (places : List ℕ) → IsLong (node_count l.term) (later_bytes l places)
+later_long l places = before (list_bytes known_bytes l.past ++ long_bytes l.depth) (node_long places (term_long l.term (inside places)))
 
 mutual
   -- a state: the nodes of its code, and the states in it
-  state_long : (s : StateTree) (places : List ℕ) → nodes_in_state s + states_number s ≤ length (state_bytes s places)
-  state_long (sink t) places = omega arith
-  state_long (var_state x) places = omega arith
+  state_long : (s : StateTree) (places : List ℕ) → IsLong (nodes_in_state s + states_number s) (state_bytes s places)
+  state_long (sink t) places = fewer (one_byte 0 (type_bytes t)) (omega arith)
+  state_long (var_state x) places = fewer (one_byte 1 (short_bytes x)) (omega arith)
   state_long (par_state a b) places =
-      let h = one_more _ _ 2 (both _ _ (state_bytes a places) (state_bytes b (drop (nodes_in_state a) places)) (state_long a places) (state_long b (drop (nodes_in_state a) places))) in
-      omega (arith, h)
+      fewer (one_more 2 (both (state_long a places) (state_long b (drop (nodes_in_state a) places)))) (omega arith)
   state_long (cat_state a l) places =
-      let h = one_more _ _ 3 (both _ _ (state_bytes a places) (later_bytes l (drop (nodes_in_state a) places)) (state_long a places) (later_long l (drop (nodes_in_state a) places))) in
-      omega (arith, h)
+      fewer (one_more 3 (both (state_long a places) (later_long l (drop (nodes_in_state a) places)))) (omega arith)
   state_long (let_state x s a b) places =
-      let h = one_more _ _ 4 (behind _ (short_bytes x) _ (behind _ (type_bytes s) _
-      (both _ _ (state_bytes a places) (state_bytes b (drop (nodes_in_state a) places)) (state_long a places) (state_long b (drop (nodes_in_state a) places))))) in
-      omega (arith, h)
+      fewer (one_more 4 (behind (short_bytes x) (behind (type_bytes s) (both (state_long a places) (state_long b (drop (nodes_in_state a) places)))))) (omega arith)
   state_long (let_par_state x y z a) places =
-      let h = one_more _ _ 5 (behind _ (short_bytes x) _ (behind _ (short_bytes y) _ (behind _ (short_bytes z) (state_bytes a places) (state_long a places)))) in omega (arith, h)
+      fewer (one_more 5 (behind (short_bytes x) (behind (short_bytes y) (behind (short_bytes z) (state_long a places))))) (omega arith)
   state_long (let_cat_state x y z a) places =
-      let h = one_more _ _ 6 (behind _ (short_bytes x) _ (behind _ (short_bytes y) _ (behind _ (short_bytes z) (state_bytes a places) (state_long a places)))) in omega (arith, h)
+      fewer (one_more 6 (behind (short_bytes x) (behind (short_bytes y) (behind (short_bytes z) (state_long a places))))) (omega arith)
   state_long (sum_state z t held x l y m) places =
-      let h = one_more _ _ 7 (behind _ (short_bytes z) _ (behind _ (type_bytes t) _ (behind _ (list_bytes held_name_bytes held) _ (behind _ (short_bytes x) _
-      (both _ _ (later_bytes l places) _ (later_long l places) (behind _ (short_bytes y) (later_bytes m (places_behind l.term places)) (later_long m (places_behind l.term places)))))))) in
-      omega (arith, h)
+      fewer (one_more 7 (behind (short_bytes z) (behind (type_bytes t) (behind (list_bytes held_name_bytes held) (behind (short_bytes x) (both (later_long l places) (behind (short_bytes y) (later_long m (places_behind l.term places))))))))) (omega arith)
   state_long (star_state z t held l y ys m) places =
-      let h = one_more _ _ 8 (behind _ (short_bytes z) _ (behind _ (type_bytes t) _ (behind _ (list_bytes held_name_bytes held) _
-      (both _ _ (later_bytes l places) _ (later_long l places) (behind _ (short_bytes y) _ (behind _ (short_bytes ys) (later_bytes m (places_behind l.term places)) (later_long m (places_behind l.term places)))))))) in
-      omega (arith, h)
+      fewer (one_more 8 (behind (short_bytes z) (behind (type_bytes t) (behind (list_bytes held_name_bytes held) (both (later_long l places) (behind (short_bytes y) (behind (short_bytes ys) (later_long m (places_behind l.term places))))))))) (omega arith)
   state_long (wait_state x t held l) places =
-      let h = one_more _ _ 9 (behind _ (short_bytes x) _ (behind _ (type_bytes t) _ (behind _ (list_bytes held_name_bytes held) (later_bytes l places) (later_long l places)))) in
-      omega (arith, h)
+      fewer (one_more 9 (behind (short_bytes x) (behind (type_bytes t) (behind (list_bytes held_name_bytes held) (later_long l places))))) (omega arith)
   state_long (frame_state args s) places =
-      let h = one_more _ _ 10 (both _ _ (short_bytes (length (argument_names args)) ++ arguments_bytes args places) (state_bytes s (drop (nodes_in_arguments args) places))
-      (behind _ (short_bytes (length (argument_names args))) (arguments_bytes args places) (arguments_long args places)) (state_long s (drop (nodes_in_arguments args) places))) in
-      omega (arith, h)
+      fewer (one_more 10 (both (behind (short_bytes (length (argument_names args))) (arguments_long args places)) (state_long s (drop (nodes_in_arguments args) places)))) (omega arith)
 
   -- the arguments of a frame
-  arguments_long : (args : ArgumentTrees) (places : List ℕ) → nodes_in_arguments args + states_in_arguments args ≤ length (arguments_bytes args places)
-  arguments_long no_arguments places = omega arith
+  arguments_long : (args : ArgumentTrees) (places : List ℕ) → IsLong (nodes_in_arguments args + states_in_arguments args) (arguments_bytes args places)
+  arguments_long no_arguments places = fewer (nothing []) (omega arith)
   arguments_long (argument_before x t s args) places =
-      let h = both _ _ (short_bytes x ++ (type_bytes t ++ state_bytes s places)) (arguments_bytes args (drop (nodes_in_state s) places))
-      (behind _ (short_bytes x) (type_bytes t ++ state_bytes s places) (behind _ (type_bytes t) (state_bytes s places) (state_long s places))) (arguments_long args (drop (nodes_in_state s) places)) in
-      omega (arith, h)
+      fewer (both (behind (short_bytes x) (behind (type_bytes t) (state_long s places))) (arguments_long args (drop (nodes_in_state s) places))) (omega arith)
 
 -- so all that has a kept state's bytes is small, where there aren't too many
 pub small : (k : KeptTree) (places : List ℕ) → length (kept_bytes k places) ≤ most_bytes → IsSmall k
 small k places few =
-    let rest : List ℕ = type_bytes k.out ++ state_bytes k.state places in
-    let cuts : List ℕ = list_bytes bool_bytes k.cuts in
-    let ins : List ℕ = list_bytes type_bytes k.ins in
     let head : List ℕ = 0x44 ∷ (0x53 ∷ (0x54 ∷ (0x01 ∷ long_bytes k.events))) in
-    let long : size_of k.out + (nodes_in_state k.state + states_number k.state) ≤ length (kept_bytes k places) =
-    behind _ head (ins ++ (cuts ++ rest)) (behind _ ins (cuts ++ rest) (behind _ cuts rest (both _ _ (type_bytes k.out) (state_bytes k.state places) (type_long k.out) (state_long k.state places)))) in
-    record { has_type = omega (arith, long, few); has_states = omega (arith, long, few); has_nodes = omega (arith, long, few) }
+    let long : IsLong (size_of k.out + (nodes_in_state k.state + states_number k.state)) (kept_bytes k places) =
+    behind head (behind (list_bytes type_bytes k.ins) (behind (list_bytes bool_bytes k.cuts) (both (type_long k.out) (state_long k.state places)))) in
+    record { has_type = omega (arith, long.at, few); has_states = omega (arith, long.at, few); has_nodes = omega (arith, long.at, few) }
+
+abbrev Below : ℕ → LaterTree → Type 0
+Below n l = node_count l.term < n
 
 mutual
   -- no code of a state has more nodes than all of it
-  codes_within : (n : ℕ) (s : StateTree) → nodes_in_state s < n → All (λ l. node_count l.term < n) (laters_of s)
-  codes_within n (sink t) h = All-nil _
-  codes_within n (var_state x) h = All-nil _
-  codes_within n (par_state a b) h = All-append _ (laters_of a) (laters_of b) (codes_within n a (omega (arith, h))) (codes_within n b (omega (arith, h)))
-  codes_within n (cat_state a l) h = All-append _ (laters_of a) (l ∷ []) (codes_within n a (omega (arith, h))) (All-cons _ l [] (omega (arith, h)) (All-nil _))
-  codes_within n (let_state x s a b) h = All-append _ (laters_of a) (laters_of b) (codes_within n a (omega (arith, h))) (codes_within n b (omega (arith, h)))
+  codes_within : (n : ℕ) (s : StateTree) → nodes_in_state s < n → All (Below n) (laters_of s)
+  codes_within n (sink t) h = All-nil (Below n)
+  codes_within n (var_state x) h = All-nil (Below n)
+  codes_within n (par_state a b) h = All-append (Below n) (laters_of a) (laters_of b) (codes_within n a (omega (arith, h))) (codes_within n b (omega (arith, h)))
+  codes_within n (cat_state a l) h = All-append (Below n) (laters_of a) (l ∷ []) (codes_within n a (omega (arith, h))) (All-cons (Below n) l [] (omega (arith, h)) (All-nil (Below n)))
+  codes_within n (let_state x s a b) h = All-append (Below n) (laters_of a) (laters_of b) (codes_within n a (omega (arith, h))) (codes_within n b (omega (arith, h)))
   codes_within n (let_par_state x y z a) h = codes_within n a h
   codes_within n (let_cat_state x y z a) h = codes_within n a h
-  codes_within n (sum_state z t held x l y m) h = All-cons _ l (m ∷ []) (omega (arith, h)) (All-cons _ m [] (omega (arith, h)) (All-nil _))
-  codes_within n (star_state z t held l y ys m) h = All-cons _ l (m ∷ []) (omega (arith, h)) (All-cons _ m [] (omega (arith, h)) (All-nil _))
-  codes_within n (wait_state x t held l) h = All-cons _ l [] (omega (arith, h)) (All-nil _)
-  codes_within n (frame_state args s) h = All-append _ (laters_in args) (laters_of s) (codes_in n args (omega (arith, h))) (codes_within n s (omega (arith, h)))
+  codes_within n (sum_state z t held x l y m) h = All-cons (Below n) l (m ∷ []) (omega (arith, h)) (All-cons (Below n) m [] (omega (arith, h)) (All-nil (Below n)))
+  codes_within n (star_state z t held l y ys m) h = All-cons (Below n) l (m ∷ []) (omega (arith, h)) (All-cons (Below n) m [] (omega (arith, h)) (All-nil (Below n)))
+  codes_within n (wait_state x t held l) h = All-cons (Below n) l [] (omega (arith, h)) (All-nil (Below n))
+  codes_within n (frame_state args s) h = All-append (Below n) (laters_in args) (laters_of s) (codes_in n args (omega (arith, h))) (codes_within n s (omega (arith, h)))
 
-  codes_in : (n : ℕ) (args : ArgumentTrees) → nodes_in_arguments args < n → All (λ l. node_count l.term < n) (laters_in args)
-  codes_in n no_arguments h = All-nil _
-  codes_in n (argument_before x t s args) h = All-append _ (laters_of s) (laters_in args) (codes_within n s (omega (arith, h))) (codes_in n args (omega (arith, h)))
+  codes_in : (n : ℕ) (args : ArgumentTrees) → nodes_in_arguments args < n → All (Below n) (laters_in args)
+  codes_in n no_arguments h = All-nil (Below n)
+  codes_in n (argument_before x t s args) h = All-append (Below n) (laters_of s) (laters_in args) (codes_within n s (omega (arith, h))) (codes_in n args (omega (arith, h)))
 
 pub codes_small : (s : StateTree) → nodes_in_state s < 2 ^ 32 → codes_fit s
 codes_small s h = codes_within (2 ^ 32) s h

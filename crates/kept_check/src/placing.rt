@@ -6,7 +6,7 @@ ghost use Rattle.stream_type.specs.StreamType.{type_of, null_of, reach_of, eps};
 ghost use Rattle.bunch.specs.BunchTree.{tree_of, leaf_names};
 ghost use Rattle.core_term.specs.Agreement.{types_in};
 ghost use Rattle.core_term.specs.Parts.{is_same_type};
-ghost use Rattle.kept_state.specs.KeptPlace.{semi_count, first_cuts, second_cuts, IsUncut, IsUntouched, IsPlace};
+ghost use Rattle.kept_state.specs.KeptPlace.{semi_count, first_cuts, second_cuts, IsOver, IsUncut, IsUntouched, IsPlace};
 ghost use Rattle.kept_check.specs.Given.{type_given};
 
 use bunch::{Bunch, Name};
@@ -122,10 +122,20 @@ fn are_declared(part: &Bunch, whole: &Bunch, left: &[(Name, Ty)]) -> bool
 fn is_declared(x: Name, whole: &Bunch, left: &[(Name, Ty)]) -> bool
     ensures { result ≡ is_same_type (type_given left.now x.0) (types_in (tree_of whole.now) x.0) }
 {
-    let t = type_left(left, x, &Ty::Eps);
+    same(
+        type_left(left, x, &Ty::Eps),
+        declared_type(whole, x, &Ty::Eps),
+    )
+}
+
+// The type of a name in a bunch, or `other`, which is `eps`.
+fn declared_type<'a>(whole: &'a Bunch, x: Name, other: &'a Ty) -> &'a Ty
+    requires { type_of other.now ≡ eps }
+    ensures { type_of result.now ≡ types_in (tree_of whole.now) x.0 }
+{
     match type_of_name(whole, x) {
-        Some(s) => same(t, s),
-        None => matches!(t, Ty::Eps),
+        Some(t) => t,
+        None => other,
     }
 }
 
@@ -163,7 +173,7 @@ pub fn is_place(b: &Bunch, left: &[(Name, Ty)], cuts: &[bool]) -> bool
         Bunch::Comma(a, b) => are_places(a, b, left, cuts),
         Bunch::Semi(a, b) => match cuts {
             [] => false,
-            [true, rest @ ..] => is_over(a, left) && are_places(a, b, left, rest),
+            [true, rest @ ..] => is_past(a, b, left, rest),
             [false, rest @ ..] => is_before(a, b, left, rest),
         },
     }
@@ -176,6 +186,14 @@ fn are_places(a: &Bunch, b: &Bunch, left: &[(Name, Ty)], cuts: &[bool]) -> bool
 {
     let (first, rest) = parted(a, cuts);
     is_place(a, left, first) && is_place(b, left, rest)
+}
+
+// The same, and whether the first part is over.
+#[cycle(place)]
+fn is_past(a: &Bunch, b: &Bunch, left: &[(Name, Ty)], cuts: &[bool]) -> bool
+    ensures { IsTrue result ↔ (IsOver (tree_of a.now) (type_given left.now) × IsPlace (tree_of a.now) (type_given left.now) (first_cuts (tree_of a.now) cuts.now) × IsPlace (tree_of b.now) (type_given left.now) (second_cuts (tree_of a.now) cuts.now)) }
+{
+    is_over(a, left) && are_places(a, b, left, cuts)
 }
 
 // Whether the first part is in its place and of the second nothing has begun.
