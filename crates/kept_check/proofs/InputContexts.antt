@@ -1,20 +1,23 @@
 -- The scope of main's parameters, where types are left of them.
 use mathlib.Core.Path.{fun_ext}
-use Rattle.std.proofs.Common.{◌≡◌, ◌∙◌, ℕ, Bool, true, false, true≢false, ◌||◌, if◌then◌else◌, List, [], ◌∷◌, length, map, refl, ap, ap₂, sym, subst}
-use Rattle.std.specs.Prelude.{Option, Some, None, unwrap_or, ◌==◌}
+use Rattle.std.proofs.Common.{◌≡◌, ◌∙◌, ℕ, Bool, true, false, true≢false, ◌||◌, if◌then◌else◌, List, [], ◌∷◌, ◌≤◌, ◌^◌, length, map, refl, ap, ap₂, sym, subst}
+use Rattle.std.specs.Prelude.{Option, Some, None, unwrap_or, ◌==◌, IsTrue, ◌↔◌}
+use Rattle.std.proofs.lemmas.List.{length-map}
 use Rattle.stream_type.specs.declared.ty.Ty.{Ty}
-use Rattle.stream_type.specs.StreamType.{StreamType, type_of, eps}
+use Rattle.stream_type.specs.StreamType.{StreamType, type_of, eps, reach_of}
 use Rattle.bunch.specs.declared.name.Name.{Name}
 use Rattle.bunch.specs.Names.{holds, value_at}
 use Rattle.bunch.specs.BunchTree.{leaf_names, stands_before}
 use Rattle.bunch.specs.Facts.{Facts}
+use Rattle.core_term.specs.Environment.{NameTypes}
 use Rattle.core_term.specs.CoreTerm.{CoreProgram, typed_names_of}
 use Rattle.core_term.specs.Params.{names_in, types_listed}
 use Rattle.core_term.specs.Typing.{Context}
 use Rattle.delta_check.specs.Scopes.{given_at, context_given}
 use Rattle.delta_state.specs.StateTyping.{no_pasts}
 use Rattle.kept_state.specs.KeptTree.{KeptTree}
-use Rattle.kept_state.specs.KeptTyping.{types_kept, context_kept}
+use Rattle.kept_state.specs.KeptPlace.{semi_count, IsPlace}
+use Rattle.kept_state.specs.KeptTyping.{types_kept, context_kept, IsPlaced}
 use Rattle.kept_check.specs.Given.{type_given}
 
 given_is : (v : List (Name × Ty)) (x : ℕ) → given_at (typed_names_of v) x ≡ (if holds x (names_in v) then Some (value_at eps (names_in v) (types_listed v) x) else None)
@@ -53,3 +56,26 @@ pub input_context : (c : CoreProgram) (k : KeptTree) (v : List (Name × Ty)) (be
 input_context c k v before e f o =
     let made : (ℕ → Option StreamType) → Facts → Context = λ types order. record { types = types; order = order; past = no_pasts } in
     ap₂ made (fun_ext (λ x. given_is v x ∙ ap₂ (λ xs ts. if holds x xs then Some (value_at eps xs ts x) else None) e f)) o
+
+-- the marks fit to these types
+pub marks_fit : (c : CoreProgram) (k : KeptTree) (v : List (Name × Ty)) (r : Bool) → names_in v ≡ leaf_names c.main.params → types_listed v ≡ k.ins → length k.cuts ≡ semi_count c.main.params
+    → (IsTrue r ↔ IsPlace c.main.params (type_given v) k.cuts) → IsTrue r ↔ ((length k.cuts ≡ semi_count c.main.params) × IsPlace c.main.params (types_kept c k) k.cuts)
+marks_fit c k v r e f n h =
+    let P : NameTypes → Type 0 = λ types. IsPlace c.main.params types k.cuts in (
+      λ i. (n, subst P (types_are_left c k v e f) (h.0 i)),
+      λ p. h.1 (subst P (sym (types_are_left c k v e f)) p.1),
+    )
+
+-- all that is asked of the place of a kept state
+pub placed_where : (c : CoreProgram) (k : KeptTree) (v : List (Name × Ty)) (r : Bool) → names_in v ≡ leaf_names c.main.params → types_listed v ≡ k.ins
+    → ((k.events ≤ 2 ^ 41) × (reach_of k.out ≤ reach_of c.main.result)) → (IsTrue r ↔ ((length k.cuts ≡ semi_count c.main.params) × IsPlace c.main.params (types_kept c k) k.cuts)) → IsTrue r ↔ IsPlaced c k
+placed_where c k v r e f w h = (
+  λ i. record {
+    are_few = w.0;
+    reaches = w.1;
+    has_types = sym (ap length f) ∙ length-map v (λ p. type_of p.1) ∙ sym (length-map v (λ p. p.0.0)) ∙ ap length e;
+    has_cuts = (h.0 i).0;
+    is_place = (h.0 i).1;
+  },
+  λ p. h.1 (p.has_cuts, p.is_place),
+)

@@ -1,5 +1,7 @@
 -- What is read has no more states, and no more nodes of code and of types, than bytes.
-use Rattle.std.proofs.Common.{◌≡◌, ◌+◌, ◌<◌, ◌≤◌, ◌^◌, ℕ, suc, List, [], ◌∷◌, ◌++◌, length, drop, get_or, length-append, arith}
+use Rattle.std.proofs.Common.{◌≡◌, ◌+◌, ◌<◌, ◌≤◌, ◌^◌, ℕ, suc, List, [], ◌∷◌, ◌++◌, length, drop, get_or, length-append, Bool, true, false, nat_lt, if◌then◌else◌, refl, subst, arith}
+use Rattle.std.specs.Prelude.{Some, None, option_map}
+use Rattle.std.proofs.lemmas.Bool.Decides.{nat_tests}
 use Rattle.std.specs.List.{All}
 use Rattle.std.proofs.lemmas.List.Elements.{All-append, All-nil, All-cons}
 use Rattle.stream_type.specs.StreamType.{StreamType, eps, one, int, cat, par, sum, star, size_of}
@@ -7,6 +9,7 @@ use Rattle.core_term.specs.CoreTerm.{CoreTerm, CoreTerms, var_term, eps_term, un
 use Rattle.delta_state.specs.StateTree.{LaterTree, StateTree, ArgumentTrees, sink, var_state, par_state, cat_state, let_state, let_par_state, let_cat_state, sum_state, star_state, wait_state, frame_state, no_arguments, argument_before, argument_names, laters_of, laters_in}
 use Rattle.kept_state.specs.KeptTree.{KeptTree}
 use Rattle.kept_state.specs.KeptBytes.{short_bytes, long_bytes, list_bytes, bool_bytes, type_bytes, expr_bytes, places_behind, node_bytes, inside, term_bytes, terms_bytes, known_bytes, held_name_bytes, later_bytes, nodes_in_state, nodes_in_arguments, state_bytes, arguments_bytes, kept_bytes, most_bytes}
+use Rattle.kept_state.specs.KeptForm.{form_fault, bad_form, version_fault, or_else, fault_from, kept_parts}
 use Rattle.kept_check.specs.Sizes.{codes_fit, states_of_parts, states_in_arguments, states_number, IsSmall}
 
 -- there are so many bytes at least
@@ -118,12 +121,31 @@ mutual
       fewer (both (behind (short_bytes x) (behind (type_bytes t) (state_long s places))) (arguments_long args (drop (nodes_in_state s) places))) (omega arith)
 
 -- so all that has a kept state's bytes is small, where there aren't too many
-pub small : (k : KeptTree) (places : List ℕ) → length (kept_bytes k places) ≤ most_bytes → IsSmall k
+small : (k : KeptTree) (places : List ℕ) → length (kept_bytes k places) ≤ most_bytes → IsSmall k
 small k places few =
     let head : List ℕ = 0x44 ∷ (0x53 ∷ (0x54 ∷ (0x01 ∷ long_bytes k.events))) in
     let long : IsLong (size_of k.out + (nodes_in_state k.state + states_number k.state)) (kept_bytes k places) =
     behind head (behind (list_bytes type_bytes k.ins) (behind (list_bytes bool_bytes k.cuts) (both (type_long k.out) (state_long k.state places)))) in
     record { has_type = omega (arith, long.at, few); has_states = omega (arith, long.at, few); has_nodes = omega (arith, long.at, few) }
+
+not_more : (m n : ℕ) → nat_lt m n ≡ false → n ≤ m
+not_more m n e = grind (arith, nat_tests)
+
+-- where nothing is wrong with the form, there are few bytes
+few_bytes : (bytes : List ℕ) → form_fault bytes ≡ None → length bytes ≤ most_bytes
+few_bytes bytes h = go (nat_lt most_bytes (length bytes)) refl h
+  where
+    go : (b : Bool) → nat_lt most_bytes (length bytes) ≡ b
+        → (if b then Some (bad_form most_bytes) else or_else (version_fault bytes) (option_map bad_form (fault_from kept_parts 0 bytes))) ≡ None → length bytes ≤ most_bytes
+    go true e i = absurd (cc i)
+    go false e i = not_more most_bytes (length bytes) e
+
+-- so what was read from them is small
+pub read_small : (k : KeptTree) (places bytes : List ℕ) → bytes ≡ kept_bytes k places → form_fault bytes ≡ None → IsSmall k
+read_small k places bytes e h =
+    let few : length bytes ≤ most_bytes = few_bytes bytes h in
+    let Few : List ℕ → Type 0 = λ bs. length bs ≤ most_bytes in
+    small k places (subst Few e few)
 
 abbrev Below : ℕ → LaterTree → Type 0
 Below n l = node_count l.term < n

@@ -15,6 +15,16 @@ use Rattle.kept_check.specs.declared.stop.Stop.TheVariants.{Memory, At}
 use Rattle.kept_check.specs.Sizes.{states_of_parts, states_in_arguments, states_number}
 use Rattle.kept_check.specs.Walk.{IsFirstBad, FindsBad}
 
+-- sums of equal numbers
+two : (a b m n : ℕ) → a ≡ m → b ≡ n → suc a + suc b ≡ suc m + suc n
+two a b m n e f = omega (arith, e, f)
+
+behind_all : (a b m n : ℕ) → a ≡ m → b ≡ n → a + suc b ≡ m + suc n
+behind_all a b m n e f = omega (arith, e, f)
+
+before_all : (a b m n : ℕ) → a ≡ m → b ≡ n → suc a + b ≡ suc m + n
+before_all a b m n e f = omega (arith, e, f)
+
 mutual
   -- as many states stand in a state as are counted
   length-parts : (s : StateTree) (c : Context) (r : StreamType) (before : List ℕ) → length (states_in c r before s) ≡ states_of_parts s
@@ -41,15 +51,6 @@ mutual
   length-arguments (argument_before x t s args) c before =
       length-append (states_of c t before s) (states_of_arguments c (before ++ names_in_turn s) args)
       ∙ before_all _ _ _ _ (length-parts s c t (before ++ own_names s)) (length-arguments args c (before ++ names_in_turn s))
-
-  two : (a b m n : ℕ) → a ≡ m → b ≡ n → suc a + suc b ≡ suc m + suc n
-  two a b m n e f = omega (arith, e, f)
-
-  behind_all : (a b m n : ℕ) → a ≡ m → b ≡ n → a + suc b ≡ m + suc n
-  behind_all a b m n e f = omega (arith, e, f)
-
-  before_all : (a b m n : ℕ) → a ≡ m → b ≡ n → suc a + b ≡ suc m + n
-  before_all a b m n e f = omega (arith, e, f)
 
 -- names that are bound before a form, by it and in its parts
 whole_of : (before own parts : List ℕ) → is_distinct ((before ++ own) ++ parts) ≡ true → is_distinct (before ++ (own ++ parts)) ≡ true

@@ -171,7 +171,7 @@ fn check_parts<'a>(
         KeptState::Par(a, b) => {
             let (left, right) = par_types(r, &Ty::Eps);
             check_two(
-                alloc, c, marks, depth, a, left, scope, b, right, scope, bound, number,
+                alloc, c, marks, depth, a, left, &*scope, b, right, &*scope, bound, number,
             )
         }
         KeptState::Cat(a, _) => {
@@ -182,14 +182,14 @@ fn check_parts<'a>(
             check_let(alloc, c, marks, depth, *x, t, a, b, r, scope, bound, number)
         }
         KeptState::LetPar(x, y, z, a) => {
-            let (left, right) = par_types(type_or(scope, *z, &Ty::Eps), &Ty::Eps);
-            let first = Scope::Like(*x, left, *z, scope);
+            let (left, right) = par_types(type_or(&*scope, *z, &Ty::Eps), &Ty::Eps);
+            let first = Scope::Like(*x, left, *z, &*scope);
             let inner = Scope::Like(*y, right, *z, &first);
             check_state(alloc, c, marks, depth, a, r, &inner, bound, number)
         }
         KeptState::LetCat(x, y, z, a) => {
-            let (left, right) = cat_types(type_or(scope, *z, &Ty::Eps), &Ty::Eps);
-            let first = Scope::Like(*x, left, *z, scope);
+            let (left, right) = cat_types(type_or(&*scope, *z, &Ty::Eps), &Ty::Eps);
+            let first = Scope::Like(*x, left, *z, &*scope);
             let second = Scope::Like(*y, right, *z, &first);
             let inner = Scope::Fact(*x, *y, &second);
             check_state(alloc, c, marks, depth, a, r, &inner, bound, number)
@@ -263,10 +263,10 @@ fn check_let<'a>(
         ++ states_of (with_name x.0 (type_of t.now) (place_let x.0 (free_in_state (state_of a.now)) true (context_in scope.now).order) (context_in scope.now)) (type_of r.now) (numbers_of bound.old.items ++ names_in_turn (state_of a.now)) (state_of b.now)) result }
     ensures names { OnOk result (numbers_of bound.new.items ≡ numbers_of bound.old.items ++ (names_in_turn (state_of a.now) ++ names_in_turn (state_of b.now))) }
 {
-    let placed = let_placed(alloc, scope, a, b)?;
-    let inner = Scope::Let(x, t, &placed, scope);
+    let placed = let_placed(alloc, &*scope, a, b)?;
+    let inner = Scope::Let(x, t, &placed, &*scope);
     check_two(
-        alloc, c, marks, depth, a, t, scope, b, r, &inner, bound, number,
+        alloc, c, marks, depth, a, t, &*scope, b, r, &inner, bound, number,
     )
 }
 
@@ -280,7 +280,8 @@ fn let_placed(
     ensures { IfOk result (λ p. (x : ℕ) → place_known x p (context_in scope.now).order ≡ place_let x (free_in_state (state_of a.now)) true (context_in scope.now).order) }
 {
     let others = free_in(alloc, b)?;
-    place_of_let(alloc, scope, free_in(alloc, a)?, true, &others)
+    let free = free_in(alloc, a)?;
+    place_of_let(alloc, scope, free, true, &others)
 }
 
 // The same of a frame: its arguments in turn, then its body among its own parameters.

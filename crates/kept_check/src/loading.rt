@@ -1,7 +1,7 @@
 //! Kept states read from bytes, typed ones alone.
 
 ghost use Rattle.std.specs.Prelude.{◌≡◌, ◌↔◌, ◌-◌, ◌*◌, ◌≤◌, ◌<◌, ◌^◌, length, map, IsTrue, IfOk, IfErr};
-ghost use Rattle.stream_type.specs.StreamType.{type_of, size_of};
+ghost use Rattle.stream_type.specs.StreamType.{type_of, size_of, reach_of};
 ghost use Rattle.bunch.specs.BunchTree.{leaf_names};
 ghost use Rattle.bunch.specs.Names.{numbers_of};
 ghost use Rattle.core_term.specs.CoreTerm.{core_of};
@@ -9,7 +9,8 @@ ghost use Rattle.core_term.specs.FreeNames.{IsCore};
 ghost use Rattle.core_term.specs.Params.{names_in, types_listed};
 ghost use Rattle.delta_state.specs.Stands.{depth_after};
 ghost use Rattle.kept_state.specs.KeptBytes.{kept_bytes};
-ghost use Rattle.kept_state.specs.KeptTyping.{IsTypedKept, IsPlaced};
+ghost use Rattle.kept_state.specs.KeptPlace.{semi_count, IsPlace};
+ghost use Rattle.kept_state.specs.KeptTyping.{IsTypedKept, IsPlaced, types_kept};
 ghost use Rattle.delta_keep.specs.KeptView.{kept_of, places_kept};
 ghost use Rattle.kept_check.specs.Loading.{TellsKeepFault, TellsForm, TellsStop};
 ghost use Rattle.kept_check.specs.Sizes.{IsSmall};
@@ -92,9 +93,6 @@ fn types_left(alloc: Global, names: &[Name], ins: &[Ty]) -> Result<Vec<(Name, Ty
     Ok(types)
 }
 
-// How many events may have been taken: 2^41.
-const MOST_EVENTS: u64 = 2_199_023_255_552;
-
 // Whether some input may have led to the kept state, as far as its numbers, types and marks tell.
 fn is_placed(c: &Core, k: &Kept, left: &[(Name, Ty)]) -> bool
     requires small { size_of (type_of k.now.out.value) < 2 ^ 32 }
@@ -102,11 +100,29 @@ fn is_placed(c: &Core, k: &Kept, left: &[(Name, Ty)]) -> bool
     requires types { types_listed left.now ≡ map type_of k.now.ins.items }
     ensures { IsTrue result ↔ IsPlaced (core_of c.now) (kept_of k.now) }
 {
-    let params = &c.main.params;
-    k.events <= MOST_EVENTS
-        && reaches(&c.main.result, reach(&k.out))
-        && has_cuts(params, &k.cuts)
-        && is_place(params, left, &k.cuts)
+    is_within(c, k) && fits_input(c, k, left)
+}
+
+// How many events may have been taken: 2^41.
+const MOST_EVENTS: u64 = 2_199_023_255_552;
+
+// Whether there were few events enough, and what is left of the output reaches no farther than the result.
+fn is_within(c: &Core, k: &Kept) -> bool
+    requires { size_of (type_of k.now.out.value) < 2 ^ 32 }
+    ensures { IsTrue result ↔ ((k.now.events ≤ 2 ^ 41) × (reach_of (type_of k.now.out.value) ≤ reach_of (core_of c.now).main.result)) }
+{
+    k.events <= MOST_EVENTS && reaches(&c.main.result, reach(&k.out))
+}
+
+// Whether there is a mark for each semicolon, and these fit to the types that are left.
+fn fits_input(c: &Core, k: &Kept, left: &[(Name, Ty)]) -> bool
+    requires names { names_in left.now ≡ leaf_names (core_of c.now).main.params }
+    requires types { types_listed left.now ≡ map type_of k.now.ins.items }
+    ensures { IsTrue result ↔ ((length k.now.cuts.items ≡ semi_count (core_of c.now).main.params)
+        × IsPlace (core_of c.now).main.params (types_kept (core_of c.now) (kept_of k.now)) k.now.cuts.items) }
+{
+    let cuts: &[bool] = &k.cuts;
+    has_cuts(&c.main.params, cuts) && is_place(&c.main.params, left, cuts)
 }
 
 // The same of the states of a kept state that stands in some place of the input.
