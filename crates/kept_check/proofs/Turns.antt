@@ -1,6 +1,6 @@
 -- What is found of states that stand one after the other, and which names are bound behind them.
 use Rattle.std.proofs.Common.{◌≡◌, ◌∙◌, ℕ, zero, suc, ◌+◌, ◌<◌, ◌^◌, true, List, [], ◌∷◌, ◌++◌, length, length-append, append_assoc, append-nil, refl, ap, sym, subst, arith}
-use Rattle.std.specs.Prelude.{Result, Ok, Err}
+use Rattle.std.specs.Prelude.{Result, Ok, Err, OnOk}
 use Rattle.stream_type.specs.StreamType.{StreamType}
 use Rattle.core_term.specs.CoreTerm.{CoreBody}
 use Rattle.core_term.specs.FreeNames.{bound_names, is_distinct}
@@ -8,7 +8,7 @@ use Rattle.core_term.specs.Parts.{par_left, par_right, cat_first, cat_second}
 use Rattle.core_term.specs.Typing.{Context}
 use Rattle.delta_state.specs.StateTree.{StateTree, ArgumentTrees, sink, var_state, par_state, cat_state, let_state, let_par_state, let_cat_state, sum_state, star_state, wait_state, frame_state, no_arguments, argument_before, argument_names}
 use Rattle.delta_state.specs.StateTyping.{context_of_arguments}
-use Rattle.kept_rules.specs.InTurn.{StateAt, with_state, with_sides, with_steps, own_names, names_in_turn, names_of_arguments, state_at, states_in, states_of, states_of_arguments}
+use Rattle.kept_rules.specs.InTurn.{StateAt, with_state, with_sides, with_steps, own_names, names_of_parts, names_in_turn, names_of_arguments, state_at, states_in, states_of, states_of_arguments}
 use Rattle.kept_rules.specs.StateRules.{IsGood, AreGood}
 use Rattle.kept_check.specs.declared.stop.Stop.{Stop}
 use Rattle.kept_check.specs.declared.stop.Stop.TheVariants.{Memory, At}
@@ -58,6 +58,15 @@ whole_of before own parts d = ap is_distinct (sym (append_assoc before own parts
 
 nothing_more : (before own : List ℕ) → is_distinct (before ++ own) ≡ true → is_distinct (before ++ (own ++ [])) ≡ true
 nothing_more before own d = ap (λ l. is_distinct (before ++ l)) (append-nil own) ∙ d
+
+-- the names in the parts of a state that is the same
+pub parts_named : (q : Result ℕ Stop) (new old : List ℕ) (s t : StateTree) → s ≡ t → OnOk q (new ≡ old ++ names_of_parts t) → OnOk q (new ≡ old ++ names_of_parts s)
+parts_named q new old s t e h = subst (λ u. OnOk q (new ≡ old ++ names_of_parts u)) (sym e) h
+
+-- what is so in any case
+pub in_any_case : {P : Type 0} (q : Result ℕ Stop) → P → OnOk q P
+in_any_case (Ok n) p = p
+in_any_case (Err e) p = tt
 
 module _ (funs : List CoreBody) (depth : ℕ) where
   good_both : (js ks : List StateAt) → AreGood funs depth js → AreGood funs depth ks → AreGood funs depth (js ++ ks)
@@ -162,6 +171,11 @@ module _ (funs : List CoreBody) (depth : ℕ) where
         let u = before ++ names_in_turn s in
         let ks = states_of_arguments c u args in
         whole_of before (names_in_turn s) (names_of_arguments args) (once_in args c u (once_behind s c t before (good_left js ks g)) (good_right js ks g))
+
+  -- of the states in a state that is the same
+  pub parts_found : (n : ℕ) (c : Context) (r : StreamType) (before : List ℕ) (s t : StateTree) (q : Result ℕ Stop) → s ≡ t → FindsBad funs depth n (states_in c r before t) q
+      → FindsBad funs depth n (states_in c r before s) q
+  parts_found n c r before s t q e h = subst (λ u. FindsBad funs depth n (states_in c r before u) q) (sym e) h
 
   -- so where nothing is found
   pub still_once : (n m : ℕ) (c : Context) (r : StreamType) (before : List ℕ) (s : StateTree) → FindsBad funs depth n (states_of c r before s) (Ok m) → is_distinct (before ++ names_in_turn s) ≡ true
