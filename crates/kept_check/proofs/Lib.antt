@@ -10,3 +10,4 @@ pub mod BoundTogether
 pub mod InputContexts
 pub mod Placed
 pub mod FirstStates
+pub mod LoadedStates
