@@ -16,6 +16,9 @@ const ONE: &[u8] = &[
     68, 83, 84, 1, 0, 0, 0, 0, 0, 0, 0, 0, 0, 0, 0, 1, 2, 0, 0, 0, 0, 2, 1, 0, 0, 0, 0,
 ];
 
+// Two streams of numbers.
+const TWO: &[u8] = b"main(x : Int, y : Int) : Int = x";
+
 // A case that holds what comes before its subject's side.
 const CASE: &[u8] =
     b"main(a : Int; (y : Int, w : 1 + 1)) : Int = let x = (((), y) : 1 || Int) in case w of { inl u => let (p, q) = x in wait q in a | inr u => a }";
@@ -81,6 +84,7 @@ fn what_was_kept_is_read(rt: HostRuntime) -> Result<(), Fail> {
 fn another_programs_state_is_refused(rt: HostRuntime) -> Result<(), Fail> {
     assert!(rt; told(rt.alloc(), CASE, ONE)? == Some(KeepFault::Untyped(0)));
     assert!(rt; told(rt.alloc(), SAME, HELD)? == Some(KeepFault::Untyped(0)));
+    assert!(rt; told(rt.alloc(), TWO, ONE)? == Some(KeepFault::Untyped(0)));
     Ok(())
 }
 

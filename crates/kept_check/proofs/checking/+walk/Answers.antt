@@ -369,4 +369,3 @@ check_parts-returns-in-Frame-clause-names t c =
     ap state_of c.in-Frame.is ∙ ap (λ u. frame_state u (state_of c.in-Frame.s.value)) (arguments_are c.in-Frame.args)
     ∙ ap₂ (λ x y. frame_state (arguments_from x) (state_of y)) (sym c.deref-in-Frame.ensures.value) (sym c.deref-in-Frame-2.ensures) in
     parts_named c.check_frame.result (numbers_of c.check_frame.new.bound.items) (numbers_of c.args.bound.now.items) (state_of c.args.s.now) (frame_state (arguments_from c.deref-in-Frame.result.now) (state_of c.deref-in-Frame-2.result.now)) whole c.check_frame.ensures.names
-
