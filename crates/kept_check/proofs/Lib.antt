@@ -2,3 +2,9 @@ pub mod Arguments
 pub mod NameLists
 pub mod FreeLists
 pub mod Lists
+pub mod Holding
+pub mod Gathered
+pub mod Contexts
+pub mod SameNames
+pub mod LaterRules
+pub mod StateForms

@@ -92,7 +92,10 @@ pub fn is_held(
     requires { numbers_of names.now ≡ held_names (map held_of held.now) }
     ensures { IfOk result (λ b. IsTrue b ↔ IsHeld (context_in scope.now) (numbers_of free.now) (map held_of held.now)) }
 {
-    Ok(are_distinct(names) && are_same(names, free) && are_left(alloc, scope, held)?)
+    if !are_distinct(names) || !are_same(names, free) {
+        return Ok(false);
+    }
+    are_left(alloc, scope, held)
 }
 
 // Whether what is held of each name is a prefix of its type from before, and leaves its type.
