@@ -11,13 +11,12 @@ use Rattle.delta_parse.specs.Plain.{numbered, add_name, grammar_tokens}
 use Rattle.delta_parse.specs.Causes.{Belongs}
 use Rattle.delta_parse.proofs.Shorts.{short}
 use Rattle.core_term.specs.CoreTerm.{CoreProgram}
-use Rattle.core_term.specs.FreeNames.{IsCore}
 use Rattle.core_term.specs.TypeFaults.{Cause, first_fault}
 use Rattle.core_term.proofs.Unbroken.{typed_is_unbroken}
 use Rattle.delta_meaning.specs.Faults.{Fault}
 use Rattle.delta_meaning.specs.Elaborated.{elaborate}
 use Rattle.delta_meaning.specs.TypeNames.{no_type_names}
-use Rattle.delta_meaning.proofs.BoundOnce.{elaborated_is_core as core_of_few, each_variable_has_text}
+use Rattle.delta_meaning.proofs.BoundOnce.{each_variable_has_text}
 use Rattle.delta_meaning.proofs.KeptTypes.{elaborated_has_types}
 use Rattle.text_laws.proofs.NamesOfTrees.{trees_are_named}
 use Rattle.accept_laws.proofs.NameCounts.{program_names, function_count}
@@ -28,7 +27,7 @@ use Rattle.program_text.specs.ProgramText.{IsTextOf, IsRefusedFor}
 use Rattle.checked_program.specs.Naming.{refusal, refusal_of, name_of_rule}
 use Rattle.checked_program.specs.Acceptance.{IsAcceptedAs, IsRefusedAs, IsWritable, IsRefusedToWrite}
 use Rattle.text_laws.proofs.Judging.{texts_are_judged as text_judged}
-use Rattle.accept_laws.specs.Laws.{TextsAreJudged, WritingsAreJudged, CoresAreSmall, NamesAreFew, ElaboratedIsCore, AcceptedIsTyped}
+use Rattle.accept_laws.specs.Laws.{TextsAreJudged, WritingsAreJudged, CoresAreSmall, NamesAreFew}
 use Rattle.accept_laws.proofs.NodeNumbers.{nodes, nodes_of_declarations, counted_program}
 use Rattle.accept_laws.proofs.NodesOfTokens.{nodes_by_tokens}
 use Rattle.accept_laws.proofs.FaultNodes.{has_place}
@@ -67,24 +66,12 @@ names_are_few text p c is elaborated =
     let few = (short is.tokens (record { text = text; tokens = is.are_its })).few in
     (omega (arith, functions, counted, most), omega (arith, texts, names, small, few))
 
-has_core : (text : List ℕ) (p : ProgramTree) (c : CoreProgram) → IsTextOf text p → elaborate p ≡ Ok c → IsCore c
-has_core text p c is elaborated = core_of_few p c elaborated (let h = cores_are_small text p c is elaborated in omega (arith, h))
-
-pub elaborated_is_core : ElaboratedIsCore
-elaborated_is_core text p c is elaborated = has_core text p c is elaborated
-
-pub accepted_is_typed : AcceptedIsTyped
-accepted_is_typed text p c is = (
-  λ a. (a.elaborated, a.typed),
-  λ h. record { elaborated = h.0; core = has_core text p c is h.0; typed = h.1 },
-)
-
 abbrev Judged : List ℕ → Type 0
 Judged text = ((p : ProgramTree) × ((c : CoreProgram) × IsAcceptedAs text p c)) ⊎ ((why : Refusal) × IsRefusedAs text why)
 
 by_rules : (text : List ℕ) (p : ProgramTree) (c : CoreProgram) → IsTextOf text p → elaborate p ≡ Ok c → (o : Option (ℕ × Cause HistRefusal)) → first_fault c ≡ o → Judged text
 by_rules text p c is elaborated None first =
-    inl (p, (c, record { is_its = is; accepted = record { elaborated = elaborated; core = has_core text p c is elaborated; typed = (typed_is_unbroken c).1 first } }))
+    inl (p, (c, record { is_its = is; accepted = record { elaborated = elaborated; typed = (typed_is_unbroken c).1 first } }))
 by_rules text p c is elaborated (Some (node, rule)) first =
     let at = has_place p c node rule elaborated first in
     inr (

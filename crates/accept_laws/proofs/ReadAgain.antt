@@ -29,4 +29,4 @@ canonical_is_named text p is =
     }
 
 pub canonical_is_accepted : CanonicalIsAccepted
-canonical_is_accepted text p c a r = record { elaborated = cores_are_kept p r.tree c (sym r.same) a.accepted.elaborated; core = a.accepted.core; typed = a.accepted.typed }
+canonical_is_accepted text p c a r = record { elaborated = cores_are_kept p r.tree c (sym r.same) a.accepted.elaborated; typed = a.accepted.typed }

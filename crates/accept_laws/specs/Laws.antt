@@ -1,10 +1,9 @@
 -- The laws of acceptance that rest on the grammar.
-use Rattle.std.specs.Prelude.{◌≡◌, ◌↔◌, ◌⊎◌, ◌+◌, ◌≤◌, ℕ, List, Ok, length}
+use Rattle.std.specs.Prelude.{◌≡◌, ◌⊎◌, ◌+◌, ◌≤◌, ℕ, List, Ok, length}
 use Rattle.event_frame.specs.declared.version.Version.{Version}
 use Rattle.delta_tree.specs.SyntaxTree.{ProgramTree}
 use Rattle.core_term.specs.CoreTerm.{CoreProgram, node_count}
-use Rattle.core_term.specs.FreeNames.{IsCore, nodes_of_bodies}
-use Rattle.core_term.specs.Typing.{IsTypedCore}
+use Rattle.core_term.specs.FreeNames.{nodes_of_bodies}
 use Rattle.delta_print.specs.Canonical.{canonical_text}
 use Rattle.delta_meaning.specs.Elaborated.{elaborate}
 use Rattle.delta_elab.specs.Accepted.{IsAccepted}
@@ -32,16 +31,6 @@ CoresAreSmall = (text : List ℕ) (p : ProgramTree) (c : CoreProgram) → IsText
 abbrev pub NamesAreFew : Type 0
 NamesAreFew = (text : List ℕ) (p : ProgramTree) (c : CoreProgram) → IsTextOf text p → elaborate p ≡ Ok c
     → (length c.funs ≤ 1000) × (length c.texts ≤ 2073600)
-
--- so it has fewer than 2^32 nodes, and keeps what each core does: each body binds each name at most once, each name that is
--- bound has a text, and `main` has no historical parameters
-abbrev pub ElaboratedIsCore : Type 0
-ElaboratedIsCore = (text : List ℕ) (p : ProgramTree) (c : CoreProgram) → IsTextOf text p → elaborate p ≡ Ok c → IsCore c
-
--- so the program of a text is accepted with a core exactly where it elaborates to it and the core is typed
-abbrev pub AcceptedIsTyped : Type 0
-AcceptedIsTyped = (text : List ℕ) (p : ProgramTree) (c : CoreProgram) → IsTextOf text p
-    → IsAccepted p c ↔ ((elaborate p ≡ Ok c) × IsTypedCore c)
 
 -- the canonical text of the program of a text, read again without the limits on marks and length, is that program but for
 -- places, and none of its tokens is a name twice or one too many

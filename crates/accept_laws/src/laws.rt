@@ -1,6 +1,6 @@
 //! Laws of acceptance, each the contract of a function with nothing in it. What they say stands in `specs/Laws.antt`.
 
-ghost use Rattle.accept_laws.specs.Laws.{TextsAreJudged, WritingsAreJudged, CoresAreSmall, NamesAreFew, ElaboratedIsCore, AcceptedIsTyped, CanonicalIsNamed, CanonicalIsAccepted};
+ghost use Rattle.accept_laws.specs.Laws.{TextsAreJudged, WritingsAreJudged, CoresAreSmall, NamesAreFew, CanonicalIsNamed, CanonicalIsAccepted};
 
 /// Each text is accepted, or is refused for something.
 pub fn texts_are_judged()
@@ -20,16 +20,6 @@ pub fn cores_are_small()
 /// It has at most 1,000 functions and at most 2,073,600 names.
 pub fn names_are_few()
     ensures { NamesAreFew }
-{}
-
-/// It keeps what each core does: it has fewer than 2^32 nodes, and a text for each name that it binds.
-pub fn elaborated_is_core()
-    ensures { ElaboratedIsCore }
-{}
-
-/// The program of a text is accepted exactly where it elaborates to a typed core.
-pub fn accepted_is_typed()
-    ensures { AcceptedIsTyped }
 {}
 
 /// The canonical text of a program, read again without the limits on marks and length, keeps its names and their counts.

@@ -3,7 +3,7 @@
 ghost use Rattle.std.specs.Prelude.{◌≡◌, ℕ, List, Err, IfOk, IfErr, IfSome};
 ghost use Rattle.delta_tree.specs.SyntaxTree.{ProgramTree};
 ghost use Rattle.core_term.specs.CoreTerm.{core_of};
-ghost use Rattle.core_term.specs.FreeNames.{IsCore};
+ghost use Rattle.core_term.specs.FreeNames.{IsCore, HasFewNodes};
 ghost use Rattle.delta_meaning.specs.Elaborated.{elaborate};
 ghost use Rattle.delta_elab.specs.FirstFault.{fault_of};
 ghost use Rattle.program_text.specs.ProgramText.{IsTextOf};
@@ -31,6 +31,7 @@ fn refusal_for_names(fault: &ElabFault) -> TextFault
 pub fn elaborate_text(alloc: Global, text: &[u8]) -> Result<Core, TextFault>
     ensures elaborated { IfOk result (λ c. IsElaboratedAs text.now (core_of c)) }
     ensures core { IfOk result (λ c. IsCore (core_of c)) }
+    ensures nodes { IfOk result (λ c. HasFewNodes (core_of c)) }
     ensures refused { IfErr result (λ fault. IsFaultOf (IsUnelaborated text.now) fault) }
 {
     let program = match program_of(alloc, text) {

@@ -6,9 +6,9 @@ use Rattle.stream_type.specs.StreamType.{int, star, one, sum}
 use Rattle.bunch.specs.BunchTree.{leaf, comma}
 use Rattle.core_term.specs.CoreTerm.{CoreBody, wait_term, case_sum_term, var_term, cat_term, unit_term}
 use Rattle.command_bound.specs.Unsized.{first_unsized_in}
-use Rattle.command_bound.specs.Bounding.{line_of}
+use Rattle.command_bound.specs.Bounding.{bound_line}
 
-line_of_one : line_of 1 ≡ codes "bound 1\n"
+line_of_one : bound_line 1 ≡ codes "bound 1\n"
 line_of_one = ap (λ (digits : List ℕ). codes "bound " ++ (digits ++ 10 ∷ [])) (decimal_digit 1 (omega arith))
 
 -- a wait for a list of numbers, which is its own name 0, at place 7

@@ -7,7 +7,7 @@ use Rattle.delta_tree.specs.SyntaxTree.{ProgramTree}
 use Rattle.delta_meaning.specs.NodePlaces.{program_places}
 use Rattle.delta_end.specs.declared.objection.BoundName.{BoundName}
 use Rattle.delta_end.specs.declared.objection.BoundName.TheVariants.{Unbounded, Cycle, Large}
-use Rattle.delta_end.specs.declared.objection.Objection.TheVariants.{Derivation, Bound, Table}
+use Rattle.delta_end.specs.declared.objection.Objection.TheVariants.{Derivation, Bound, Table, State}
 use Rattle.delta_end.specs.declared.end.End.{End}
 use Rattle.delta_end.specs.declared.end.End.TheVariants.{Done, Usage, Refused, Input, Budget, Deep, Open, FileFailed, ReadFailed, WriteFailed, Memory, Long, Objected}
 use Rattle.checked_program.specs.Acceptance.{IsAcceptedAs, IsRefusedAs}
@@ -44,20 +44,20 @@ pub record IsUnbounded (text : List ℕ) (why : BoundName) (at : ℕ) : Type 0 w
   pub no_bound : HasNoBound (program_places program) core why at
 
 -- the line that tells a bound
-abbrev pub line_of : ℕ → List ℕ
-line_of n = codes "bound " ++ (decimal n ++ 10 ∷ [])
+abbrev pub bound_line : ℕ → List ℕ
+bound_line n = codes "bound " ++ (decimal n ++ 10 ∷ [])
 
 -- the line that tells the bound of the text's program was written
 pub record TellsAll (text written : List ℕ) : Type 0 where
   pub number : ℕ
   pub bounded : IsBounded text number
-  pub all : written ≡ line_of number
+  pub all : written ≡ bound_line number
 
 -- a front of it was written
 pub record TellsFront (text written : List ℕ) : Type 0 where
   pub number : ℕ
   pub bounded : IsBounded text number
-  pub front : Begins written (line_of number)
+  pub front : Begins written (bound_line number)
 
 -- these bytes were written for the text, and then the command ended so
 abbrev pub Tells : List ℕ → List ℕ → End → Type 0
@@ -67,6 +67,7 @@ Tells text written (Refused (Some why)) = IsRefusedAs text why × (written ≡ [
 Tells text written (Objected (Bound why at)) = IsUnbounded text why at × (written ≡ [])
 Tells text written (Objected (Derivation why at)) = ⊥
 Tells text written (Objected (Table name file row)) = ⊥
+Tells text written (Objected (State name at)) = ⊥
 Tells text written WriteFailed = TellsFront text written
 Tells text written Memory = (written ≡ []) ⊎ TellsFront text written
 Tells text written Usage = ⊥

@@ -10,7 +10,7 @@ ghost use Rattle.delta_end.specs.End.{WriteCause};
 ghost use Rattle.checked_program.specs.Acceptance.{IsAcceptedAs};
 ghost use Rattle.delta_bound.specs.Refusals.{Refuses};
 ghost use Rattle.delta_loop.specs.History.{Writes};
-ghost use Rattle.command_bound.specs.Bounding.{line_of, Tells, TellsAll};
+ghost use Rattle.command_bound.specs.Bounding.{bound_line, Tells, TellsAll};
 
 use checked_program::accept;
 use core_term::Checked;
@@ -23,7 +23,7 @@ use std::alloc::Global;
 
 // The line that tells this bound.
 fn line(alloc: Global, n: u64) -> Result<String, End>
-    ensures told { IfOk result (λ told. string_bytes told ≡ line_of n) }
+    ensures told { IfOk result (λ told. string_bytes told ≡ bound_line n) }
     ensures ended { IfErr result (λ end. end ≡ End.Memory) }
 {
     match format!(in alloc; "bound {n}\n") {

@@ -2,7 +2,7 @@
 
 ghost use Rattle.std.specs.Prelude.{◌≡◌, ◌≤◌, List, ℕ, length, IfOk, IfErr};
 ghost use Rattle.core_term.specs.CoreTerm.{CoreProgram, core_of};
-ghost use Rattle.core_term.specs.FreeNames.{IsCore};
+ghost use Rattle.core_term.specs.FreeNames.{IsCore, HasFewNodes};
 ghost use Rattle.checked_program.specs.Acceptance.{IsElaboratedAs};
 ghost use Rattle.delta_derive.specs.FirstFault.{first_fault, IsValidText, TellsFirst, Denies};
 ghost use Rattle.command_derive.specs.Deriving.{longest, Derives, Refutes};
@@ -20,6 +20,7 @@ use std::alloc::Global;
 pub fn core_of_text(alloc: Global, text: &[u8]) -> Result<Core, End>
     ensures elaborated { IfOk result (λ c. IsElaboratedAs text.now (core_of c)) }
     ensures core { IfOk result (λ c. IsCore (core_of c)) }
+    ensures nodes { IfOk result (λ c. HasFewNodes (core_of c)) }
     ensures ended { IfErr result (λ end. (proof : List ℕ) → Derives text.now proof end) }
 {
     match elaborate_text(alloc, text) {
@@ -62,7 +63,8 @@ fn too_long() -> End
 /// core is typed, and else the derivation is refused for its first fault. `Derives` of `specs/Deriving.antt`
 /// says so, for each text that has this core.
 pub fn derive_core(alloc: Global, core: Core, proof: &[u8]) -> End
-    requires { IsCore (core_of core) }
+    requires core { IsCore (core_of core) }
+    requires nodes { HasFewNodes (core_of core) }
     ensures { (text : List ℕ) → IsElaboratedAs text (core_of core) → Derives text proof.now result }
 {
     if proof.len() > 1_048_576 {

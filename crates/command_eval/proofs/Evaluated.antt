@@ -20,6 +20,7 @@ use Rattle.core_term.proofs.TypedRuns.{mean_is_typed}
 use Rattle.delta_meaning.specs.SourceMeaning.{mean, calls_of}
 use Rattle.delta_meaning.specs.declared.refusal.EvalRefusal.{EvalRefusal}
 use Rattle.delta_meaning.specs.declared.refusal.EvalRefusal.TheVariants.{Memory as NoMemory, Budget as Budgeted}
+use Rattle.delta_meaning.proofs.BoundOnce.{elaborated_is_core}
 use Rattle.delta_meaning.proofs.WholePrograms.{core_keeps_meaning}
 use Rattle.delta_meaning.proofs.KeptTypes.{elaborated_has_types}
 use Rattle.delta_elab.specs.Accepted.{IsAccepted}
@@ -40,7 +41,7 @@ use Rattle.command_eval.proofs.Gathered.{due_none, is_word, accepts_all, makes_n
 
 -- what an accepted program says is a prefix of its result's type
 pub says_prefix : (p : ProgramTree) (c : CoreProgram) → IsAccepted p c → (q : StreamPrefix) → IsPrefix (as_type c.main.params) q → IsPrefix c.main.result (mean p q)
-says_prefix p c a q is = subst (IsPrefix c.main.result) (ap (λ (r : Run). r.out) (core_keeps_meaning p c a.elaborated a.typed q)) (mean_is_typed c a.core a.typed q is)
+says_prefix p c a q is = subst (IsPrefix c.main.result) (ap (λ (r : Run). r.out) (core_keeps_meaning p c a.elaborated a.typed q)) (mean_is_typed c (elaborated_is_core p c a.elaborated) a.typed q is)
 
 -- its input's type is that of the core's parameters
 pub input_is : (p : ProgramTree) (c : CoreProgram) → IsAccepted p c → as_type c.main.params ≡ input_of p

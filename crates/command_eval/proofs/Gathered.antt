@@ -11,7 +11,8 @@ use Rattle.event_word.proofs.Words.{after_word-push, after_word-pre, word_push}
 use Rattle.event_frame.specs.Reading.{whole}
 use Rattle.delta_end.specs.declared.end.InputFault.{InputFault}
 use Rattle.delta_end.specs.declared.end.InputFault.TheVariants.{Event}
-use Rattle.delta_loop.specs.Meaning.{Meaning, MakesNoCalls}
+use Rattle.delta_loop.specs.Meaning.{Meaning}
+use Rattle.delta_loop.proofs.Unstopped.{MakesNoCalls}
 use Rattle.delta_loop.specs.Finding.{fault_or, place_in, event_finding, finding}
 use Rattle.delta_loop.specs.Output.{answers_after, due, accepted, accepted_after, up_to_fault}
 use Rattle.command_eval.specs.Gathering.{gathering, Gathers}

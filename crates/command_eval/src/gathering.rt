@@ -1,6 +1,6 @@
 //! Reads a whole input.
 
-ghost use Rattle.std.specs.Prelude.{◌≡◌, [], IfOk};
+ghost use Rattle.std.specs.Prelude.{◌≡◌, [], ⊤, IfOk};
 ghost use Rattle.stream_type.specs.StreamType.{type_of};
 ghost use Rattle.command_eval.specs.Gathering.{gathering, Gathers};
 
@@ -33,6 +33,12 @@ impl Gathering {
 
 impl Stepper for Gathering {
     ghost stands = { Gathers };
+
+    ghost same_program = { λ _ _. ⊤ };
+
+    ghost same_at_first = { λ _. tt };
+
+    ghost same_throughout = { λ _ _ _ _ _. tt };
 
     fn step(&mut self, alloc: Global, event: Event) -> Result<Vec<u8>, StepFault> {
         match event_word::admits(&self.rest, &event) {

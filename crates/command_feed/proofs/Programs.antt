@@ -14,14 +14,14 @@ use Rattle.delta_meaning.proofs.KeptTypes.{elaborated_has_types}
 use Rattle.delta_elab.specs.Accepted.{IsAccepted}
 use Rattle.table_feed.specs.declared.fault.FeedFault.{FeedFault}
 use Rattle.table_feed.specs.declared.fault.FeedFault.TheVariants as fault
-use Rattle.delta_end.specs.declared.objection.Objection.TheVariants.{Derivation, Bound, Table}
+use Rattle.delta_end.specs.declared.objection.Objection.TheVariants.{Derivation, Bound, Table, State}
 use Rattle.delta_end.specs.declared.end.End.{End}
 use Rattle.delta_end.specs.declared.end.End.TheVariants.{Done, Usage, Refused, Input, Budget, Deep, Open, FileFailed, ReadFailed, WriteFailed, Memory, Long, Objected}
 use Rattle.delta_end.specs.End.{WriteCause}
 use Rattle.checked_program.specs.Acceptance.{IsAcceptedAs}
 use Rattle.command_feed.specs.Tables.{Takes, IsWrong, told_as, given_text, tables_word, IsCostlyAt, IsDeepAt, OfTables}
 use Rattle.command_feed.specs.Feeding.{input_of, IsFed, IsUnfed, IsStopped, Spends, Sinks, Tells, TellsFront, IsOfFeed}
-use Rattle.command_feed.specs.Given.{AreHeld, EndsRunning, EndsUnwritten, Gives, IsUnwritten}
+use Rattle.command_feed.specs.Given.{AreHeld, EndsRunning, EndsUnwritten, GivesText, IsUnwritten}
 
 -- what is said of a program: its types, what it gives, its calls and their levels
 record Way : Type 0 where
@@ -68,7 +68,7 @@ module _ (p : ProgramTree) (c : CoreProgram) (a : IsAccepted p c) where
 
 module _ (text : List ℕ) (p : ProgramTree) (c : CoreProgram) (a : IsAcceptedAs text p c) where
   -- what the core gives is fed
-  pub is_fed : (tables : List (List ℕ)) (out : List ℕ) → Gives c tables out → IsFed text tables out
+  pub is_fed : (tables : List (List ℕ)) (out : List ℕ) → GivesText c tables out → IsFed text tables out
   is_fed tables out gives = record {
     program = p;
     core = c;
@@ -137,6 +137,7 @@ unwritten_ends (Refused why) is = tt
 unwritten_ends (Objected (Table name file row)) is = tt
 unwritten_ends (Objected (Derivation name at)) is = absurd is
 unwritten_ends (Objected (Bound name at)) is = absurd is
+unwritten_ends (Objected (State name at)) is = absurd is
 unwritten_ends (Budget at) is = tt
 unwritten_ends (Deep at) is = tt
 unwritten_ends FileFailed is = tt

@@ -17,7 +17,7 @@ use Rattle.table_feed.specs.Mixing.{AreWords, beside, mixed_word}
 use Rattle.table_feed.proofs.CanonicalWords.{canons_are_words}
 use Rattle.delta_end.specs.declared.end.End.{End}
 use Rattle.command_feed.specs.Tables.{Takes, told_as, tables_fault, tables_word, whole_tables, OfTables, tables_in}
-use Rattle.command_feed.specs.Given.{AreRead, EndsReading, EndsRunning, EndsUnwritten, Gives}
+use Rattle.command_feed.specs.Given.{AreRead, EndsReading, EndsRunning, EndsUnwritten, GivesText}
 use Rattle.command_feed.proofs.WholeTables.{are_prefixes, are_whole, word_means}
 use Rattle.command_feed.proofs.WordSizes.{word_has_room}
 use Rattle.command_feed.proofs.Causes.{wrong_tables}
@@ -103,7 +103,7 @@ module _ (holds : Option (List ℕ → List ℕ)) (names : List (List ℕ)) (c :
             (word_has_room (input_type c) schedule read.tables takes.shape.0 takes.shape.1 (input_is_low c fits) read.good)
 
         -- what is said of it is what the program gives on the tables
-        pub gives : (out : List ℕ) → out ≡ text_of (mean c (pre (input_type c) word)) → Gives c read.tables out
+        pub gives : (out : List ℕ) → out ≡ text_of (mean c (pre (input_type c) word)) → GivesText c read.tables out
         gives out is = record { takes = takes; is = is ∙ ap (λ (p : StreamPrefix). text_of (mean c p)) means }
 
         -- or it is stopped there

@@ -9,7 +9,7 @@ use Rattle.delta_meaning.specs.SourceBody.{main_of}
 use Rattle.delta_meaning.specs.SourceMeaning.{mean, calls_of, level_of}
 use Rattle.table_feed.specs.declared.fault.FeedFault.{FeedFault}
 use Rattle.delta_end.specs.declared.objection.Objection.{Objection}
-use Rattle.delta_end.specs.declared.objection.Objection.TheVariants.{Derivation, Bound, Table}
+use Rattle.delta_end.specs.declared.objection.Objection.TheVariants.{Derivation, Bound, Table, State}
 use Rattle.delta_end.specs.declared.end.End.{End}
 use Rattle.delta_end.specs.declared.end.End.TheVariants.{Done, Usage, Refused, Input, Budget, Deep, Open, FileFailed, ReadFailed, WriteFailed, Memory, Long, Objected}
 use Rattle.checked_program.specs.Acceptance.{IsAcceptedAs, IsRefusedAs}
@@ -72,6 +72,7 @@ Tells text schedule tables budget written (Refused (Some why)) = IsRefusedAs tex
 Tells text schedule tables budget written (Objected (Table name file row)) = IsUnfed text tables (Table name file row) × (written ≡ [])
 Tells text schedule tables budget written (Objected (Derivation name at)) = ⊥
 Tells text schedule tables budget written (Objected (Bound name at)) = ⊥
+Tells text schedule tables budget written (Objected (State name at)) = ⊥
 Tells text schedule tables budget written (Budget at) = IsStopped (Spends budget at) text schedule tables × (written ≡ [])
 Tells text schedule tables budget written (Deep at) = IsStopped (Sinks at) text schedule tables × (written ≡ [])
 Tells text schedule tables budget written FileFailed = written ≡ []

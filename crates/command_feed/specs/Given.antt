@@ -38,7 +38,7 @@ EndsRunning c budget word end =
     ⊎ ((at : ℕ) × (end ≡ Deep at) × IsDeepAt (input_type c) (level_of c) 1000 word at))
 
 -- a core that takes tables, and the text of what it gives on the whole of them
-pub record Gives (c : CoreProgram) (tables : List (List ℕ)) (out : List ℕ) : Type 0 where
+pub record GivesText (c : CoreProgram) (tables : List (List ℕ)) (out : List ℕ) : Type 0 where
   pub takes : Takes (input_type c) c.main.result tables
   pub is : out ≡ given_text (input_type c) (mean c) tables
 

@@ -11,7 +11,7 @@ ghost use Rattle.table_feed.specs.RowType.{IsRowType};
 ghost use Rattle.table_feed.specs.Rows.{text_of};
 ghost use Rattle.delta_end.specs.End.{FileCause};
 ghost use Rattle.command_feed.specs.Tables.{OfTables};
-ghost use Rattle.command_feed.specs.Given.{AreHeld, EndsRunning, EndsUnwritten, Gives, IsUnwritten};
+ghost use Rattle.command_feed.specs.Given.{AreHeld, EndsRunning, EndsUnwritten, GivesText, IsUnwritten};
 
 use crate::reading::read_words;
 use crate::telling::end_of;
@@ -63,7 +63,7 @@ pub fn text_given<M: Machine, S: Shelf>(
 ) -> Result<String, End>
     requires fits { IsTrue (fits_of (core_of checked.now)) }
     requires budget { budget ≤ 1000000 }
-    ensures text { IfOk result (λ text. (tables : List (List ℕ)) × AreHeld (S.holds shelf.old) (map string_bytes names.now) tables × Gives (core_of checked.now) tables (string_bytes text)) }
+    ensures text { IfOk result (λ text. (tables : List (List ℕ)) × AreHeld (S.holds shelf.old) (map string_bytes names.now) tables × GivesText (core_of checked.now) tables (string_bytes text)) }
     ensures ended { IfErr result (λ end. OfTables (S.holds shelf.old) (map string_bytes names.now) (λ tables. EndsUnwritten (core_of checked.now) schedule.now tables budget end)) }
     ensures unwritten { IfErr result IsUnwritten }
     ensures held { S.holds shelf.new ≡ S.holds shelf.old }

@@ -1,6 +1,6 @@
 //! Writes the events of frames as lines.
 
-ghost use Rattle.std.specs.Prelude.{◌≡◌};
+ghost use Rattle.std.specs.Prelude.{◌≡◌, ⊤};
 ghost use Rattle.delta_end.specs.End.{ReadCause, WriteCause};
 ghost use Rattle.delta_loop.specs.Loop.{Ran};
 ghost use Rattle.command_text.specs.Lines.{lines_of_frames};
@@ -18,6 +18,12 @@ struct LineWriter {}
 
 impl Stepper for LineWriter {
     ghost stands = { λ _ P _. P ≡ lines_of_frames };
+
+    ghost same_program = { λ _ _. ⊤ };
+
+    ghost same_at_first = { λ _. tt };
+
+    ghost same_throughout = { λ _ _ _ _ _. tt };
 
     fn step(&mut self, alloc: Global, event: Event) -> Result<Vec<u8>, StepFault> {
         let mut line = String::new(alloc);

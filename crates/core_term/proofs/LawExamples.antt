@@ -1,6 +1,6 @@
 -- What the laws of meaning speak of, at single programs: that their premises hold of some, and what would
 -- be false without them. Each answer was worked out by hand, and the check computes it.
-use Rattle.std.proofs.Common.{◌≡◌, ℕ, pos, Bool, true, false, eqb, if◌then◌else◌, true≢false, List, [], ◌∷◌, ℤ, ap, refl, sym, arith, ltb, ◌<◌}
+use Rattle.std.proofs.Common.{◌≡◌, ℕ, pos, Bool, true, false, eqb, if◌then◌else◌, true≢false, List, [], ◌∷◌, ℤ, ap, refl, sym, ltb, ◌<◌}
 use Rattle.std.proofs.lemmas.Bool.{ltb-true}
 use Rattle.std.proofs.lemmas.List.Elements.{All-nil, All-cons}
 use Rattle.std.specs.Prelude.{Option, Some, None}
@@ -71,7 +71,6 @@ doubled-core = record {
   funs_once = All-cons (IsBoundOnce 3) twice [] (record { is_once = refl; has_text = below 3 (0 ∷ (1 ∷ (2 ∷ []))) refl }) (All-nil (IsBoundOnce 3));
   main_once = record { is_once = refl; has_text = below 3 (0 ∷ []) refl };
   main_past = refl;
-  node_number = omega arith;
 }
 
 -- a whole list is doubled whole, with one call more than it has items
@@ -113,7 +112,6 @@ doubled_other-core = record {
   funs_once = All-cons (IsBoundOnce 3) twice_other [] (record { is_once = refl; has_text = below 3 (2 ∷ (0 ∷ (1 ∷ []))) refl }) (All-nil (IsBoundOnce 3));
   main_once = record { is_once = refl; has_text = below 3 (1 ∷ []) refl };
   main_past = refl;
-  node_number = omega arith;
 }
 
 twice-renamed : IsRenamedBody twice twice_other

@@ -110,10 +110,13 @@ pub record IsBoundOnce (texts : ℕ) (b : CoreBody) : Type 0 where
   pub is_once : IsTrue (is_distinct (names_bound_by b))
   pub has_text : (x : ℕ) → holds x (names_bound_by b) ≡ true → x < texts
 
--- what each program keeps: every body binds each name at most once, each bound name has a text, the
--- main program has no historical parameters, and there are fewer than 2^32 nodes
+-- what each program keeps: every body binds each name at most once, each bound name has a text, and the
+-- main program has no historical parameters
 pub record IsCore (c : CoreProgram) : Type 0 where
   pub funs_once : All (IsBoundOnce (length c.texts)) c.funs
   pub main_once : IsBoundOnce (length c.texts) c.main
   pub main_past : c.main.past ≡ []
-  pub node_number : nodes_of_bodies c.funs + node_count c.main.body < 2 ^ 32
+
+-- it has fewer than 2^32 nodes, so that each of them has a number
+abbrev pub HasFewNodes : CoreProgram → Type 0
+HasFewNodes c = nodes_of_bodies c.funs + node_count c.main.body < 2 ^ 32

@@ -4,7 +4,7 @@ ghost use Rattle.std.specs.Prelude.{◌≡◌};
 ghost use Rattle.stream_type.specs.StreamType.{type_of};
 ghost use Rattle.bunch.specs.BunchTree.{as_type};
 ghost use Rattle.core_term.specs.CoreTerm.{core_of};
-ghost use Rattle.core_term.specs.FreeNames.{IsCore};
+ghost use Rattle.core_term.specs.FreeNames.{IsCore, HasFewNodes};
 ghost use Rattle.core_term.specs.Typing.{IsTypedCore};
 
 use crate::program::Core;
@@ -42,6 +42,7 @@ impl Checked {
     /// parameters. It takes no memory.
     pub fn of(c: Core, input: Ty) -> Checked
         requires core { IsCore (core_of c) }
+        requires nodes { HasFewNodes (core_of c) }
         requires typed { IsTypedCore (core_of c) }
         requires input { type_of input ≡ as_type (core_of c).main.params }
         ensures { result ≡ c }
@@ -53,6 +54,7 @@ impl Checked {
     pub fn core(&self) -> &Core
         ensures program { result.now ≡ self.now }
         ensures core { IsCore (core_of result.now) }
+        ensures nodes { HasFewNodes (core_of result.now) }
         ensures typed { IsTypedCore (core_of result.now) }
     {
         &self.core

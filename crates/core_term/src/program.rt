@@ -20,7 +20,7 @@ pub struct Body {
 
 /// A program: its functions by number, its main program, and the source text of each name by number.
 /// Contracts see it as a `CoreProgram` by `core_of` (`specs/CoreTerm.antt`). A call that needs more
-/// of it asks for `IsCore` (`specs/FreeNames.antt`).
+/// of it asks for `IsCore`, or for `HasFewNodes` (`specs/FreeNames.antt`).
 #[derive(Drop)]
 pub struct Core {
     /// The functions.

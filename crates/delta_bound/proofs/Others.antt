@@ -4,7 +4,7 @@ use Rattle.std.specs.Prelude.{Option, Some, None}
 use Rattle.std.specs.Borrow.{Bor}
 use Rattle.std.specs.Slice.{IsItemAt}
 use Rattle.core_term.specs.CoreTerm.{CoreBody, CoreProgram}
-use Rattle.core_term.specs.FreeNames.{IsCore, nodes_of_bodies}
+use Rattle.core_term.specs.FreeNames.{HasFewNodes, nodes_of_bodies}
 use Rattle.delta_check.proofs.Joined.{node_count-one}
 use Rattle.state_bounds.specs.Bounds.{Bound}
 use Rattle.state_bounds.specs.ProgramBound.{is_same_bound, first_other, first_cycle, program_numbers, numbers_after, reached_marks, mark_count}
@@ -61,5 +61,5 @@ funs_below : (bs : List CoreBody) → length bs ≤ nodes_of_bodies bs
 funs_below [] = omega arith
 funs_below (b ∷ bs) = let one = node_count-one b.body in let rest = funs_below bs in omega (arith, one, rest)
 
-pub funs_fit : (c : CoreProgram) → IsCore c → length c.funs < 2 ^ 32
-funs_fit c h = let less = funs_below c.funs in let fits = h.node_number in omega (arith, less, fits)
+pub funs_fit : (c : CoreProgram) → HasFewNodes c → length c.funs < 2 ^ 32
+funs_fit c h = let less = funs_below c.funs in omega (arith, less, h)

@@ -2,7 +2,7 @@
 
 ghost use Rattle.std.specs.Prelude.{◌≡◌, ◌<◌, ◌^◌, ℕ, length, Some, None, IfOk, IfErr};
 ghost use Rattle.core_term.specs.CoreTerm.{core_of};
-ghost use Rattle.core_term.specs.FreeNames.{IsCore};
+ghost use Rattle.core_term.specs.FreeNames.{HasFewNodes};
 ghost use Rattle.core_term.specs.Inert.{is_inert_fun};
 ghost use Rattle.core_term.specs.Typing.{IsTypedCore};
 ghost use Rattle.delta_check.specs.Counting.{counts_in};
@@ -33,7 +33,7 @@ pub fn bound(alloc: Global, c: &Checked) -> Result<u64, BoundRefusal>
 
 // The same of a program that is typed, and whose nodes are fewer than 2^32.
 fn bound_of(alloc: Global, c: &Core) -> Result<u64, BoundRefusal>
-    requires core { IsCore (core_of c.now) }
+    requires nodes { HasFewNodes (core_of c.now) }
     requires typed { IsTypedCore (core_of c.now) }
     ensures bound { IfOk result (λ n. HasBound c.now n) }
     ensures refused { IfErr result (λ e. Refuses e c.now) }
@@ -51,7 +51,7 @@ fn bound_of(alloc: Global, c: &Core) -> Result<u64, BoundRefusal>
 
 // The same of a program in which no name without a size is counted.
 fn sized(alloc: Global, c: &Core, inert: &[bool], reached: &[bool]) -> Result<u64, BoundRefusal>
-    requires core { IsCore (core_of c.now) }
+    requires nodes { HasFewNodes (core_of c.now) }
     requires typed { IsTypedCore (core_of c.now) }
     requires inert { (f : ℕ) → counts_in (core_of c.now).funs inert.now f ≡ is_inert_fun (core_of c.now).funs f }
     requires reached { reached.now ≡ reached_marks (core_of c.now) }
@@ -64,7 +64,7 @@ fn sized(alloc: Global, c: &Core, inert: &[bool], reached: &[bool]) -> Result<u6
 
 // The bound by the functions' numbers, where none of them still grows.
 fn counted(alloc: Global, c: &Core, inert: &[bool], reached: &[bool]) -> Result<u64, BoundRefusal>
-    requires core { IsCore (core_of c.now) }
+    requires nodes { HasFewNodes (core_of c.now) }
     requires inert { (f : ℕ) → counts_in (core_of c.now).funs inert.now f ≡ is_inert_fun (core_of c.now).funs f }
     requires reached { reached.now ≡ reached_marks (core_of c.now) }
     ensures bound { IfOk result (λ n. IsCounted c.now n) }
@@ -96,7 +96,7 @@ fn growing(
 
 // The refusal of a program with such a function.
 fn growth(c: &Core, f: usize) -> BoundRefusal
-    requires core { IsCore (core_of c.now) }
+    requires nodes { HasFewNodes (core_of c.now) }
     requires first { first_cycle (core_of c.now) ≡ Some f }
     ensures { RefusesCount result c.now }
 {

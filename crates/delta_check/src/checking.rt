@@ -5,7 +5,7 @@ ghost use Rattle.std.specs.List.{concat};
 ghost use Rattle.stream_type.specs.StreamType.{type_of, eps};
 ghost use Rattle.bunch.specs.BunchTree.{tree_of, empty};
 ghost use Rattle.core_term.specs.CoreTerm.{term_of, term_in, terms_from, places_of, places_in, core_of, core_body_of, fun_at, leaf_types, node_count, node_counts, body_places, core_places};
-ghost use Rattle.core_term.specs.FreeNames.{IsCore, nodes_of_bodies};
+ghost use Rattle.core_term.specs.FreeNames.{IsCore, HasFewNodes, nodes_of_bodies};
 ghost use Rattle.core_term.specs.Inert.{is_inert_fun};
 ghost use Rattle.core_term.specs.Typing.{IsTypedCore, type_at, with_name, with_let};
 ghost use Rattle.core_term.specs.TypeFaults.{node, nodes_of, nodes_among, nodes_of_body, program_nodes, first_fault};
@@ -31,7 +31,8 @@ use stream_type::{Memory, Ty};
 /// breaks a rule, the place of that node, and the first rule that it breaks (`first_fault` there).
 /// Its other error is want of memory.
 pub fn check(alloc: Global, c: Core) -> Result<Checked, TypeFault>
-    requires { IsCore (core_of c) }
+    requires core { IsCore (core_of c) }
+    requires nodes { HasFewNodes (core_of c) }
     ensures program { IfOk result (λ k. k ≡ c) }
     ensures typed { IfOk result (λ _. IsTypedCore (core_of c)) }
     ensures untyped { IfErr result (λ f. Denies f (IsTypedCore (core_of c))) }
@@ -50,7 +51,7 @@ pub fn check(alloc: Global, c: Core) -> Result<Checked, TypeFault>
 /// Finds the first broken rule of a program with fewer than 2^32 nodes, as `check` tells it. Its other
 /// error is want of memory.
 pub fn check_core(alloc: Global, c: &Core) -> Result<(), TypeFault>
-    requires { nodes_of_bodies (core_of c.now).funs + node_count (core_of c.now).main.body < 2 ^ 32 }
+    requires { HasFewNodes (core_of c.now) }
     ensures typed { IfOk result (λ _. IsTypedCore (core_of c.now)) }
     ensures untyped { IfErr result (λ f. Denies f (IsTypedCore (core_of c.now))) }
     ensures first { IfErr result (λ f. TellsFirst f (first_fault (core_of c.now))) }
@@ -64,7 +65,7 @@ pub fn check_core(alloc: Global, c: &Core) -> Result<(), TypeFault>
 // Finds the first broken rule of the functions in turn and of the main program after them, and else
 // the number of all nodes.
 fn check_bodies(alloc: Global, c: &Core, marks: &[bool]) -> Result<u32, TypeFault>
-    requires count { nodes_of_bodies (core_of c.now).funs + node_count (core_of c.now).main.body < 2 ^ 32 }
+    requires count { HasFewNodes (core_of c.now) }
     requires marks { (f : ℕ) → counts_in (core_of c.now).funs marks.now f ≡ is_inert_fun (core_of c.now).funs f }
     ensures { Finds (core_of c.now).funs (is_inert_fun (core_of c.now).funs) 0 (program_nodes (core_of c.now)) (core_places c.now) result }
 {

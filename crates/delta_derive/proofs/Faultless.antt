@@ -31,7 +31,7 @@ use Rattle.bunch_rules.proofs.Parts.{beside_distinct, pair_distinct, single_apar
 use Rattle.bunch_rules.proofs.Derivations.{either, none_in, let_names, beside_names, pair_names, binds_fewer, binds_first, binds_second, binds_tail, binds_below, binds_below_two, let_distinct, different}
 use Rattle.delta_derive.specs.declared.fault.DeriveFault.TheVariants.{BadStep, BadRule}
 use Rattle.delta_derive.specs.Rearranged.{then_by, put_at, leaf_type, with_leaf}
-use Rattle.delta_derive.specs.Claims.{Claim, claim, below_one, below_two, let_claims, joined, shares, all_shared, passes, is_called, call_parts, rule_parts, rule_parts_by}
+use Rattle.delta_derive.specs.Claims.{Claim, claim, below_one, below_two, let_claims, with_claims, shares, all_shared, passes, is_called, call_parts, rule_parts, rule_parts_by}
 use Rattle.delta_derive.specs.FirstFault.{judged, first_from}
 use Rattle.delta_derive.proofs.Options.{none_some, both_true}
 use Rattle.delta_derive.proofs.ExactSteps.{rearranged_of}
@@ -76,9 +76,9 @@ module _ (funs : List CoreBody) (counts : ℕ → Bool) where
   SharesWell known params g es fs ls ms = (hs : List Claim) × (shares known params g es ≡ Some (hs, fs)) × ((gs : List Claim) → Passes gs ms → Passes (hs ++ gs) ls)
 
   two_shared : (known : Known) (a b g h : BunchTree) (es fs gs : CoreTerms) (ls ms ns : List Line) (u : SharesWell known a g es fs ls ms) (v : SharesWell known b h fs gs ms ns)
-      → (then_by (shares known a g es) (λ r. joined r.0 (shares known b h r.1)) ≡ Some (u.0 ++ v.0, gs)) × ((is : List Claim) → Passes is ns → Passes ((u.0 ++ v.0) ++ is) ls)
+      → (then_by (shares known a g es) (λ r. with_claims r.0 (shares known b h r.1)) ≡ Some (u.0 ++ v.0, gs)) × ((is : List Claim) → Passes is ns → Passes ((u.0 ++ v.0) ++ is) ls)
   two_shared known a b g h es fs gs ls ms ns u v = (
-    ap (λ o. then_by o (λ r. joined r.0 (shares known b h r.1))) u.1 ∙ ap (λ o. joined u.0 o) v.1,
+    ap (λ o. then_by o (λ r. with_claims r.0 (shares known b h r.1))) u.1 ∙ ap (λ o. with_claims u.0 o) v.1,
     λ is w. subst (λ l. Passes l ls) (sym (append_assoc u.0 v.0 is)) (u.2 (v.0 ++ is) (v.2 is w)),
   )
 

@@ -10,26 +10,26 @@ use Rattle.core_term.specs.TypeFaults.{found_where}
 use Rattle.bunch_rules.specs.Derivation.{Known}
 use Rattle.delta_derive.specs.declared.open.OpenTerm.{OpenTerm}
 use Rattle.delta_derive.specs.Rearranged.{then_by}
-use Rattle.delta_derive.specs.Claims.{Claim, shares, joined, where_none, all_shared}
+use Rattle.delta_derive.specs.Claims.{Claim, shares, with_claims, where_none, all_shared}
 use Rattle.delta_derive.specs.OpenTerms.{claim_of, Shared, Adds}
 
 -- the claims of both sides
 abbrev pub both : Known → BunchTree → BunchTree → BunchTree → BunchTree → CoreTerms → Option (List Claim × CoreTerms)
-both known a b g h es = then_by (shares known a g es) (λ r. joined r.0 (shares known b h r.1))
+both known a b g h es = then_by (shares known a g es) (λ r. with_claims r.0 (shares known b h r.1))
 
 module _ (known : Known) (a b g h : BunchTree) (es : CoreTerms) where
   -- a side that hasn't the shape
   pub first_unshared : shares known a g es ≡ None → both known a b g h es ≡ None
-  first_unshared e = ap (λ o. then_by o (λ r. joined r.0 (shares known b h r.1))) e
+  first_unshared e = ap (λ o. then_by o (λ r. with_claims r.0 (shares known b h r.1))) e
 
   pub second_unshared : (old mid : List OpenTerm) (rest : List Node) → Shared (shares known a g es) old mid rest → shares known b h (terms_from (map term_of rest)) ≡ None → both known a b g h es ≡ None
-  second_unshared old mid rest u e = ap (λ o. then_by o (λ r. joined r.0 (shares known b h r.1))) u.1 ∙ ap (joined u.0) e
+  second_unshared old mid rest u e = ap (λ o. then_by o (λ r. with_claims r.0 (shares known b h r.1))) u.1 ∙ ap (with_claims u.0) e
 
   -- both have it
   pub both_shared : (old mid new : List OpenTerm) (rest more : List Node) → Shared (shares known a g es) old mid rest → Shared (shares known b h (terms_from (map term_of rest))) mid new more → Shared (both known a b g h es) old new more
   both_shared old mid new rest more u v = (
     u.0 ++ v.0,
-    ap (λ o. then_by o (λ r. joined r.0 (shares known b h r.1))) u.1 ∙ ap (joined u.0) v.1,
+    ap (λ o. then_by o (λ r. with_claims r.0 (shares known b h r.1))) u.1 ∙ ap (with_claims u.0) v.1,
     v.2 ∙ ap (λ l. l ++ v.0) u.2 ∙ append_assoc (map claim_of old) u.0 v.0,
   )
 

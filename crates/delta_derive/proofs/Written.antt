@@ -19,7 +19,7 @@ use Rattle.bunch_rules.specs.Rearranging.{Turn, Replaces, stays_first}
 use Rattle.bunch_rules.specs.Derivation.{Known, hidden, learned}
 use Rattle.bunch_rules.specs.Written.{Line, plain_rule, rule_at, step_at, Writes, WritesPassed, WritesShared, nothing_written, shared_lines, empty_lines, leaf_lines, comma_lines, semi_lines, line_of_step, var_line, eps_line, unit_line, nil_line, past_line, par_line, inl_line, inr_line, cat_line, cons_line, let_line, let_par_line, let_cat_line, case_sum_line, case_star_line, wait_line, call_line}
 use Rattle.delta_derive.specs.Rearranged.{rearranged, part_at, put_at, has_leaf, leaf_type, with_leaf}
-use Rattle.delta_derive.specs.Claims.{Claim, claim, two, beside, below_one, below_two, let_claims, of_semi, joined, shares, where_none, all_shared, passes, is_called, call_parts, rule_parts, rule_parts_by}
+use Rattle.delta_derive.specs.Claims.{Claim, claim, two, beside, below_one, below_two, let_claims, of_semi, with_claims, shares, where_none, all_shared, passes, is_called, call_parts, rule_parts, rule_parts_by}
 use Rattle.delta_derive.specs.FirstFault.{after}
 use Rattle.delta_derive.proofs.Options.{some_same, none_some, mapped, bound, found, and_both, not_true, not_some}
 use Rattle.delta_derive.proofs.ExactSteps.{step_of_rearranged}
@@ -35,7 +35,7 @@ sides_of (comma h k) f a e = none_some e
 sides_of (semi h k) f a e = (h, k, refl, e)
 
 -- claims of two lists of parts
-both_shared : (gs : List Claim) (o : Option (List Claim × CoreTerms)) (r : List Claim × CoreTerms) → joined gs o ≡ Some r → (q : List Claim × CoreTerms) × (o ≡ Some q) × ((gs ++ q.0, q.1) ≡ r)
+both_shared : (gs : List Claim) (o : Option (List Claim × CoreTerms)) (r : List Claim × CoreTerms) → with_claims gs o ≡ Some r → (q : List Claim × CoreTerms) × (o ≡ Some q) × ((gs ++ q.0, q.1) ≡ r)
 both_shared gs None r e = none_some e
 both_shared gs (Some q) r e = (q, refl, some_same e)
 
@@ -81,7 +81,7 @@ module _ (funs : List CoreBody) (counts : ℕ → Bool) where
   writes_shared known (comma a b) empty es r e ls ms w = none_some e
   writes_shared known (comma a b) (leaf x t) es r e ls ms w = none_some e
   writes_shared known (comma a b) (comma g h) es r e ls ms w =
-      let m = bound (shares known a g es) (λ q. joined q.0 (shares known b h q.1)) r e in
+      let m = bound (shares known a g es) (λ q. with_claims q.0 (shares known b h q.1)) r e in
       let n = both_shared m.0.0 (shares known b h m.0.1) r m.2 in
       subst (λ q. WritesAll q.0 ls ms → WritesShared funs counts known (comma a b) (comma g h) es q.1 ls ms) n.2
       (λ k. let s = all_of_both m.0.0 n.0.0 ls ms k in comma_lines (writes_shared known a g es m.0 m.1 ls s.0 s.1) (writes_shared known b h m.0.1 n.0 n.1 s.0 ms s.2)) w
@@ -90,7 +90,7 @@ module _ (funs : List CoreBody) (counts : ℕ → Bool) where
   writes_shared known (semi a b) (leaf x t) es r e ls ms w = none_some e
   writes_shared known (semi a b) (comma g h) es r e ls ms w = none_some e
   writes_shared known (semi a b) (semi g h) es r e ls ms w =
-      let m = bound (shares known a g es) (λ q. joined q.0 (shares known b h q.1)) r e in
+      let m = bound (shares known a g es) (λ q. with_claims q.0 (shares known b h q.1)) r e in
       let n = both_shared m.0.0 (shares known b h m.0.1) r m.2 in
       subst (λ q. WritesAll q.0 ls ms → WritesShared funs counts known (semi a b) (semi g h) es q.1 ls ms) n.2
       (λ k. let s = all_of_both m.0.0 n.0.0 ls ms k in semi_lines (writes_shared known a g es m.0 m.1 ls s.0 s.1) (writes_shared known b h m.0.1 n.0 n.1 s.0 ms s.2)) w

@@ -32,17 +32,17 @@ of_semi (semi g h) f = f g h
 of_semi _ f = None
 
 -- the claims of two lists of parts, and what is left after the second
-abbrev pub joined : List Claim → Option (List Claim × CoreTerms) → Option (List Claim × CoreTerms)
-joined gs None = None
-joined gs (Some r) = Some (gs ++ r.0, r.1)
+abbrev pub with_claims : List Claim → Option (List Claim × CoreTerms) → Option (List Claim × CoreTerms)
+with_claims gs None = None
+with_claims gs (Some r) = Some (gs ++ r.0, r.1)
 
 -- the claims of the first of these arguments, where the bunch has the shape of the parameters with a bunch in the
 -- place of each leaf, and the arguments that are left
 abbrev pub shares : Known → BunchTree → BunchTree → CoreTerms → Option (List Claim × CoreTerms)
 shares known empty empty es = Some ([], es)
 shares known (leaf u t) g (term_before e es) = Some (claim known g e t ∷ [], es)
-shares known (comma a b) (comma g h) es = then_by (shares known a g es) (λ r. joined r.0 (shares known b h r.1))
-shares known (semi a b) (semi g h) es = then_by (shares known a g es) (λ r. joined r.0 (shares known b h r.1))
+shares known (comma a b) (comma g h) es = then_by (shares known a g es) (λ r. with_claims r.0 (shares known b h r.1))
+shares known (semi a b) (semi g h) es = then_by (shares known a g es) (λ r. with_claims r.0 (shares known b h r.1))
 shares known _ _ es = None
 
 -- the claims where no argument is left

@@ -4,7 +4,7 @@ ghost use Rattle.std.specs.Prelude.{◌≡◌, ◌≤◌, suc, ◌∷◌, length
 ghost use Rattle.stream_type.specs.StreamType.{type_of};
 ghost use Rattle.bunch.specs.BunchTree.{as_type};
 ghost use Rattle.core_term.specs.CoreTerm.{core_of};
-ghost use Rattle.core_term.specs.FreeNames.{IsCore};
+ghost use Rattle.core_term.specs.FreeNames.{IsCore, HasFewNodes};
 ghost use Rattle.core_term.specs.Typing.{IsTypedCore};
 ghost use Rattle.core_term.specs.Inert.{is_inert_fun};
 ghost use Rattle.delta_check.specs.Counting.{counts_in};
@@ -28,6 +28,7 @@ use stream_type::Ty;
 #[tactic(auto, using(crate::proofs::Refusing::refusing))]
 pub fn derive(alloc: Global, c: Core, text: &[u8]) -> Result<Checked, DeriveFault>
     requires core { IsCore (core_of c) }
+    requires nodes { HasFewNodes (core_of c) }
     requires text { length text.now ≤ 1048576 }
     ensures program { IfOk result (λ k. k ≡ c) }
     ensures valid { IfOk result (λ _. IsValidText (core_of c) text.now) }

@@ -17,6 +17,7 @@ use Rattle.delta_check.specs.Checking.{Denies}
 use Rattle.delta_check.specs.Faults.{TellsFirst, TellsPlace}
 use Rattle.delta_meaning.specs.SourceBody.{main_of}
 use Rattle.delta_meaning.specs.SourceMeaning.{source_program_run}
+use Rattle.delta_meaning.proofs.BoundOnce.{elaborated_is_core}
 use Rattle.delta_meaning.proofs.WholePrograms.{core_keeps_meaning}
 use Rattle.delta_meaning.proofs.KeptTypes.{elaborated_has_types}
 use Rattle.delta_meaning.specs.NodePlaces.{program_places}
@@ -64,7 +65,7 @@ pub accepted_grows : AcceptedGrows
 accepted_grows p c a q more is_prefix is_part =
     let types = elaborated_has_types p c a.elaborated in
     let input = sym types.input in
-    let grows = mean_grows c a.core a.typed q more
+    let grows = mean_grows c (elaborated_is_core p c a.elaborated) a.typed q more
     (subst (λ (t : StreamType). IsPrefix t q) input is_prefix) (subst (λ (t : StreamType). IsPart t q more) input is_part) in
     let first = core_keeps_meaning p c a.elaborated a.typed q in
     let second = core_keeps_meaning p c a.elaborated a.typed more in
@@ -81,4 +82,4 @@ accepted_is_whole p c a q is_prefix whole few =
     let same = core_keeps_meaning p c a.elaborated a.typed q in
     let calls = subst (λ (r : Run). r.calls ≤ horizon) (sym same) (below_horizon _ few) in
     subst (λ (r : Run). IsTrue (is_maximal r.out)) same
-    (mean_is_whole c a.core a.typed q (subst (λ (t : StreamType). IsPrefix t q) (sym types.input) is_prefix) whole calls)
+    (mean_is_whole c (elaborated_is_core p c a.elaborated) a.typed q (subst (λ (t : StreamType). IsPrefix t q) (sym types.input) is_prefix) whole calls)

@@ -2,7 +2,6 @@
 use Rattle.std.specs.Prelude.{ℕ, ◌≡◌, Some, Ok, Err, IsSomeAnd, slice_get}
 use Rattle.delta_tree.specs.SyntaxTree.{ProgramTree}
 use Rattle.core_term.specs.CoreTerm.{CoreProgram}
-use Rattle.core_term.specs.FreeNames.{IsCore}
 use Rattle.core_term.specs.Typing.{IsTypedCore}
 use Rattle.core_term.specs.TypeFaults.{first_fault}
 use Rattle.delta_check.specs.declared.fault.TypeCause.{TypeCause}
@@ -15,11 +14,9 @@ use Rattle.delta_elab.specs.declared.fault.ProgramFault.{ProgramFault}
 use Rattle.delta_elab.specs.declared.fault.ProgramFault.TheVariants.{Memory, Elab, «Type»}
 use Rattle.delta_elab.specs.FirstFault.{fault_of}
 
--- a program is accepted with a core: it elaborates to it, and the core is typed. A core has fewer than 2^32
--- nodes, so that each has a number
+-- a program is accepted with a core: it elaborates to it, and the core is typed
 pub record IsAccepted (p : ProgramTree) (c : CoreProgram) : Type 0 where
   pub elaborated : elaborate p ≡ Ok c
-  pub core : IsCore c
   pub typed : IsTypedCore c
 
 -- a program elaborates to a core that isn't typed: of its nodes the one with this number, at this place, is the

@@ -3,7 +3,7 @@
 ghost use Rattle.std.specs.Prelude.{◌≡◌, ◌++◌, length, Ok, Err, true, IfOk, OnOk, IfErr, IfSome};
 ghost use Rattle.delta_tree.specs.Tree.{program_of};
 ghost use Rattle.core_term.specs.CoreTerm.{typed_names_of, core_body_of, body_places, core_of, core_places, fits_of};
-ghost use Rattle.core_term.specs.FreeNames.{IsCore};
+ghost use Rattle.core_term.specs.FreeNames.{IsCore, HasFewNodes};
 ghost use Rattle.delta_meaning.specs.TypeNames.{no_type_names};
 ghost use Rattle.delta_meaning.specs.SourceBody.{main_of, function_named, number_named};
 ghost use Rattle.delta_meaning.specs.NewNames.{new_in_body};
@@ -30,10 +30,11 @@ use stream_type::{Memory, Ty};
 /// The core of a program, where nothing is wrong with its names and types, and else the first thing that
 /// is wrong: `elaborate` in the specs of delta_meaning, which reads the tree alone. Each node of the core
 /// has the place of what it stands for. Its other error is want of memory, which it answers too where
-/// the core has 2^32 nodes or more.
+/// the core has 2^32 nodes or more; that of a text's program never has.
 pub fn elaborate(alloc: Global, p: &Program) -> Result<Core, ElabFault>
     ensures core { IfOk result (λ c. elaborate (program_of p.now) ≡ Ok (core_of c)) }
     ensures names { IfOk result (λ c. IsCore (core_of c)) }
+    ensures nodes { IfOk result (λ c. HasFewNodes (core_of c)) }
     ensures places { IfOk result (λ c. core_places c ≡ program_places (program_of p.now)) }
     ensures fits { IfOk result (λ c. fits_of (core_of c) ≡ true) }
     ensures fault { IfErr result (λ e. IfSome (fault_of e) (λ x. elaborate (program_of p.now) ≡ Err x)) }

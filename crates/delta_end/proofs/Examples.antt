@@ -8,7 +8,8 @@ use Rattle.program_refusal.specs.declared.refusal.RefusalName.TheVariants.{Expec
 use Rattle.program_refusal.specs.declared.refusal.Refusal.{Refusal}
 use Rattle.delta_end.specs.declared.objection.BoundName.TheVariants.{Cycle}
 use Rattle.delta_end.specs.declared.objection.TableName.TheVariants.{BadNumber}
-use Rattle.delta_end.specs.declared.objection.Objection.TheVariants.{Bound, Table}
+use Rattle.delta_end.specs.declared.objection.StateName.TheVariants.{Untyped}
+use Rattle.delta_end.specs.declared.objection.Objection.TheVariants.{Bound, Table, State}
 use Rattle.delta_end.specs.declared.end.InputFault.TheVariants.{Frame, Event}
 use Rattle.delta_end.specs.declared.end.End.TheVariants.{Input, Refused, Objected}
 use Rattle.delta_end.specs.Note.{note_of}
@@ -30,3 +31,6 @@ note_of_table : note_of (Objected (Table BadNumber 0 1)) ≡ codes "delta: table
 note_of_table =
     ap₂ (λ (file row : List ℕ). (codes "delta: table refused: " ++ codes "BadNumber") ++ ((codes " in " ++ file) ++ (codes " at " ++ row ++ 10 ∷ [])))
     (decimal_digit 0 (omega arith)) (decimal_digit 1 (omega arith))
+
+note_of_state : note_of (Objected (State Untyped 0)) ≡ codes "delta: state refused: Untyped at 0\n"
+note_of_state = ap (λ (digits : List ℕ). (codes "delta: state refused: " ++ codes "Untyped") ++ (codes " at " ++ digits ++ 10 ∷ [])) (decimal_digit 0 (omega arith))

@@ -4,7 +4,7 @@ use Rattle.port.specs.declared.fault.IoFault.{IoFault}
 use Rattle.port.specs.declared.fault.IoFault.TheVariants.{Memory as NoMemory, Failed}
 use Rattle.port.specs.Faults.{HasCause, Rose}
 use Rattle.delta_end.specs.declared.objection.Objection.{Objection}
-use Rattle.delta_end.specs.declared.objection.Objection.TheVariants.{Derivation, Bound, Table}
+use Rattle.delta_end.specs.declared.objection.Objection.TheVariants.{Derivation, Bound, Table, State}
 use Rattle.delta_end.specs.declared.end.End.{End}
 use Rattle.delta_end.specs.declared.end.End.TheVariants.{Done, Usage, Refused, Input, Budget, Deep, Open, FileFailed, ReadFailed, WriteFailed, Memory, Long, Objected}
 use Rattle.delta_end.specs.End.{FileCause, ReadCause, WriteCause, IsOfLoop, objection_status, status_of, status_without_note}
@@ -16,6 +16,7 @@ pub objected_late : (what : Objection) → 10 ≤ objection_status what
 objected_late (Derivation name at) = omega arith
 objected_late (Bound name at) = omega arith
 objected_late (Table name file row) = omega arith
+objected_late (State name at) = omega arith
 
 -- the loop shows no failed call of the shelf
 pub file_stands : (end : End) (before now : ℕ) → IsOfLoop end → now ≡ before → FileCause end before now

@@ -2,7 +2,7 @@
 use Rattle.std.specs.Prelude.{◌≡◌, ℕ, ⊤}
 use Rattle.port.specs.Faults.{Rose}
 use Rattle.delta_end.specs.declared.objection.Objection.{Objection}
-use Rattle.delta_end.specs.declared.objection.Objection.TheVariants.{Derivation, Bound, Table}
+use Rattle.delta_end.specs.declared.objection.Objection.TheVariants.{Derivation, Bound, Table, State}
 use Rattle.delta_end.specs.declared.end.End.{End}
 use Rattle.delta_end.specs.declared.end.End.TheVariants.{Done, Usage, Refused, Input, Budget, Deep, Open, FileFailed, ReadFailed, WriteFailed, Memory, Long, Objected}
 
@@ -11,6 +11,7 @@ abbrev pub objection_status : Objection → ℕ
 objection_status (Derivation name at) = 11
 objection_status (Bound name at) = 12
 objection_status (Table name file row) = 13
+objection_status (State name at) = 10
 
 -- the exit status
 abbrev pub status_of : End → ℕ

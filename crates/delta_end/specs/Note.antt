@@ -14,8 +14,10 @@ use Rattle.delta_end.specs.declared.objection.BoundName.{BoundName}
 use Rattle.delta_end.specs.declared.objection.BoundName.TheVariants.{Unbounded, Cycle, Large}
 use Rattle.delta_end.specs.declared.objection.TableName.{TableName}
 use Rattle.delta_end.specs.declared.objection.TableName.TheVariants as table
+use Rattle.delta_end.specs.declared.objection.StateName.{StateName}
+use Rattle.delta_end.specs.declared.objection.StateName.TheVariants as state
 use Rattle.delta_end.specs.declared.objection.Objection.{Objection}
-use Rattle.delta_end.specs.declared.objection.Objection.TheVariants.{Derivation, Bound, Table}
+use Rattle.delta_end.specs.declared.objection.Objection.TheVariants.{Derivation, Bound, Table, State}
 use Rattle.delta_end.specs.declared.end.InputFault.{InputFault}
 use Rattle.delta_end.specs.declared.end.InputFault.TheVariants.{Frame, Event, Line, LongLine}
 use Rattle.delta_end.specs.declared.end.End.{End}
@@ -84,6 +86,13 @@ table_name table.Long = codes "Long"
 table_name table.Ragged = codes "Ragged"
 table_name table.BadNumber = codes "BadNumber"
 
+-- the name of why a state is refused
+abbrev pub state_name : StateName → List ℕ
+state_name state.Form = codes "Form"
+state_name state.Untyped = codes "Untyped"
+state_name state.Version = codes "Version"
+state_name state.Large = codes "Large"
+
 -- what is refused or stopped, by which name and at which place
 abbrev pub refusal_note : List ℕ → List ℕ → ℕ → List ℕ
 refusal_note what name at = (what ++ name) ++ (codes " at " ++ decimal at ++ 10 ∷ [])
@@ -98,6 +107,7 @@ abbrev pub objection_note : Objection → List ℕ
 objection_note (Derivation name at) = refusal_note (codes "delta: derivation refused: ") (derivation_name name) at
 objection_note (Bound name at) = refusal_note (codes "delta: no bound: ") (bound_name name) at
 objection_note (Table name file row) = table_note (table_name name) file row
+objection_note (State name at) = refusal_note (codes "delta: state refused: ") (state_name name) at
 
 -- the line; none at the end of a command that did all it was to do
 abbrev pub note_of : End → List ℕ

@@ -40,7 +40,7 @@ pub enum End {
     Deep(u64),
     /// The input ended between two frames, and its type awaits more.
     Open,
-    /// The program's file couldn't be read.
+    /// A file couldn't be read or written.
     FileFailed,
     /// A read of the link failed.
     ReadFailed,
@@ -72,6 +72,7 @@ impl End {
             End::Objected(Objection::Derivation(_, _)) => 11,
             End::Objected(Objection::Bound(_, _)) => 12,
             End::Objected(Objection::Table(_, _, _)) => 13,
+            End::Objected(Objection::State(_, _)) => 10,
         }
     }
 }

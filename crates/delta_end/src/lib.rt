@@ -9,5 +9,5 @@ mod telling;
 
 pub use answering::answer;
 pub use end::{End, InputFault};
-pub use objection::{BoundName, DerivationName, Objection, TableName};
+pub use objection::{BoundName, DerivationName, Objection, StateName, TableName};
 pub use telling::note;

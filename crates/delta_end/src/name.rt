@@ -1,10 +1,10 @@
 //! The names of faults, as notes tell them.
 
 ghost use Rattle.std.specs.Prelude.{◌≡◌};
-ghost use Rattle.delta_end.specs.Note.{frame_name as name_of_frame, event_name as name_of_event, line_name as name_of_line, derivation_name as name_of_derivation, bound_name as name_of_bound, table_name as name_of_table, name_of as name_of_input};
+ghost use Rattle.delta_end.specs.Note.{frame_name as name_of_frame, event_name as name_of_event, line_name as name_of_line, derivation_name as name_of_derivation, bound_name as name_of_bound, table_name as name_of_table, state_name as name_of_state, name_of as name_of_input};
 
 use crate::end::InputFault;
-use crate::objection::{BoundName, DerivationName, TableName};
+use crate::objection::{BoundName, DerivationName, StateName, TableName};
 use event_frame::FrameFault;
 use event_text::LineFault;
 use event_word::EventFault;
@@ -93,5 +93,17 @@ pub fn table_name(name: TableName) -> &'static [u8]
         TableName::Long => b"Long",
         TableName::Ragged => b"Ragged",
         TableName::BadNumber => b"BadNumber",
+    }
+}
+
+/// The name of why a state is refused.
+pub fn state_name(name: StateName) -> &'static [u8]
+    ensures { result.now ≡ name_of_state name }
+{
+    match name {
+        StateName::Form => b"Form",
+        StateName::Untyped => b"Untyped",
+        StateName::Version => b"Version",
+        StateName::Large => b"Large",
     }
 }

@@ -41,6 +41,19 @@ pub enum TableName {
     BadNumber,
 }
 
+/// Why a state that was kept, or is to be kept, is refused.
+#[derive(Clone, Copy, Debug, PartialEq, Eq)]
+pub enum StateName {
+    /// A byte can't stand in its place.
+    Form,
+    /// It isn't typed for the program.
+    Untyped,
+    /// It is of another version.
+    Version,
+    /// It has too many bytes.
+    Large,
+}
+
 /// What is said against a program whose text is good, by name and place.
 #[derive(Clone, Copy, Debug, PartialEq, Eq)]
 pub enum Objection {
@@ -51,4 +64,7 @@ pub enum Objection {
     /// The tables for it are refused. The numbers are those of the file and of the row, from 0, and 0 where there
     /// is none.
     Table(TableName, u32, u32),
+    /// A state of it is refused. The place counts the bytes before, or the states of one that isn't typed; it is the
+    /// version of one of another version, and the greatest number of bytes for one that is too large.
+    State(StateName, u32),
 }

@@ -6,7 +6,7 @@ ghost use Rattle.program_refusal.specs.RefusalName.{refusal_name as name_of_refu
 ghost use Rattle.delta_end.specs.Note.{note_of, name_of, refusal_note, table_note, objection_note, place_of, Says};
 
 use crate::end::{End, InputFault};
-use crate::name::{bound_name, derivation_name, input_name, table_name};
+use crate::name::{bound_name, derivation_name, input_name, state_name, table_name};
 use crate::objection::Objection;
 use event_frame::FrameFault;
 use port::{IoFault, Sink};
@@ -172,6 +172,10 @@ fn say_objection<N: Sink>(sink: &mut N, what: Objection) -> Result<(), IoFault>
         Objection::Table(name, file, row) => {
             let name = table_name(name);
             say_table(sink, name, u64::from(file), u64::from(row))
+        }
+        Objection::State(name, at) => {
+            let name = state_name(name);
+            say_refusal(sink, b"delta: state refused: ", name, u64::from(at))
         }
     }
 }

@@ -16,11 +16,11 @@ last_told None = codes "none"
 last_told (Some n) = signed_decimal n
 
 -- the items, what is told of an input and of an output, and of the last number put out
-abbrev pub line_of : ℕ → List ℕ → List ℕ → List ℕ → List ℕ
-line_of items input output last =
+abbrev pub totals_line : ℕ → List ℕ → List ℕ → List ℕ → List ℕ
+totals_line items input output last =
     concat (codes "items " ∷ decimal items ∷ codes " in " ∷ input ∷ codes " out " ∷ output ∷ codes " last " ∷ last ∷ (10 ∷ []) ∷ [])
 
 -- the line of the load, and of what is counted of an output on it
 abbrev pub summary_of : ℕ → ℕ → Totals → List ℕ
 summary_of start items out =
-    line_of items (counts_told (length (load start items)) (stream_bytes (load start items))) (counts_told out.events out.bytes) (last_told out.last)
+    totals_line items (counts_told (length (load start items)) (stream_bytes (load start items))) (counts_told out.events out.bytes) (last_told out.last)

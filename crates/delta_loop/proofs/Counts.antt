@@ -1,9 +1,10 @@
 -- A reader answers no more events than it was given bytes.
-use Rattle.std.proofs.Common.{ℕ, ◌≤◌, ◌^◌, List, [], ◌∷◌, ◌++◌, Option, Some, None, length, ap, arith, length-append}
+use Rattle.std.proofs.Common.{ℕ, suc, ◌+◌, ◌≤◌, ◌^◌, List, [], ◌∷◌, ◌++◌, Option, Some, None, length, ap, arith, length-append}
 use Rattle.event_word.specs.StreamEvent.{StreamEvent}
 use Rattle.event_frame.specs.declared.version.Version.{Version}
 use Rattle.event_frame.specs.FrameReader.{FrameReader}
 use Rattle.event_frame.specs.Frames.{header, frame, frames}
+use Rattle.event_frame.specs.Reading.{Place, Move, Goes, Gives, Faults, advance, go_on, reading_from, start, whole}
 use Rattle.event_frame.specs.Reads.{Reads, Takes, CanTake, taken_bytes}
 use Rattle.delta_loop.specs.Meaning.{Meaning, Stands, Begun}
 use Rattle.delta_loop.specs.Loop.{IsLive, IsFresh, given_to}
@@ -19,6 +20,20 @@ events_taken None word none = omega (arith, ap (λ (w : List StreamEvent). lengt
 events_taken (Some v) word fit =
     let all = events_in_frames v word in
     omega (arith, all, length-append (header v) (frames v word))
+
+-- each byte that is read ends one event at most
+events_read : (place : Place) (at : ℕ) (bytes : List ℕ) → length (reading_from place at bytes).word ≤ length bytes
+events_read place at [] = omega arith
+events_read place at (byte ∷ bytes) = by_move (advance place at byte)
+  where
+    by_move : (m : Move) → length (go_on m (λ next. reading_from next (at + 1) bytes)).word ≤ suc (length bytes)
+    by_move (Goes next) = let rest = events_read next (at + 1) bytes in omega (arith, rest)
+    by_move (Gives x next) = let rest = events_read next (at + 1) bytes in omega (arith, rest)
+    by_move (Faults fault) = omega arith
+
+-- so there are no more events than bytes
+pub events_whole : (input : List ℕ) → length (whole input) ≤ length input
+events_whole input = events_read start 0 input
 
 -- what a reader that answered an event stands for
 pub took : {old new : FrameReader} {x : StreamEvent} → Takes old new x → (all : List ℕ) (word : List StreamEvent) → Reads old all word → Reads new all (word ++ x ∷ [])

@@ -1,9 +1,13 @@
 -- A program that makes no call isn't stopped.
-use Rattle.std.proofs.Common.{◌⊎◌, inl, inr, ℕ, List, [], ◌∷◌, ◌++◌, arith}
+use Rattle.std.proofs.Common.{◌≡◌, ◌⊎◌, inl, inr, ℕ, List, [], ◌∷◌, ◌++◌, arith}
 use Rattle.event_word.specs.StreamEvent.{StreamEvent}
-use Rattle.delta_loop.specs.Meaning.{Meaning, MakesNoCalls, StartsCostly, StartsDeep, IsCostly, IsDeep}
+use Rattle.delta_loop.specs.Meaning.{Meaning, StartsCostly, StartsDeep, IsCostly, IsDeep}
 use Rattle.delta_loop.specs.Return.{StopsFirst, StopsAt}
 use Rattle.delta_loop.specs.Answer.{IsCheap}
+
+pub record MakesNoCalls (P : Meaning) : Type 0 where
+  pub calls : (word : List StreamEvent) → P.calls word ≡ 0
+  pub level : (word : List StreamEvent) → P.level word ≡ 0
 
 module _ (P : Meaning) (none : MakesNoCalls P) where
   pub no_costly : (input written : List ℕ) (at : ℕ) → StopsFirst P (StartsCostly P) input written at ⊎ StopsAt P (IsCostly P) input written at → ⊥

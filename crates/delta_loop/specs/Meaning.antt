@@ -37,11 +37,6 @@ IsCostly P word x = P.calls word + P.budget < P.calls (word ++ x ∷ [])
 abbrev pub IsDeep : Meaning → List StreamEvent → StreamEvent → Type 0
 IsDeep P word x = 1000 < P.level (word ++ x ∷ [])
 
--- a program that makes no call
-pub record MakesNoCalls (P : Meaning) : Type 0 where
-  pub calls : (word : List StreamEvent) → P.calls word ≡ 0
-  pub level : (word : List StreamEvent) → P.level word ≡ 0
-
 -- a machine stands for some program after some word, by what `stands` says of machines
 pub record Stands {M : Type 0} (stands : M → Meaning → List StreamEvent → Type 0) (machine : M) : Type 0 where
   pub program : Meaning

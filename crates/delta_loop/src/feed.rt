@@ -35,6 +35,7 @@ pub fn feed_one<M: Stepper, L: Link>(
     ensures err { IfErr result (λ end. (P : Meaning) (start : Option (List Move)) (input : List ℕ) (word more : List StreamEvent)
         → Serves M.stands P start (L.log link.old) machine.old input word → whole input ≡ word ++ event ∷ more → place ≡ place_in input word
         → Ended P start (L.log link.new) input false end) }
+    ensures program { M.same_program machine.old machine.new }
     ensures ran { IfErr result (λ end. IsOfLoop end) }
     ensures left { L.left link.new ≡ L.left link.old }
     ensures read { MatchResult result (λ _. L.read_faults link.new ≡ L.read_faults link.old) (λ end. ReadCause end (L.read_faults link.old) (L.read_faults link.new)) }
@@ -68,6 +69,7 @@ pub fn feed_whole<M: Stepper, L: Link>(
         → Feeds M.stands P start (L.log link.old) machine.old reader.old input → Settles M.stands P start (L.log link.new) machine.new reader.new input) }
     ensures err { IfErr result (λ end. (P : Meaning) (start : Option (List Move)) (input : List ℕ)
         → Feeds M.stands P start (L.log link.old) machine.old reader.old input → Ended P start (L.log link.new) input false end) }
+    ensures program { M.same_program machine.old machine.new }
     ensures given { given_to reader.new ≡ given_to reader.old }
     ensures room { room_of reader.new ≡ room_of reader.old }
     ensures little { OnOk result (length reader.new.kept ≤ 40) }

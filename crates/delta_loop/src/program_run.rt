@@ -36,6 +36,7 @@ fn run_with<M: Stepper, L: Link>(
     requires live { Begun M.stands machine.old }
     requires room { IsFresh reader.old }
     ensures ran { (P : Meaning) → HasBegun M.stands P machine.old version first.now → RanTo M.stands P (L.log link.old) (L.log link.new) (L.left link.old) (L.left link.new) machine.new result }
+    ensures program { M.same_program machine.old machine.new }
     ensures end { IsOfLoop result }
     ensures read { ReadCause result (L.read_faults link.old) (L.read_faults link.new) }
     ensures write { WriteCause result (L.write_faults link.old) (L.write_faults link.new) }
@@ -49,7 +50,7 @@ fn run_with<M: Stepper, L: Link>(
 
 /// Runs a program over a link, up to its end. The machine stands for the program before any event, and
 /// `first` are the bytes that come before the first read, behind a header of the version, if there is one.
-/// Where the input ended well, the machine then stands after all of its events. The reader's room is taken
+/// Where the input ended well, the machine then stands after all of its events, for the program that it ran. The reader's room is taken
 /// before anything is written.
 pub fn run_machine<M: Stepper, L: Link>(
     alloc: Global,
@@ -60,6 +61,7 @@ pub fn run_machine<M: Stepper, L: Link>(
 ) -> End
     requires { Begun M.stands machine.old }
     ensures ran { (P : Meaning) → HasBegun M.stands P machine.old version first.now → RanTo M.stands P (L.log link.old) (L.log link.new) (L.left link.old) (L.left link.new) machine.new result }
+    ensures program { M.same_program machine.old machine.new }
     ensures end { IsOfLoop result }
     ensures read { ReadCause result (L.read_faults link.old) (L.read_faults link.new) }
     ensures write { WriteCause result (L.write_faults link.old) (L.write_faults link.new) }

@@ -74,6 +74,7 @@ pub fn serve<M: Stepper, L: Link>(
     requires fresh { IsFresh reader.old }
     ensures ran { (P : Meaning) (start : Option (List Move)) → Serves M.stands P start (L.log link.old) machine.old [] []
         → RanTo M.stands P start (L.log link.new) (L.left link.old) (L.left link.new) machine.new result }
+    ensures program { M.same_program machine.old machine.new }
     ensures end { IsOfLoop result }
     ensures read { ReadCause result (L.read_faults link.old) (L.read_faults link.new) }
     ensures write { WriteCause result (L.write_faults link.old) (L.write_faults link.new) }

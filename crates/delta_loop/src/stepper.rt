@@ -35,9 +35,12 @@ pub trait Stepper: Sized + Drop {
     /// It stands for a program of this meaning after this word.
     ghost stands: { Self → Meaning → List StreamEvent → Type 0 };
 
+    /// The second runs no other program than the first.
+    ghost same_program: { Self → Self → Type 0 };
+
     /// Takes an event, and answers the bytes that answer it. After a fault it has taken nothing: after
     /// `Refused` it stands for what it stood for, and after want of memory and each other fault for that or
-    /// for nothing. Fewer than 2^42 events have come.
+    /// for nothing. It runs no other program than before. Fewer than 2^42 events have come.
     fn step(&mut self, alloc: Global, event: Event) -> Result<Vec<u8>, StepFault>
         requires { Stands stands self.old }
         ensures ok { IfOk result (λ bytes. (P : Meaning) (word : List StreamEvent) → stands self.old P word
@@ -50,10 +53,16 @@ pub trait Stepper: Sized + Drop {
         ensures costly { IsErrOf result StepFault.Budget → (P : Meaning) (word : List StreamEvent) → stands self.old P word
             → (P.fault word event ≡ None) × IsCostly P word event }
         ensures deep { IsErrOf result StepFault.Deep → (P : Meaning) (word : List StreamEvent) → stands self.old P word
-            → (P.fault word event ≡ None) × IsDeep P word event };
+            → (P.fault word event ≡ None) × IsDeep P word event }
+        ensures program { same_program self.old self.new };
 
     /// Whether the input may end here. Where it may, what was answered is whole.
     fn is_finished(&self) -> bool
         ensures finished { (P : Meaning) (word : List StreamEvent) → stands self.now P word → result ≡ P.finishes word }
         ensures whole { (P : Meaning) (word : List StreamEvent) → stands self.now P word → result ≡ true → P.is_whole word ≡ true };
+
+    /// So it is before any event, and over more than one.
+    ghost same_at_first: { (m : Self) → same_program m m };
+
+    ghost same_throughout: { (a b c : Self) → same_program a b → same_program b c → same_program a c };
 }

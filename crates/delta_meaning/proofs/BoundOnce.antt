@@ -1,5 +1,5 @@
 -- A core binds each number at most once, and those that it binds are the numbers of its variables.
-use Rattle.std.proofs.Common.{◌≡◌, ◌≢◌, ℕ, zero, suc, ◌+◌, ◌≤◌, ◌<◌, ◌⊎◌, inl, inr, Bool, true, false, true≢false, not, ◌&&◌, ◌||◌, if◌then◌else◌, List, [], ◌∷◌, ◌++◌, length, map, eqb, Some, None, ◌^◌, refl, sym, ap, ap₂, ◌∙◌, subst, arith, length-append, append-nil}
+use Rattle.std.proofs.Common.{◌≡◌, ◌≢◌, ℕ, zero, suc, ◌+◌, ◌≤◌, ◌<◌, ◌⊎◌, inl, inr, Bool, true, false, true≢false, not, ◌&&◌, ◌||◌, if◌then◌else◌, List, [], ◌∷◌, ◌++◌, length, map, eqb, Some, None, refl, sym, ap, ap₂, ◌∙◌, subst, arith, length-append, append-nil}
 use Rattle.std.specs.List.{All}
 use Rattle.std.proofs.lemmas.List.{length-map}
 use Rattle.std.proofs.lemmas.Bool.{eqb-true, eq-eqb, ne_eqb}
@@ -8,8 +8,8 @@ use Rattle.bunch.specs.Names.{holds}
 use Rattle.bunch.specs.BunchTree.{leaf_names}
 use Rattle.hist_value.specs.HistExpr.{HistExpr, variable, literal, unit_expr, reckoned, pair_expr, first_expr, second_expr, left_expr, right_expr, choice, nil_expr, cons_expr, fold_expr}
 use Rattle.delta_tree.specs.SyntaxTree.{WrittenHist, Expression, name_at, eps_at, unit_at, nil_at, hist_at, par_at, cat_at, cons_at, inl_at, inr_at, typed_at, let_at, let_par_at, let_cat_at, case_sum_at, case_star_at, wait_at, if_at, call_at, Head, name_head, call_head, typed_head, Expressions, no_expressions, expression_before, ProgramTree}
-use Rattle.core_term.specs.CoreTerm.{CoreTerm, CoreBody, CoreProgram, node_count}
-use Rattle.core_term.specs.FreeNames.{bound_in_expr, bound_in_exprs, bound_names, bound_in_terms, is_distinct, names_bound_by, IsBoundOnce, IsCore, nodes_of_bodies}
+use Rattle.core_term.specs.CoreTerm.{CoreTerm, CoreBody, CoreProgram}
+use Rattle.core_term.specs.FreeNames.{bound_in_expr, bound_in_exprs, bound_names, bound_in_terms, is_distinct, names_bound_by, IsBoundOnce, IsCore}
 use Rattle.core_term.specs.Environment.{NameTypes}
 use Rattle.delta_meaning.specs.TypeNames.{TypeNames}
 use Rattle.delta_meaning.specs.SourceBody.{SourceBody, functions_of, main_of, function_named, number_named}
@@ -264,12 +264,12 @@ pub each_variable_has_text : EachVariableHasText
 each_variable_has_text p c h = let e = is_fine p c h in subst (λ c. length (CoreProgram.texts c) ≡ length (new_in_program p)) e.is (length-texts_of p.names 0 (new_in_program p))
 
 pub elaborated_is_core : ElaboratedIsCore
-elaborated_is_core p c h few =
+elaborated_is_core p c h =
     let e = is_fine p c h in
-    subst (λ c. nodes_of_bodies (CoreProgram.funs c) + node_count (CoreBody.body c.main) < 2 ^ 32 → IsCore c) e.is (go p) few
+    subst IsCore e.is (go p)
   where
-    go : (p : ProgramTree) → nodes_of_bodies (core_of_tree p).funs + node_count (core_of_tree p).main.body < 2 ^ 32 → IsCore (core_of_tree p)
-    go p few =
+    go : (p : ProgramTree) → IsCore (core_of_tree p)
+    go p =
         let functions = function_named (functions_of p) in
         let number = number_named (functions_of p) in
         let l = length-texts_of p.names 0 (new_in_program p) in
@@ -278,5 +278,4 @@ elaborated_is_core p c h few =
           funs_once = once_bodies functions number (functions_of p) 0 (length (core_of_tree p).texts) (omega (arith, l, m));
           main_once = once_of (length (core_of_tree p).texts) (takes_body functions number (main_of p) (length (new_in_bodies (functions_of p)))) (omega (arith, l, m));
           main_past = refl;
-          node_number = few;
         }

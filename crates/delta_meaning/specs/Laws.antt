@@ -70,11 +70,9 @@ WaitedIsUnread =
     (funs : List CoreBody) (counts : ℕ → Bool) (c : Context) (x : ℕ) (t : StreamType) (a : CoreTerm) (r : StreamType)
     → HasType funs counts c (wait_term x t a) r → holds x (free_names a) ≡ false
 
--- what a program elaborates to binds each name at most once in each body, and has a text for each, so it is a
--- core if it has fewer than 2^32 nodes
+-- what a program elaborates to binds each name at most once in each body, and has a text for each
 abbrev pub ElaboratedIsCore : Type 0
-ElaboratedIsCore =
-    (p : ProgramTree) (c : CoreProgram) → elaborate p ≡ Ok c → nodes_of_bodies c.funs + node_count c.main.body < 2 ^ 32 → IsCore c
+ElaboratedIsCore = (p : ProgramTree) (c : CoreProgram) → elaborate p ≡ Ok c → IsCore c
 
 -- it has the program's functions, and their types
 pub record HasTypesOf (p : ProgramTree) (c : CoreProgram) : Type 0 where

@@ -32,7 +32,8 @@ const HORIZON: u64 = 1 << 62;
 
 /// What a program gives on a prefix of its input's type, where it makes at most as many calls as the budget
 /// allows: `mean` in `specs/SourceMeaning.antt`. It is `Budget` exactly where the program makes more, with
-/// the budget. Its other error is want of memory.
+/// the budget. Its other error is want of memory. On a program that isn't typed it may also answer want of
+/// memory where a list is wanted and something else stands, or where a level passes 64 bits.
 pub fn eval(alloc: Global, p: &Program, input: &Prefix, budget: u64) -> Result<Prefix, EvalRefusal>
     requires { budget < 2 ^ 62 }
     ensures meaning { IfOk result (λ r. prefix_of r ≡ mean (program_of p.now) (prefix_of input.now)) }

@@ -110,10 +110,6 @@ none_open = record { count = 0; inside = []; behind = NoWith }
 abbrev pub marks_before : List Tok → ℕ → ℕ
 marks_before ts n = (opened none_open (take n ts)).count
 
--- the greatest number of marks that may be open before a token
-abbrev pub most_marks : ℕ
-most_marks = 64
-
 -- none of the first n tokens has more marks open before it
 abbrev pub IsShallow : List Tok → ℕ → Type 0
 IsShallow ts n = (k : ℕ) → k < n → marks_before ts k ≤ 64

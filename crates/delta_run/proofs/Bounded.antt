@@ -5,7 +5,7 @@ use Rattle.port.specs.declared.fault.IoFault.{IoFault}
 use Rattle.port.specs.Faults.{HasCause}
 use Rattle.port.specs.Moves.{bytes_written}
 use Rattle.delta_end.specs.declared.objection.BoundName.{BoundName}
-use Rattle.delta_end.specs.declared.objection.Objection.TheVariants.{Derivation, Bound, Table}
+use Rattle.delta_end.specs.declared.objection.Objection.TheVariants.{Derivation, Bound, Table, State}
 use Rattle.delta_end.specs.declared.end.End.{End}
 use Rattle.delta_end.specs.declared.end.End.TheVariants.{Done, Usage, Refused, Input, Budget, Deep, Open, FileFailed, ReadFailed, WriteFailed, Memory, Long, Objected}
 use Rattle.delta_end.specs.End.{FileCause, WriteCause}
@@ -14,7 +14,7 @@ use Rattle.delta_end.proofs.Statuses.{not_rose, answered, answered_eight, with_s
 use Rattle.checked_program.proofs.OneAnswer.{accepted_is_not_refused}
 use Rattle.delta_loop.specs.Answer.{Adds}
 use Rattle.delta_loop.proofs.Returning.{adds_none}
-use Rattle.command_bound.specs.Bounding.{IsBounded, line_of, Tells}
+use Rattle.command_bound.specs.Bounding.{IsBounded, bound_line, Tells}
 use Rattle.command_bound.proofs.OneAnswer.{bounds_are_one, bounded_is_not_unbounded}
 use Rattle.delta_run.specs.Bounded.{BoundedText, TellsBound, BoundsWell, ObjectsWell, JudgesAccepted}
 use Rattle.delta_run.specs.Checked.{RefusesUnaccepted}
@@ -58,10 +58,10 @@ module _ (text : List ℕ) (old new : Option (List Move)) where
     wanting is = answered_eight said status note0 note1 is cause note_still
 
     -- what was written is the line of the program's bound
-    all_of : (n : ℕ) → IsBounded text n → (ran : BoundedText text old new Done) → Adds old new (λ moves. bytes_written moves ≡ line_of n)
+    all_of : (n : ℕ) → IsBounded text n → (ran : BoundedText text old new Done) → Adds old new (λ moves. bytes_written moves ≡ bound_line n)
     all_of n bounded ran told tells =
         let adds = tells_bound Done ran told tells in
-        (adds.0, adds.1, adds.2.told.all ∙ ap line_of (bounds_are_one text adds.2.told.number n adds.2.told.bounded bounded))
+        (adds.0, adds.1, adds.2.told.all ∙ ap bound_line (bounds_are_one text adds.2.told.number n adds.2.told.bounded bounded))
 
     -- the text of a program with a bound is done
     pub bounded_well : (end : End) → BoundedText text old new end → FileCause end file0 file1 → WriteCause end write0 write1 → AnswerOf end said status → BoundsWell text old new status
@@ -81,6 +81,7 @@ module _ (text : List ℕ) (old new : Option (List Move)) where
     bounded_well Long ran file write is n bounded = absurd ran.2
     bounded_well (Objected (Derivation told there)) ran file write is n bounded = absurd ran.2
     bounded_well (Objected (Table told there row)) ran file write is n bounded = absurd ran.2
+    bounded_well (Objected (State told there)) ran file write is n bounded = absurd ran.2
 
     -- that of one without is objected to
     pub unbounded_well : (end : End) → BoundedText text old new end → FileCause end file0 file1 → WriteCause end write0 write1 → AnswerOf end said status → ObjectsWell text status
@@ -100,6 +101,7 @@ module _ (text : List ℕ) (old new : Option (List Move)) where
     unbounded_well Long ran file write is why at none = absurd ran.2
     unbounded_well (Objected (Derivation told there)) ran file write is why at none = absurd ran.2
     unbounded_well (Objected (Table told there row)) ran file write is why at none = absurd ran.2
+    unbounded_well (Objected (State told there)) ran file write is why at none = absurd ran.2
 
     as_done : (status ≡ 8) ⊎ (status ≡ 0) → (status ≡ 8) ⊎ (status ≡ 0) ⊎ (status ≡ 12)
     as_done (inl eight) = inl eight
@@ -127,6 +129,7 @@ module _ (text : List ℕ) (old new : Option (List Move)) where
     judged_well Long ran file write is p c a = absurd ran.2
     judged_well (Objected (Derivation told there)) ran file write is p c a = absurd ran.2
     judged_well (Objected (Table told there row)) ran file write is p c a = absurd ran.2
+    judged_well (Objected (State told there)) ran file write is p c a = absurd ran.2
 
     -- and any other is refused
     pub refused_text : (end : End) → BoundedText text old new end → FileCause end file0 file1 → WriteCause end write0 write1 → AnswerOf end said status → RefusesUnaccepted text status
@@ -146,3 +149,4 @@ module _ (text : List ℕ) (old new : Option (List Move)) where
     refused_text Long ran file write is why r = absurd ran.2
     refused_text (Objected (Derivation told there)) ran file write is why r = absurd ran.2
     refused_text (Objected (Table told there row)) ran file write is why r = absurd ran.2
+    refused_text (Objected (State told there)) ran file write is why r = absurd ran.2

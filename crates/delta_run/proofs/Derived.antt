@@ -3,7 +3,7 @@ use Rattle.std.proofs.Common.{◌≡◌, inl, ℕ, List, None, Some, Result, ref
 use Rattle.port.specs.declared.fault.IoFault.{IoFault}
 use Rattle.port.specs.Faults.{HasCause}
 use Rattle.core_term.specs.CoreTerm.{CoreProgram}
-use Rattle.delta_end.specs.declared.objection.Objection.TheVariants.{Derivation, Bound, Table}
+use Rattle.delta_end.specs.declared.objection.Objection.TheVariants.{Derivation, Bound, Table, State}
 use Rattle.delta_end.specs.declared.end.End.{End}
 use Rattle.delta_end.specs.declared.end.End.TheVariants.{Done, Usage, Refused, Input, Budget, Deep, Open, FileFailed, ReadFailed, WriteFailed, Memory, Long, Objected}
 use Rattle.delta_end.specs.End.{FileCause, ReadCause, WriteCause}
@@ -110,6 +110,7 @@ module _ (text proof : List ℕ) (file0 file1 note0 note1 : ℕ) (file_still : I
   passes_derived (Refused None) derives file is derived = absurd derives
   passes_derived (Objected (Bound told there)) derives file is derived = absurd derives
   passes_derived (Objected (Table told there row)) derives file is derived = absurd derives
+  passes_derived (Objected (State told there)) derives file is derived = absurd derives
   passes_derived Usage derives file is derived = absurd derives
   passes_derived (Input fault) derives file is derived = absurd derives
   passes_derived (Budget place) derives file is derived = absurd derives
@@ -129,6 +130,7 @@ module _ (text proof : List ℕ) (file0 file1 note0 note1 : ℕ) (file_still : I
   refuses_underived (Refused None) derives file is why at under = absurd derives
   refuses_underived (Objected (Bound told there)) derives file is why at under = absurd derives
   refuses_underived (Objected (Table told there row)) derives file is why at under = absurd derives
+  refuses_underived (Objected (State told there)) derives file is why at under = absurd derives
   refuses_underived Usage derives file is why at under = absurd derives
   refuses_underived (Input fault) derives file is why at under = absurd derives
   refuses_underived (Budget place) derives file is why at under = absurd derives
@@ -148,6 +150,7 @@ module _ (text proof : List ℕ) (file0 file1 note0 note1 : ℕ) (file_still : I
   refuses_unelaborated (Refused None) derives file is why r = absurd derives
   refuses_unelaborated (Objected (Bound told there)) derives file is why r = absurd derives
   refuses_unelaborated (Objected (Table told there row)) derives file is why r = absurd derives
+  refuses_unelaborated (Objected (State told there)) derives file is why r = absurd derives
   refuses_unelaborated Usage derives file is why r = absurd derives
   refuses_unelaborated (Input fault) derives file is why r = absurd derives
   refuses_unelaborated (Budget place) derives file is why r = absurd derives

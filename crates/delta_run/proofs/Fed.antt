@@ -9,7 +9,7 @@ use Rattle.core_term.specs.CoreTerm.{CoreProgram}
 use Rattle.delta_meaning.specs.SourceBody.{main_of}
 use Rattle.delta_meaning.specs.SourceMeaning.{mean}
 use Rattle.delta_end.specs.declared.objection.Objection.{Objection}
-use Rattle.delta_end.specs.declared.objection.Objection.TheVariants.{Derivation, Bound, Table}
+use Rattle.delta_end.specs.declared.objection.Objection.TheVariants.{Derivation, Bound, Table, State}
 use Rattle.delta_end.specs.declared.end.End.{End}
 use Rattle.delta_end.specs.declared.end.End.TheVariants.{Done, Usage, Refused, Input, Budget, Deep, Open, FileFailed, ReadFailed, WriteFailed, Memory, Long, Objected}
 use Rattle.delta_end.specs.End.{FileCause, WriteCause}
@@ -71,6 +71,7 @@ module _ (holds : Option (List ℕ → List ℕ)) (text schedule : List ℕ) (na
     fed_well (Refused None) ran file write is out fed never = absurd (at_tables (Refused None) ran)
     fed_well (Objected (Derivation told there)) ran file write is out fed never = absurd (at_tables (Objected (Derivation told there)) ran)
     fed_well (Objected (Bound told there)) ran file write is out fed never = absurd (at_tables (Objected (Bound told there)) ran)
+    fed_well (Objected (State told there)) ran file write is out fed never = absurd (at_tables (Objected (State told there)) ran)
 
     -- tables that it doesn't take are refused
     pub untaken_well : (end : End) → FedText holds text schedule names budget old new end → FileCause end file0 file1 → WriteCause end write0 write1 → AnswerOf end said status → RefusesTables text tables status
@@ -90,6 +91,7 @@ module _ (holds : Option (List ℕ → List ℕ)) (text schedule : List ℕ) (na
     untaken_well (Refused None) ran file write is what unfed = absurd (at_tables (Refused None) ran)
     untaken_well (Objected (Derivation told there)) ran file write is what unfed = absurd (at_tables (Objected (Derivation told there)) ran)
     untaken_well (Objected (Bound told there)) ran file write is what unfed = absurd (at_tables (Objected (Bound told there)) ran)
+    untaken_well (Objected (State told there)) ran file write is what unfed = absurd (at_tables (Objected (State told there)) ran)
 
     -- and a text that isn't accepted is refused
     pub refused_feeding : (end : End) → FedText holds text schedule names budget old new end → FileCause end file0 file1 → WriteCause end write0 write1 → AnswerOf end said status → RefusesUnaccepted text status
@@ -109,3 +111,4 @@ module _ (holds : Option (List ℕ → List ℕ)) (text schedule : List ℕ) (na
     refused_feeding (Refused None) ran file write is why r = absurd (at_tables (Refused None) ran)
     refused_feeding (Objected (Derivation told there)) ran file write is why r = absurd (at_tables (Objected (Derivation told there)) ran)
     refused_feeding (Objected (Bound told there)) ran file write is why r = absurd (at_tables (Objected (Bound told there)) ran)
+    refused_feeding (Objected (State told there)) ran file write is why r = absurd (at_tables (Objected (State told there)) ran)

@@ -10,7 +10,7 @@ use Rattle.delta_end.specs.declared.objection.BoundName.{BoundName}
 use Rattle.checked_program.specs.Acceptance.{IsAcceptedAs}
 use Rattle.delta_loop.specs.Answer.{Adds}
 use Rattle.delta_loop.specs.History.{Writes}
-use Rattle.command_bound.specs.Bounding.{IsBounded, IsUnbounded, line_of, Tells}
+use Rattle.command_bound.specs.Bounding.{IsBounded, IsUnbounded, bound_line, Tells}
 use Rattle.delta_run.specs.Told.{Told}
 
 -- to the log, where the file has this text
@@ -25,7 +25,7 @@ TellsBound text end moves = Told (Tells text) end moves
 
 -- a text whose program has a bound gives status 0 with the line of it written, or 8
 abbrev pub BoundsWell : List ℕ → Option (List Move) → Option (List Move) → ℕ → Type 0
-BoundsWell text old new status = (n : ℕ) → IsBounded text n → (status ≡ 8) ⊎ ((status ≡ 0) × Adds old new (λ moves. bytes_written moves ≡ line_of n))
+BoundsWell text old new status = (n : ℕ) → IsBounded text n → (status ≡ 8) ⊎ ((status ≡ 0) × Adds old new (λ moves. bytes_written moves ≡ bound_line n))
 
 -- one whose program has none gives status 12, or 8
 abbrev pub ObjectsWell : List ℕ → ℕ → Type 0

@@ -8,11 +8,11 @@ use Rattle.checked_program.proofs.OneAnswer.{accepted_is_one, accepted_is_not_re
 use Rattle.load_program.specs.LoadText.{load_text, load_tree}
 use Rattle.load_program.specs.LoadCore.{load_core}
 use Rattle.load_program.proofs.Belonging.{is_text}
-use Rattle.load_program.proofs.Elaborating.{elaborates, is_core, is_typed}
+use Rattle.load_program.proofs.Elaborating.{elaborates, is_typed}
 use Rattle.load_program.specs.Laws.{TextIsAccepted}
 
 pub text_is_accepted : TextIsAccepted
-text_is_accepted = record { is_its = is_text; accepted = record { elaborated = elaborates; core = is_core; typed = is_typed } }
+text_is_accepted = record { is_its = is_text; accepted = record { elaborated = elaborates; typed = is_typed } }
 
 -- what is accepted of it has the core
 pub core_is : (p : ProgramTree) (c : CoreProgram) → IsAcceptedAs load_text p c → c ≡ load_core

@@ -11,6 +11,7 @@ use Rattle.delta_tree.specs.SyntaxTree.{ProgramTree}
 use Rattle.core_term.specs.CoreTerm.{CoreProgram}
 use Rattle.core_term.specs.Run.{Run}
 use Rattle.core_term.proofs.TypedRuns.{mean_is_typed}
+use Rattle.delta_meaning.proofs.BoundOnce.{elaborated_is_core}
 use Rattle.delta_meaning.proofs.WholePrograms.{core_keeps_meaning}
 use Rattle.delta_meaning.proofs.KeptTypes.{elaborated_has_types}
 use Rattle.delta_elab.specs.Accepted.{IsAccepted}
@@ -37,7 +38,7 @@ module _ (p : ProgramTree) (c : CoreProgram) (a : IsAccepted p c) where
   -- the tree gives a prefix of its output's type, and on more input no less
   pub tree_grows : Grows (one_shot_of p)
   tree_grows = record {
-    typed = subst (λ (P : OneShot). (q : StreamPrefix) → IsPrefix P.input q → IsPrefix P.result (P.gives q)) same_one_shot (mean_is_typed c a.core a.typed);
+    typed = subst (λ (P : OneShot). (q : StreamPrefix) → IsPrefix P.input q → IsPrefix P.result (P.gives q)) same_one_shot (mean_is_typed c (elaborated_is_core p c a.elaborated) a.typed);
     parts = λ q more typed part. (accepted_grows p c a q more typed part).0;
   }
 

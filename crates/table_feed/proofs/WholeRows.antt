@@ -21,8 +21,8 @@ use Rattle.stream_prefix.specs.declared.prefix.StarEnd.{StarEnd}
 use Rattle.stream_prefix.specs.declared.prefix.StarEnd.TheVariants.{Emp, Done, First'}
 use Rattle.hist_value.specs.Wholes.{value_of}
 use Rattle.table_feed.specs.RowType.{item_type, row_type}
-use Rattle.table_feed.specs.Rows.{IsWholeTable, row_numbers, table_rows, line_of}
-use Rattle.table_feed.specs.Written.{IsNumber, IsWholeRow, joined}
+use Rattle.table_feed.specs.Rows.{IsWholeTable, row_numbers, table_rows, row_line}
+use Rattle.table_feed.specs.Written.{IsNumber, IsWholeRow, with_commas}
 
 -- a star is no number and no row
 pub number_no_star : (ps : List StreamPrefix) (e : StarEnd) → IsNumber (star_of ps (end_of e)) → ⊥
@@ -93,18 +93,18 @@ pub table_is_star : (p : StreamPrefix) → IsWholeTable p → is_of_star p ≡ t
 table_is_star p h = star_alone (item_type h.1.0) p (subst (λ (s : StreamType). IsPrefix s p) h.1.2 h.2)
 
 -- numbers behind one another
-pub joined-append : (first : Bool) (n : ℤ) (ns : List ℤ) → joined first (n ∷ []) ++ joined false ns ≡ joined first (n ∷ ns)
+pub joined-append : (first : Bool) (n : ℤ) (ns : List ℤ) → with_commas first (n ∷ []) ++ with_commas false ns ≡ with_commas first (n ∷ ns)
 joined-append first n ns =
-    append_assoc (if first then [] else 44 ∷ []) (signed_decimal n ++ []) (joined false ns)
-    ∙ ap (λ (t : List ℕ). (if first then [] else 44 ∷ []) ++ (t ++ joined false ns)) (append-nil (signed_decimal n))
+    append_assoc (if first then [] else 44 ∷ []) (signed_decimal n ++ []) (with_commas false ns)
+    ∙ ap (λ (t : List ℕ). (if first then [] else 44 ∷ []) ++ (t ++ with_commas false ns)) (append-nil (signed_decimal n))
 
-later_line : (n : ℤ) (ns : List ℤ) → (signed_decimal n ++ joined false ns) ++ 10 ∷ [] ≡ line_of (n ∷ ns)
+later_line : (n : ℤ) (ns : List ℤ) → (signed_decimal n ++ with_commas false ns) ++ 10 ∷ [] ≡ row_line (n ∷ ns)
 later_line n [] = ap (λ (t : List ℕ). t ++ 10 ∷ []) (append-nil (signed_decimal n))
 later_line n (m ∷ ns) =
-    append_assoc (signed_decimal n) (44 ∷ (signed_decimal m ++ joined false ns)) (10 ∷ []) ∙ ap (λ (t : List ℕ). signed_decimal n ++ 44 ∷ t) (later_line m ns)
+    append_assoc (signed_decimal n) (44 ∷ (signed_decimal m ++ with_commas false ns)) (10 ∷ []) ∙ ap (λ (t : List ℕ). signed_decimal n ++ 44 ∷ t) (later_line m ns)
 
 -- a line is its numbers and a line feed
-pub line-joined : (ns : List ℤ) → joined true ns ++ 10 ∷ [] ≡ line_of ns
+pub line-joined : (ns : List ℤ) → with_commas true ns ++ 10 ∷ [] ≡ row_line ns
 line-joined [] = refl
 line-joined (n ∷ ns) = later_line n ns
 
@@ -125,13 +125,13 @@ the_row p h other none = absurd h
 ascii_number : (n : ℤ) → FitsSigned w64 n → IsAscii (signed_decimal n)
 ascii_number n fits = IsAscii-from_all (signed_decimal n) (All-weaker IsNumberByte (λ b. b < 128) (λ b h. omega (arith, h.1)) (signed_decimal n) (written_number n fits).bytes)
 
-pub ascii_joined : (first : Bool) (n : ℤ) (old new : List ℕ) → FitsSigned w64 n → IsAscii old → new ≡ old ++ joined first (n ∷ []) → IsAscii new
-ascii_joined first n old new fits h e = subst IsAscii (sym e) (IsAscii-append old (joined first (n ∷ [])) h (by_first first))
+pub ascii_joined : (first : Bool) (n : ℤ) (old new : List ℕ) → FitsSigned w64 n → IsAscii old → new ≡ old ++ with_commas first (n ∷ []) → IsAscii new
+ascii_joined first n old new fits h e = subst IsAscii (sym e) (IsAscii-append old (with_commas first (n ∷ [])) h (by_first first))
   where
     text : IsAscii (signed_decimal n ++ [])
     text = subst IsAscii (sym (append-nil (signed_decimal n))) (ascii_number n fits)
 
-    by_first : (b : Bool) → IsAscii (joined b (n ∷ []))
+    by_first : (b : Bool) → IsAscii (with_commas b (n ∷ []))
     by_first true = text
     by_first false = IsAscii-cons 44 (signed_decimal n ++ []) (omega arith) text
 

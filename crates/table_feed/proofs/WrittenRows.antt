@@ -13,7 +13,7 @@ use Rattle.csv.specs.declared.parser.State.TheVariants as st
 use Rattle.csv.specs.Writing.{default_writer, needs_byte, field_text, fields_text, is_blank, row_text, read_back}
 use Rattle.csv.proofs.RoundTrip.{read-write}
 use Rattle.table_feed.specs.Tables.{or_zero, numbers_of, records_of, table_of, bad_column, record_fault, records_fault, table_fault}
-use Rattle.table_feed.specs.Rows.{line_of, rows_text}
+use Rattle.table_feed.specs.Rows.{row_line, rows_text}
 use Rattle.table_feed.specs.Laws.{AreRows}
 use Rattle.table_feed.proofs.FieldNumbers.{IsNumberByte, IsWritten, written_number, number_of-written}
 use Rattle.table_feed.proofs.CsvRecords.{all_records}
@@ -44,7 +44,7 @@ plain_number n fits = plain_field (signed_decimal n) (written_number n fits).byt
 abbrev pub fields_of_row : List ℤ → List (List ℕ)
 fields_of_row row = map signed_decimal row
 
-later_fields : (row : List ℤ) → All (FitsSigned w64) row → (n : ℤ) → signed_decimal n ++ (fields_text default_writer (fields_of_row row) ++ (10 ∷ [])) ≡ line_of (n ∷ row)
+later_fields : (row : List ℤ) → All (FitsSigned w64) row → (n : ℤ) → signed_decimal n ++ (fields_text default_writer (fields_of_row row) ++ (10 ∷ [])) ≡ row_line (n ∷ row)
 unfolding fields_text
 later_fields [] h n = refl
 later_fields (m ∷ row) h n =
@@ -64,7 +64,7 @@ not_blank n [] fits = rw (plain_number n fits) (not_zero (length (signed_decimal
 not_blank n (m ∷ row) fits = refl
 
 -- the line of a row is what csv writes of it
-pub line_is_written : (row : List ℤ) → 0 < length row → All (FitsSigned w64) row → row_text default_writer (fields_of_row row) ≡ line_of row
+pub line_is_written : (row : List ℤ) → 0 < length row → All (FitsSigned w64) row → row_text default_writer (fields_of_row row) ≡ row_line row
 line_is_written [] l h = absurd (omega (arith, l))
 line_is_written (n ∷ row) l h =
     let fits = All-head (FitsSigned w64) n row h in
@@ -102,10 +102,10 @@ starts_low : (w bytes : List ℕ) → IsWritten w → strip_bom (w ++ bytes) ≡
 starts_low [] bytes h = absurd (omega (arith, h.some))
 starts_low (b ∷ w) bytes h = no_mark b (w ++ bytes) (All-head IsNumberByte b w h.bytes).1
 
-line_low : (row : List ℤ) (bytes : List ℕ) → 0 < length row → All (FitsSigned w64) row → strip_bom (line_of row ++ bytes) ≡ line_of row ++ bytes
+line_low : (row : List ℤ) (bytes : List ℕ) → 0 < length row → All (FitsSigned w64) row → strip_bom (row_line row ++ bytes) ≡ row_line row ++ bytes
 line_low [] bytes l h = absurd (omega (arith, l))
 line_low (n ∷ []) bytes l h = rw (append_assoc (signed_decimal n) (10 ∷ []) bytes) (starts_low (signed_decimal n) _ (written_number n (All-head (FitsSigned w64) n [] h)))
-line_low (n ∷ m ∷ row) bytes l h = rw (append_assoc (signed_decimal n) (44 ∷ line_of (m ∷ row)) bytes) (starts_low (signed_decimal n) _ (written_number n (All-head (FitsSigned w64) n (m ∷ row) h)))
+line_low (n ∷ m ∷ row) bytes l h = rw (append_assoc (signed_decimal n) (44 ∷ row_line (m ∷ row)) bytes) (starts_low (signed_decimal n) _ (written_number n (All-head (FitsSigned w64) n (m ∷ row) h)))
 
 no_bom : (columns : ℕ) (rows : List (List ℤ)) → AreRows columns rows → strip_bom (rows_text rows) ≡ rows_text rows
 unfolding strip_bom

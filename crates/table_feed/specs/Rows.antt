@@ -24,14 +24,14 @@ table_rows (item_before v w) = row_numbers v ∷ table_rows w
 table_rows v = []
 
 -- a row's line: its numbers without needless zeros, a comma between two, and a line feed
-abbrev pub line_of : List ℤ → List ℕ
-line_of [] = 10 ∷ []
-line_of (n ∷ []) = signed_decimal n ++ 10 ∷ []
-line_of (n ∷ m ∷ ms) = signed_decimal n ++ 44 ∷ line_of (m ∷ ms)
+abbrev pub row_line : List ℤ → List ℕ
+row_line [] = 10 ∷ []
+row_line (n ∷ []) = signed_decimal n ++ 10 ∷ []
+row_line (n ∷ m ∷ ms) = signed_decimal n ++ 44 ∷ row_line (m ∷ ms)
 
 -- the lines of rows, one after another
 abbrev pub rows_text : List (List ℤ) → List ℕ
-rows_text rows = flat_map line_of rows
+rows_text rows = flat_map row_line rows
 
 -- the text of a whole table
 abbrev pub text_of : StreamPrefix → List ℕ

@@ -19,9 +19,9 @@ IsWholeRow (cat_both p q) = IsNumber p × IsWholeRow q
 IsWholeRow p = ⊥
 
 -- numbers with a comma before each, but before the first of a line
-abbrev pub joined : Bool → List ℤ → List ℕ
-joined first [] = []
-joined first (n ∷ ns) = (if first then [] else 44 ∷ []) ++ (signed_decimal n ++ joined false ns)
+abbrev pub with_commas : Bool → List ℤ → List ℕ
+with_commas first [] = []
+with_commas first (n ∷ ns) = (if first then [] else 44 ∷ []) ++ (signed_decimal n ++ with_commas false ns)
 
 -- what a writer over bytes was given
 abbrev pub written : Writer (Vec ℕ Global) → List ℕ

@@ -5,8 +5,8 @@ ghost use Rattle.std.specs.Str.{IsAscii};
 ghost use Rattle.csv.specs.Writing.{default_writer, fields_written, has_written, writer_setup};
 ghost use Rattle.stream_prefix.specs.Tree.{prefix_of};
 ghost use Rattle.hist_value.specs.Wholes.{value_of};
-ghost use Rattle.table_feed.specs.Rows.{IsWholeTable, row_numbers, line_of, rows_text, text_of};
-ghost use Rattle.table_feed.specs.Written.{IsNumber, IsWholeRow, joined, written};
+ghost use Rattle.table_feed.specs.Rows.{IsWholeTable, row_numbers, row_line, rows_text, text_of};
+ghost use Rattle.table_feed.specs.Written.{IsNumber, IsWholeRow, with_commas, written};
 
 use csv::{Writer, WriterBuilder};
 use std::alloc::Global;
@@ -53,7 +53,7 @@ fn write_row(alloc: Global, writer: &mut Writer<Vec<u8>>, row: &Prefix) -> Resul
     requires setup { writer_setup writer.old ≡ default_writer }
     requires fields { fields_written writer.old ≡ 0 }
     requires wrote { has_written writer.old ≡ false }
-    ensures text { OnOk result (written writer.new ≡ written writer.old ++ line_of (row_numbers (value_of (prefix_of row.now)))) }
+    ensures text { OnOk result (written writer.new ≡ written writer.old ++ row_line (row_numbers (value_of (prefix_of row.now)))) }
     ensures setup { OnOk result (writer_setup writer.new ≡ default_writer) }
     ensures fields { OnOk result (fields_written writer.new ≡ 0) }
     ensures wrote { OnOk result (has_written writer.new ≡ false) }
@@ -82,7 +82,7 @@ fn end_row(writer: &mut Writer<Vec<u8>>) -> Result<(), Memory>
 fn write_numbers(alloc: Global, writer: &mut Writer<Vec<u8>>, row: &Prefix) -> Result<(), Memory>
     requires row { IsWholeRow (prefix_of row.now) }
     requires setup { writer_setup writer.old ≡ default_writer }
-    ensures text { OnOk result (written writer.new ≡ written writer.old ++ joined (fields_written writer.old == 0) (row_numbers (value_of (prefix_of row.now)))) }
+    ensures text { OnOk result (written writer.new ≡ written writer.old ++ with_commas (fields_written writer.old == 0) (row_numbers (value_of (prefix_of row.now)))) }
     ensures setup { OnOk result (writer_setup writer.new ≡ default_writer) }
     ensures fields { OnOk result (0 < fields_written writer.new) }
     ensures wrote { OnOk result (has_written writer.new ≡ true) }
@@ -102,7 +102,7 @@ fn write_numbers(alloc: Global, writer: &mut Writer<Vec<u8>>, row: &Prefix) -> R
 fn write_first(alloc: Global, writer: &mut Writer<Vec<u8>>, first: &Prefix) -> Result<(), Memory>
     requires first { IsNumber (prefix_of first.now) }
     requires setup { writer_setup writer.old ≡ default_writer }
-    ensures text { OnOk result (written writer.new ≡ written writer.old ++ joined (fields_written writer.old == 0) (row_numbers (value_of (prefix_of first.now)))) }
+    ensures text { OnOk result (written writer.new ≡ written writer.old ++ with_commas (fields_written writer.old == 0) (row_numbers (value_of (prefix_of first.now)))) }
     ensures setup { OnOk result (writer_setup writer.new ≡ default_writer) }
     ensures fields { OnOk result (0 < fields_written writer.new) }
     ensures wrote { OnOk result (has_written writer.new ≡ true) }
@@ -117,7 +117,7 @@ fn write_first(alloc: Global, writer: &mut Writer<Vec<u8>>, first: &Prefix) -> R
 // A number, behind a comma where it isn't the first of its line.
 fn write_number(alloc: Global, writer: &mut Writer<Vec<u8>>, number: i64) -> Result<(), Memory>
     requires setup { writer_setup writer.old ≡ default_writer }
-    ensures text { OnOk result (written writer.new ≡ written writer.old ++ joined (fields_written writer.old == 0) (number ∷ [])) }
+    ensures text { OnOk result (written writer.new ≡ written writer.old ++ with_commas (fields_written writer.old == 0) (number ∷ [])) }
     ensures setup { OnOk result (writer_setup writer.new ≡ default_writer) }
     ensures fields { OnOk result (0 < fields_written writer.new) }
     ensures wrote { OnOk result (has_written writer.new ≡ true) }

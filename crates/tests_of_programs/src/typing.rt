@@ -2,7 +2,7 @@
 
 ghost use Rattle.std.specs.Prelude.{IfOk};
 ghost use Rattle.core_term.specs.CoreTerm.{core_of};
-ghost use Rattle.core_term.specs.FreeNames.{IsCore};
+ghost use Rattle.core_term.specs.FreeNames.{IsCore, HasFewNodes};
 
 use bunch::{Bunch, Name};
 use checked_program::accept;
@@ -120,7 +120,8 @@ main(xs : Int*) : Int* = copy(xs)";
 
 // `main(x : Int) : Int = x`, or with another name for its body. The number of x is 0.
 fn named(alloc: Global, body: u32) -> Result<Core, Memory>
-    ensures { IfOk result (λ c. IsCore (core_of c)) }
+    ensures core { IfOk result (λ c. IsCore (core_of c)) }
+    ensures nodes { IfOk result (λ c. HasFewNodes (core_of c)) }
 {
     let mut texts = Vec::new(alloc);
     texts.push(String::from_str(alloc, "x")?)?;

@@ -10,9 +10,11 @@ pub returns-then-has_few_nodes-clause-names : goal.returns-then-has_few_nodes-cl
 returns-then-has_few_nodes-clause-names c =
     let p = program_of c.args.p.now in
     let core = core_of c.in_ok-core.core.value in
-    let few = rw (c.deref-3.ensures.value, c.deref-2.ensures, c.deref-4.ensures) at c.if-has_few_nodes.ensures in
-    rw c.into_inner.ensures (elaborated_is_core p core (elaborate-fine p core c.in_ok-types.ensures.fine c.in_ok-core.ensures.core)
-    (few.0 refl))
+    rw c.into_inner.ensures (elaborated_is_core p core (elaborate-fine p core c.in_ok-types.ensures.fine c.in_ok-core.ensures.core))
+
+pub returns-then-has_few_nodes-clause-nodes : goal.returns-then-has_few_nodes-clause-nodes
+returns-then-has_few_nodes-clause-nodes c =
+    let few = rw (c.deref-3.ensures.value, c.deref-2.ensures, c.deref-4.ensures) at c.if-has_few_nodes.ensures in rw c.into_inner.ensures (few.0 refl)
 
 pub returns-then-has_few_nodes-clause-fits : goal.returns-then-has_few_nodes-clause-fits
 returns-then-has_few_nodes-clause-fits c =

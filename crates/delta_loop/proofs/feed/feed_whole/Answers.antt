@@ -36,6 +36,7 @@ frames-preserved g c = (
   c.feed_one.ensures.left ∙ c.frames.invariant.4,
   c.in-Ok.ensures.read ∙ c.frames.invariant.5,
   c.in-Ok.ensures.write ∙ c.frames.invariant.6,
+  g.met.M.Stepper.same_throughout _ _ _ c.frames.invariant.7 c.feed_one.ensures.program,
 )
 
 pub returns-in-Err-feed_one-clause-err : goal.returns-in-Err-feed_one-clause-err

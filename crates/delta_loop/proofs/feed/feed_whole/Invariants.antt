@@ -14,6 +14,7 @@ invariant-frames g l =
     × (g.L.Link.left l.link ≡ g.L.Link.left l.fn.link)
     × (g.L.Link.read_faults l.link ≡ g.L.Link.read_faults l.fn.link)
     × (g.L.Link.write_faults l.link ≡ g.L.Link.write_faults l.fn.link)
+    × g.M.Stepper.same_program l.fn.machine l.machine
 
 abbrev pub decreases-frames : goal.decreases-frames
 decreases-frames g l = length l.reader.kept

@@ -39,6 +39,7 @@ pieces-preserved g c =
       omega (arith, length-append c.pull.new.into (drop c.min-room.result c.pieces.buffer), length-drop c.min-room.result c.pieces.buffer, length-take c.min-room.result c.pieces.buffer, c.pull.auto.into, c.pieces.invariant.6, c.min-room.ensures),
       c.in-Ok-feed_whole.ensures.read ∙ c.in-Ok.ensures.read ∙ c.pieces.invariant.7,
       c.in-Ok-feed_whole.ensures.write ∙ c.pull.ensures.write ∙ c.pieces.invariant.8,
+      g.met.M.Stepper.same_throughout _ _ _ c.pieces.invariant.9 c.feed_whole.ensures.program,
     )
 
 pub pieces-smaller : goal.pieces-smaller

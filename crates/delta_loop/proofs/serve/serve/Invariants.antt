@@ -16,6 +16,7 @@ invariant-pieces g l =
     × (length l.buffer ≡ 4096)
     × (g.L.Link.read_faults l.link ≡ g.L.Link.read_faults l.fn.link)
     × (g.L.Link.write_faults l.link ≡ g.L.Link.write_faults l.fn.link)
+    × g.M.Stepper.same_program l.fn.machine l.machine
 
 abbrev pub decreases-pieces : goal.decreases-pieces
 decreases-pieces g l = 2 ^ 40 - l.total

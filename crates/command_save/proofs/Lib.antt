@@ -1,0 +1,3 @@
+-- Lemmas.
+pub mod Leaving
+pub mod Texts

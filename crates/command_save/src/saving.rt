@@ -1,0 +1,53 @@
+//! Runs the program of a text, and leaves its state on a shelf.
+
+ghost use Rattle.std.specs.Prelude.{◌≤◌};
+ghost use Rattle.delta_end.specs.End.{FileCause, ReadCause, WriteCause};
+ghost use Rattle.command_save.specs.Saving.{SavesText};
+
+use crate::keeping::save_checked;
+use checked_program::accept_to_write;
+use delta_end::End;
+use event_frame::Version;
+use machine_kept::Keeping;
+use port::{Link, Shelf};
+use program_text::TextFault;
+use std::alloc::Global;
+
+/// Runs the program of a text over a link, event by event, with so many calls at its start and at each event, and
+/// writes frames of the version. Where the input ends well, be it that more is awaited, it then leaves the program's
+/// state under the name, to go on from there later. `SavesText` of `specs/Saving.antt` says what stands behind each
+/// end: no other name of the shelf ever changes.
+pub fn save_source<M: Keeping, L: Link, S: Shelf>(
+    alloc: Global,
+    text: &[u8],
+    budget: u64,
+    version: Version,
+    name: &str,
+    link: &mut L,
+    shelf: &mut S,
+) -> End
+    requires { budget ≤ 1000000 }
+    ensures saved { SavesText text.now budget version name.now (L.log link.old) (L.log link.new) (L.left link.old) (L.left link.new)
+        (S.holds shelf.old) (S.holds shelf.new) result }
+    ensures file { FileCause result (S.faults shelf.old) (S.faults shelf.new) }
+    ensures read { ReadCause result (L.read_faults link.old) (L.read_faults link.new) }
+    ensures write { WriteCause result (L.write_faults link.old) (L.write_faults link.new) }
+{
+    match accept_to_write(alloc, text, version) {
+        Ok(accepted) => {
+            let end = save_checked::<M, L, S>(
+                alloc,
+                &accepted.checked,
+                budget,
+                version,
+                name,
+                link,
+                shelf,
+            );
+            drop(accepted);
+            end
+        }
+        Err(TextFault::Memory) => End::Memory,
+        Err(TextFault::Refused(why)) => End::Refused(Some(why)),
+    }
+}
