@@ -18,7 +18,7 @@ use Rattle.delta_state.specs.StateTyping.{with_known, with_past, marks_held, fac
 abbrev pub pasts_of : List Known → List (ℕ × HistType)
 pasts_of es = map (λ e. (e.name, past e.type)) es
 
-with_pasts : List (ℕ × HistType) → Context → Context
+abbrev with_pasts : List (ℕ × HistType) → Context → Context
 with_pasts ps c = record { types = c.types; order = c.order; past = λ x. first_some (given_at ps x) (c.past x) }
 
 first_if : (b : Bool) (t : HistType) (o p : Option HistType) → first_some (if b then Some t else o) p ≡ (if b then Some t else first_some o p)

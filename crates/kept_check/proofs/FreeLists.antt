@@ -1,12 +1,16 @@
 -- The names of joined lists, less some.
-use Rattle.std.proofs.Common.{◌≡◌, ◌∙◌, ◌<◌, ◌+◌, ℕ, Bool, true, false, true≢false, ◌&&◌, ◌||◌, not, eqb, if◌then◌else◌, List, [], ◌∷◌, ◌++◌, length, get_or, drop, refl, ap, ap₂, sym}
+use Rattle.std.proofs.Common.{◌≡◌, ◌∙◌, ◌<◌, ◌≤◌, ◌+◌, ℕ, Bool, true, false, true≢false, ◌&&◌, ◌||◌, not, eqb, if◌then◌else◌, List, [], ◌∷◌, ◌++◌, length, get_or, drop, refl, ap, ap₂, sym}
 use Rattle.std.proofs.lemmas.Bool.{eqb-true}
-use Rattle.std.proofs.lemmas.List.{at_drop_more}
+use Rattle.std.proofs.lemmas.List.{at_drop_more, drop_all}
 use Rattle.bunch.specs.declared.name.Name.{Name}
 use Rattle.bunch.specs.Names.{holds, numbers_of}
 use Rattle.bunch.proofs.NameLists.{holds-append, numbers_of-append}
 use Rattle.core_term.specs.FreeNames.{without, once}
 use Rattle.core_term.proofs.OnceEach.{holds-once}
+use Rattle.delta_state.specs.StateTree.{free_in_state, free_in_arguments}
+use Rattle.delta_keep.specs.declared.kept.Argument.{Argument}
+use Rattle.delta_keep.specs.KeptView.{state_of}
+use Rattle.kept_check.specs.Arguments.{arguments_from}
 use Rattle.kept_check.specs.Free.{HasNames, without_all}
 
 less_one : (h e : Bool) → e ≡ true → (h && not e) ≡ not e
@@ -76,9 +80,9 @@ put_in false true r false e = refl
 put_in false true r true e = absurd (true≢false (e refl))
 
 -- the names left, where the next is left out, or put in
-module _ (x : ℕ) (found more : List Name) (less : List ℕ) (i : ℕ) (n : Name) (h : i < length more) (e : n ≡ get_or more i n) where
+module _ (x : ℕ) (found more : List Name) (less : List ℕ) (i : ℕ) (n d : Name) (h : i < length more) (e : n ≡ get_or more i d) where
   next : holds x (numbers_of (drop i more)) ≡ (eqb x n.0 || holds x (numbers_of (drop (i + 1) more)))
-  next = at_drop_more (λ l. holds x (numbers_of l)) more i n h ∙ ap (λ (m : Name). eqb x m.0 || holds x (numbers_of (drop (i + 1) more))) (sym e)
+  next = at_drop_more (λ l. holds x (numbers_of l)) more i d h ∙ ap (λ (m : Name). eqb x m.0 || holds x (numbers_of (drop (i + 1) more))) (sym e)
 
   same : (l : Bool) → holds n.0 less ≡ l → eqb x n.0 ≡ true → holds x less ≡ l
   same l k q = ap (λ y. holds y less) (eqb-true x n.0 q) ∙ k
@@ -109,4 +113,24 @@ holds-behind x xs ys zs = ap (λ b. b || holds x zs) (holds-append x xs ys) ∙ 
     assoc true b c = refl
     assoc false b c = refl
 
-pub ruleset free_lists = (holds-append, numbers_of-append, holds-without)
+-- the arguments left, where the names of the next are put in
+module _ (x : ℕ) (found inside : List Name) (a : Argument) (args : List Argument) (i : ℕ) (h : i < length args) (e : a ≡ get_or args i a) (k : HasNames inside (free_in_state (state_of a.state.value))) where
+  next_argument : holds x (free_in_arguments (arguments_from (drop i args))) ≡ holds x (free_in_state (state_of a.state.value) ++ free_in_arguments (arguments_from (drop (i + 1) args)))
+  next_argument =
+      at_drop_more (λ l. holds x (free_in_arguments (arguments_from l))) args i a h
+      ∙ ap (λ (b : Argument). holds x (free_in_state (state_of b.state.value) ++ free_in_arguments (arguments_from (drop (i + 1) args)))) (sym e)
+
+  pub argument_put_in : (holds x (numbers_of (found ++ inside)) || holds x (free_in_arguments (arguments_from (drop (i + 1) args)))) ≡ (holds x (numbers_of found) || holds x (free_in_arguments (arguments_from (drop i args))))
+  argument_put_in =
+      let rest = free_in_arguments (arguments_from (drop (i + 1) args)) in
+      ap (λ l. holds x l || holds x rest) (numbers_of-append found inside)
+      ∙ (holds-behind x (numbers_of found) (numbers_of inside) rest
+      ∙ ap (λ b. holds x (numbers_of found) || b) (holds-append x (numbers_of inside) rest ∙ (ap (λ b. b || holds x rest) (k x) ∙ (sym (holds-append x (free_in_state (state_of a.state.value)) rest) ∙ sym next_argument))))
+
+-- with none left, those so far are all
+pub none_left : {A : Type 0} (F : List A → List ℕ) (x : ℕ) (b c : Bool) (args : List A) (i : ℕ) → F [] ≡ [] → length args ≤ i → (b || holds x (F (drop i args))) ≡ c → b ≡ c
+none_left F x b c args i n h e = sym (ap (λ l. b || holds x (F l)) (drop_all i args h) ∙ (ap (λ l. b || holds x l) n ∙ or_false b)) ∙ e
+  where
+    or_false : (b : Bool) → (b || false) ≡ b
+    or_false true = refl
+    or_false false = refl

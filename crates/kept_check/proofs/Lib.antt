@@ -2,7 +2,7 @@ pub mod Arguments
 pub mod NameLists
 pub mod FreeLists
 pub mod Lists
-pub mod Holding
+pub mod HeldFacts
 pub mod Gathered
 pub mod Contexts
 pub mod SameNames

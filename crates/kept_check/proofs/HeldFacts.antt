@@ -1,5 +1,5 @@
 -- What is held of names: whether it has begun, and the facts that it leaves.
-use Rattle.std.proofs.Common.{◌≡◌, ◌∙◌, ◌<◌, ◌≤◌, ◌+◌, ℕ, Bool, true, false, true≢false, ◌&&◌, ◌||◌, not, eqb, List, [], ◌∷◌, ◌++◌, length, get_or, drop, map, refl, ap, ap₂, sym}
+use Rattle.std.proofs.Common.{◌≡◌, ◌∙◌, ◌<◌, ◌≤◌, ◌+◌, ℕ, Bool, true, false, true≢false, ◌&&◌, ◌||◌, not, eqb, List, [], ◌∷◌, ◌++◌, length, get_or, drop, map, refl, ap, ap₂, sym, arith}
 use Rattle.std.specs.List.{list_any}
 use Rattle.std.proofs.lemmas.Bool.{eqb-true}
 use Rattle.std.proofs.lemmas.List.{at_drop_more, drop_all}
@@ -17,6 +17,11 @@ use Rattle.delta_state.specs.StateTree.{HeldName, held_names}
 use Rattle.delta_state.specs.StateTyping.{is_empty, facts_held}
 use Rattle.delta_state.specs.Settled.{has_tag}
 use Rattle.kept_check.specs.Holding.{stays_before}
+
+-- a star with an item has begun
+pub begun : (ps : List Prefix) (e : StarEnd) → 1 ≤ length ps → true ≡ has_tag (star_of (map prefix_of ps) (end_of e))
+begun [] e h = absurd (omega arith)
+begun (p ∷ ps) e h = refl
 
 -- a star has begun where something of it came
 pub not_begun : (ps : List StreamPrefix) (e : StarEnd) → not (has_tag (star_of ps (end_of e))) ≡ is_empty (star_of ps (end_of e))
@@ -70,18 +75,18 @@ beside_one true false v r x y h = refl
 beside_one false false v r x y h = refl
 
 -- the names left: the next one, and those behind it
-holds-next : (v : ℕ) (names : List Name) (i : ℕ) (n : Name) → i < length names → n ≡ get_or names i n → holds v (numbers_of (drop i names)) ≡ (eqb v n.0 || holds v (numbers_of (drop (i + 1) names)))
-holds-next v names i n h e =
-    at_drop_more (λ l. holds v (numbers_of l)) names i n h ∙ ap (λ (m : Name). eqb v m.0 || holds v (numbers_of (drop (i + 1) names))) (sym e)
+holds-next : (v : ℕ) (names : List Name) (i : ℕ) (n d : Name) → i < length names → n ≡ get_or names i d → holds v (numbers_of (drop i names)) ≡ (eqb v n.0 || holds v (numbers_of (drop (i + 1) names)))
+holds-next v names i n d h e =
+    at_drop_more (λ l. holds v (numbers_of l)) names i d h ∙ ap (λ (m : Name). eqb v m.0 || holds v (numbers_of (drop (i + 1) names))) (sym e)
 
-module _ (held : List HeldName) (before : Facts) (names : List Name) (i : ℕ) (n : Name) (h : i < length names) (e : n ≡ get_or names i n) where
+module _ (held : List HeldName) (before : Facts) (names : List Name) (i : ℕ) (n d : Name) (h : i < length names) (e : n ≡ get_or names i d) where
   -- the facts of one name before those left
   pub next_fact : (x u v : ℕ) (old new : Bool) → new ≡ (old || (eqb u x && (eqb v n.0 && stays_before held before x n.0)))
       → (new || (eqb u x && (holds v (numbers_of (drop (i + 1) names)) && stays_before held before x v))) ≡ (old || (eqb u x && (holds v (numbers_of (drop i names)) && stays_before held before x v)))
   next_fact x u v old new k =
       ap (λ b. b || (eqb u x && (holds v (numbers_of (drop (i + 1) names)) && stays_before held before x v))) k
       ∙ (beside_one old (eqb u x) (eqb v n.0) (holds v (numbers_of (drop (i + 1) names))) (stays_before held before x v) (stays_before held before x n.0) (λ q. ap (stays_before held before x) (sym (eqb-true v n.0 q)))
-      ∙ ap (λ b. old || (eqb u x && (b && stays_before held before x v))) (sym (holds-next v names i n h e)))
+      ∙ ap (λ b. old || (eqb u x && (b && stays_before held before x v))) (sym (holds-next v names i n d h e)))
 
   -- the facts of the names left before all
   pub next_facts : (u v : ℕ) (old new : Bool) → new ≡ (old || (eqb u n.0 && (holds v (numbers_of names) && stays_before held before n.0 v)))
@@ -91,7 +96,7 @@ module _ (held : List HeldName) (before : Facts) (names : List Name) (i : ℕ) (
       ap (λ b. b || (holds u (numbers_of (drop (i + 1) names)) && (holds v (numbers_of names) && stays_before held before u v))) k
       ∙ (with_one old (eqb u n.0) (holds u (numbers_of (drop (i + 1) names))) (holds v (numbers_of names) && stays_before held before u v) (holds v (numbers_of names) && stays_before held before n.0 v)
       (λ q. ap (λ w. holds v (numbers_of names) && stays_before held before w v) (sym (eqb-true u n.0 q)))
-      ∙ ap (λ b. old || (b && (holds v (numbers_of names) && stays_before held before u v))) (sym (holds-next u names i n h e)))
+      ∙ ap (λ b. old || (b && (holds v (numbers_of names) && stays_before held before u v))) (sym (holds-next u names i n d h e)))
 
 -- the facts of held names
 pub facts_held-is : (held : List HeldName) (before : Facts) (names : List Name) (u v : ℕ) → numbers_of names ≡ held_names held
