@@ -39,3 +39,14 @@ all_mapped P f (x ∷ xs) a = All-cons P (f x) (map f xs) (All-head (λ x. P (f 
 pub all_unmapped : {A B : Type 0} (P : B → Type 0) (f : A → B) (xs : List A) → All P (map f xs) → All (λ x. P (f x)) xs
 all_unmapped P f [] a = All-nil (λ x. P (f x))
 all_unmapped P f (x ∷ xs) a = All-cons (λ x. P (f x)) x xs (All-head P (f x) (map f xs) a) (all_unmapped P f xs (All-tail P (f x) (map f xs) a))
+
+-- what is true of each for two reasons
+module _ {A : Type 0} (P Q : A → Type 0) (xs : List A) where
+  pub all_both : All P xs → All Q xs → All (λ x. P x × Q x) xs
+  all_both p q = λ k d h. (p k d h, q k d h)
+
+  pub all_first : All (λ x. P x × Q x) xs → All P xs
+  all_first a = λ k d h. (a k d h).0
+
+  pub all_second : All (λ x. P x × Q x) xs → All Q xs
+  all_second a = λ k d h. (a k d h).1
