@@ -1,6 +1,6 @@
 //! The rules of code that isn't reached.
 
-ghost use Rattle.std.specs.Prelude.{◌≡◌, ◌↔◌, ◌<◌, ◌^◌, ◌∷◌, [], ◌&&◌, not, ℕ, IsTrue, IfOk};
+ghost use Rattle.std.specs.Prelude.{◌≡◌, ◌↔◌, ◌<◌, ◌≤◌, ◌^◌, ◌∷◌, [], ◌&&◌, not, ℕ, IsTrue, IfOk};
 ghost use Rattle.std.specs.List.{list_all};
 ghost use Rattle.stream_type.specs.StreamType.{type_of};
 ghost use Rattle.bunch.specs.Names.{numbers_of, holds};
@@ -136,7 +136,8 @@ fn is_good_inside(
     requires marks { (f : ℕ) → counts_in (core_of c.now).funs marks.now f ≡ is_inert_fun (core_of c.now).funs f }
     ensures { IfOk result (λ b. IsTrue b ↔ IsTypedAndFit (core_of c.now).funs depth (context_in scope.now) (numbers_of others.now) (later_of l.now) (type_of r.now)) }
 {
-    if !is_fit(alloc, l, others, depth)? {
+    let fit = is_fit(alloc, l, others, depth)?;
+    if !fit {
         return Ok(false);
     }
     has_type(alloc, c, marks, scope, &l.code, r)
@@ -166,10 +167,21 @@ fn has_type(
 fn is_fit(alloc: Global, l: &Waiting, others: &[Name], depth: u64) -> Result<bool, Memory>
     ensures { IfOk result (λ b. IsTrue b ↔ IsFitLater depth (numbers_of others.now) (later_of l.now)) }
 {
-    if l.depth < depth || !have_types(alloc, &l.past)? {
+    if !is_deep(l, depth) {
+        return Ok(false);
+    }
+    let typed = have_types(alloc, &l.past)?;
+    if !typed {
         return Ok(false);
     }
     names_apart(alloc, l, others)
+}
+
+// Whether its depth is great enough.
+fn is_deep(l: &Waiting, depth: u64) -> bool
+    ensures { IsTrue result ↔ (depth ≤ (later_of l.now).depth) }
+{
+    l.depth >= depth
 }
 
 // Whether the names of its values are apart from all others.
