@@ -318,9 +318,34 @@ fn has_branches(
     ensures { IfOk result (λ b. IsTrue b ↔ IsGoodSum (core_of c.now).funs depth (context_in scope.now) z.0 x.0 (later_of l.now) y.0 (later_of m.now) (type_of r.now)) }
 {
     match stream_type(scope, z) {
-        Some(Ty::Sum(s, t)) => {
-            on_sides(alloc, c, marks, depth, scope, z, x, s, l, y, t, m, r)
-        }
+        Some(t) => on_sum(alloc, c, marks, depth, scope, z, t, x, l, y, m, r),
+        None => Ok(false),
+    }
+}
+
+// The same, where the subject's type is known.
+fn on_sum(
+    alloc: Global,
+    c: &Core,
+    marks: &[bool],
+    depth: u64,
+    scope: &Scope<'_>,
+    z: Name,
+    of: &Ty,
+    x: Name,
+    l: &Waiting,
+    y: Name,
+    m: &Waiting,
+    r: &Ty,
+) -> Result<bool, Memory>
+    requires form { (context_in scope.now).types z.0 ≡ Some (type_of of.now) }
+    requires left { node_count (later_of l.now).term < 2 ^ 32 }
+    requires right { node_count (later_of m.now).term < 2 ^ 32 }
+    requires marks { (f : ℕ) → counts_in (core_of c.now).funs marks.now f ≡ is_inert_fun (core_of c.now).funs f }
+    ensures { IfOk result (λ b. IsTrue b ↔ IsGoodSum (core_of c.now).funs depth (context_in scope.now) z.0 x.0 (later_of l.now) y.0 (later_of m.now) (type_of r.now)) }
+{
+    match of {
+        Ty::Sum(s, t) => on_sides(alloc, c, marks, depth, scope, z, x, s, l, y, t, m, r),
         _ => Ok(false),
     }
 }
