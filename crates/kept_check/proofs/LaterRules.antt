@@ -25,19 +25,19 @@ module _ (others : List ℕ) (l : LaterTree) (names bound used : List ℕ) (e : 
   pub apart_where : IsTrue (is_distinct names && (list_all (λ x. not (holds x bound)) names && list_all (λ x. not (holds x used)) names)) ↔ IsPastApart others l
   apart_where = (
     λ t.
-      let rest = and_second (is_distinct names) (list_all (λ x. not (holds x bound)) names && list_all (λ x. not (holds x used)) names) t in
-      let first = and_first (list_all (λ x. not (holds x bound)) names) (list_all (λ x. not (holds x used)) names) rest in
-      let second = and_second (list_all (λ x. not (holds x bound)) names) (list_all (λ x. not (holds x used)) names) rest in
-      record {
-        are_once = ap is_distinct (sym e) ∙ and_first (is_distinct names) (list_all (λ x. not (holds x bound)) names && list_all (λ x. not (holds x used)) names) t;
-        not_bound = λ x h. ap (holds x) (sym k) ∙ apart_at names bound first x (ap (holds x) e ∙ h);
-        not_used = λ x h. sym (ap (holds x) m ∙ holds-once x (free_names l.term)) ∙ apart_at names used second x (ap (holds x) e ∙ h);
-      },
+        let rest = and_second (is_distinct names) (list_all (λ x. not (holds x bound)) names && list_all (λ x. not (holds x used)) names) t in
+        let first = and_first (list_all (λ x. not (holds x bound)) names) (list_all (λ x. not (holds x used)) names) rest in
+        let second = and_second (list_all (λ x. not (holds x bound)) names) (list_all (λ x. not (holds x used)) names) rest in
+        record {
+          are_once = ap is_distinct (sym e) ∙ and_first (is_distinct names) (list_all (λ x. not (holds x bound)) names && list_all (λ x. not (holds x used)) names) t;
+          not_bound = λ x h. ap (holds x) (sym k) ∙ apart_at names bound first x (ap (holds x) e ∙ h);
+          not_used = λ x h. sym (ap (holds x) m ∙ holds-once x (free_names l.term)) ∙ apart_at names used second x (ap (holds x) e ∙ h);
+        },
     λ a.
-      and_both (is_distinct names) (list_all (λ x. not (holds x bound)) names && list_all (λ x. not (holds x used)) names) (ap is_distinct e ∙ a.are_once)
-      (and_both (list_all (λ x. not (holds x bound)) names) (list_all (λ x. not (holds x used)) names)
-      (apart_of names bound (λ x h. ap (holds x) k ∙ a.not_bound x (sym (ap (holds x) e) ∙ h)))
-      (apart_of names used (λ x h. (ap (holds x) m ∙ holds-once x (free_names l.term)) ∙ a.not_used x (sym (ap (holds x) e) ∙ h)))),
+        and_both (is_distinct names) (list_all (λ x. not (holds x bound)) names && list_all (λ x. not (holds x used)) names) (ap is_distinct e ∙ a.are_once)
+        (and_both (list_all (λ x. not (holds x bound)) names) (list_all (λ x. not (holds x used)) names)
+        (apart_of names bound (λ x h. ap (holds x) k ∙ a.not_bound x (sym (ap (holds x) e) ∙ h)))
+        (apart_of names used (λ x h. (ap (holds x) m ∙ holds-once x (free_names l.term)) ∙ a.not_used x (sym (ap (holds x) e) ∙ h)))),
   )
 
 -- code is fit

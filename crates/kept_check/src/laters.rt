@@ -200,5 +200,8 @@ fn stand_alone(names: &[Name], bound: &[Name], used: &[Name]) -> bool
     ensures { result ≡ (is_distinct (numbers_of names.now) && (list_all (λ x. not (holds x (numbers_of bound.now))) (numbers_of names.now)
         && list_all (λ x. not (holds x (numbers_of used.now))) (numbers_of names.now))) }
 {
-    are_distinct(names) && are_apart(names, bound) && are_apart(names, used)
+    if !are_distinct(names) {
+        return false;
+    }
+    are_apart(names, bound) && are_apart(names, used)
 }

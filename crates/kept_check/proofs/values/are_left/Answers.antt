@@ -19,8 +19,7 @@ Leaves c h = c.types h.name ≡ Some (der h.prefix h.type)
 pub returns-then-not-branch : goal.returns-then-not-branch
 returns-then-not-branch c =
     let d = context_in c.args.scope.now in
-    let held = c.args.held.now in
-    (
+    let held = c.args.held.now in (
       λ t. absurd (true≢false (sym t)),
       λ a. absurd (all_fails (λ k. Fits (held_of k) × Leaves d (held_of k)) held c.loop-entry.entry-index c.entry-item.result c.loop-entry-test.true c.entry-item.is (iff_false c.in_ok-is_left.ensures c.if-not-branch.true)
           (all_both (λ k. Fits (held_of k)) (λ k. Leaves d (held_of k)) held (all_unmapped Fits held_of held a.0) (all_unmapped (Leaves d) held_of held a.1))),
@@ -35,8 +34,7 @@ pub returns : goal.returns
 returns c =
     let d = context_in c.args.scope.now in
     let held = c.args.held.now in
-    let all = all_whole (λ k. Fits (held_of k) × Leaves d (held_of k)) held c.loop-entry.entry-index c.loop-entry-test.false c.loop-entry.invariant in
-    (
+    let all = all_whole (λ k. Fits (held_of k) × Leaves d (held_of k)) held c.loop-entry.entry-index c.loop-entry-test.false c.loop-entry.invariant in (
       λ t. (
         all_mapped Fits held_of held (all_first (λ k. Fits (held_of k)) (λ k. Leaves d (held_of k)) held all),
         all_mapped (Leaves d) held_of held (all_second (λ k. Fits (held_of k)) (λ k. Leaves d (held_of k)) held all),
