@@ -1,5 +1,5 @@
 -- The contexts of code that isn't reached: beside its values, and of what is held.
-use Rattle.std.proofs.Common.{◌≡◌, ◌∙◌, ◌↔◌, ℕ, Bool, true, false, eqb, if◌then◌else◌, List, [], ◌∷◌, map, refl, ap}
+use Rattle.std.proofs.Common.{◌≡◌, ◌∙◌, ℕ, Bool, true, false, eqb, if◌then◌else◌, List, [], ◌∷◌, map, refl, ap}
 use Rattle.std.specs.Prelude.{Option, Some, None}
 use Rattle.stream_type.specs.declared.ty.Ty.{Ty}
 use Rattle.stream_type.specs.StreamType.{StreamType}

@@ -1,5 +1,5 @@
 -- What is asked of code that isn't reached, from what its parts are asked.
-use Rattle.std.proofs.Common.{◌≡◌, ◌∙◌, ◌↔◌, ◌≤◌, ℕ, Bool, true, false, true≢false, ◌&&◌, not, IsTrue, List, ◌++◌, ap, sym, subst}
+use Rattle.std.proofs.Common.{◌≡◌, ◌∙◌, ◌↔◌, ◌≤◌, ℕ, Bool, ◌&&◌, not, IsTrue, List, ◌++◌, ap, sym, subst}
 use Rattle.std.specs.Prelude.{Result, IfOk}
 use Rattle.std.specs.List.{All, list_all}
 use Rattle.std.proofs.lemmas.Result.{IfOk-weaker}

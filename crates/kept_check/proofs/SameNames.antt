@@ -1,5 +1,5 @@
 -- Names that are the same in two lists, and what is asked of what is held by such names.
-use Rattle.std.proofs.Common.{◌≡◌, ◌∙◌, ◌↔◌, ℕ, Bool, true, false, true≢false, ◌&&◌, not, IsTrue, List, refl, ap, sym, subst}
+use Rattle.std.proofs.Common.{◌≡◌, ◌∙◌, ◌↔◌, ℕ, Bool, true, false, ◌&&◌, not, List, refl, ap, sym}
 use Rattle.std.specs.Prelude.{Some}
 use Rattle.std.specs.List.{All, list_all}
 use Rattle.std.proofs.lemmas.Bool.{not-true}

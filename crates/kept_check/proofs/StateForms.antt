@@ -1,15 +1,14 @@
 -- The rules of the forms of states, from what their parts are asked.
-use Rattle.std.proofs.Common.{◌≡◌, ◌∙◌, ◌↔◌, ℕ, Bool, true, false, true≢false, IsTrue, List, [], ◌∷◌, refl, ap, sym, subst}
+use Rattle.std.proofs.Common.{◌≡◌, ◌∙◌, ◌↔◌, ℕ, Bool, false, true≢false, IsTrue, List, [], ◌∷◌, ap, sym, subst}
 use Rattle.std.specs.Prelude.{Result, IfOk, Option, Some, None, unwrap_or}
-use Rattle.std.specs.List.{list_all}
 use Rattle.std.proofs.lemmas.Result.{IfOk-weaker}
-use Rattle.stream_type.specs.StreamType.{StreamType, eps, cat, par, sum, star, null_of}
+use Rattle.stream_type.specs.StreamType.{StreamType, eps, sum, star, null_of}
 use Rattle.bunch.specs.declared.name.Name.{Name}
 use Rattle.bunch.specs.Names.{holds, numbers_of}
 use Rattle.core_term.specs.CoreTerm.{CoreBody}
 use Rattle.core_term.specs.FreeNames.{free_names}
 use Rattle.core_term.specs.Parts.{sum_left, sum_right, star_item, star_items}
-use Rattle.core_term.specs.Typing.{Context, type_at, AllBefore, HasForm, is_before, with_name_like, with_fact, with_parts}
+use Rattle.core_term.specs.Typing.{Context, type_at, AllBefore, HasForm, with_name_like, with_fact, with_parts}
 use Rattle.delta_state.specs.StateTree.{LaterTree}
 use Rattle.delta_state.specs.StateTyping.{with_known}
 use Rattle.kept_rules.specs.StateRules.{IsGoodLater, IsGoodSum, IsGoodStar, IsGoodWait}

@@ -3,8 +3,12 @@ use Rattle.std.proofs.Common.{◌∙◌, ◌||◌, ◌&&◌, ◌+◌, not, drop,
 use Rattle.bunch.specs.declared.name.Name.{Name}
 use Rattle.bunch.specs.Names.{holds, numbers_of}
 use Rattle.kept_check.proofs.FreeLists.{next_left_out, next_put_in}
+use Rattle.kept_check.proofs.HeldFacts.{all_facts}
 use Rattle.kept_check.proofs.free.add_less.Goals as goal
 use Rattle.kept_check.proofs.free.add_less.Goals.{then-not-is_there+in_ok-push, else-not-is_there}
+
+pub loop-name-init : goal.loop-name-init
+loop-name-init c = λ x. refl
 
 pub loop-name-preserved : goal.loop-name-preserved
 loop-name-preserved c = λ x.
@@ -21,3 +25,8 @@ loop-name-preserved c = λ x.
           ap (λ v. holds x (numbers_of v.items) || (holds x (numbers_of (drop (i + 1) more)) && not (holds x less))) w.names-is
           ∙ (next_left_out x c.loop-name.names.items more less i n d c.loop-name-test.true refl (sym c.is_there.ensures ∙ w.if-not-is_there.false) ∙ c.loop-name.invariant x)
     ]
+
+pub returns : goal.returns
+returns c = λ x.
+    let less = numbers_of c.args.less.now in
+    all_facts (holds x (numbers_of c.loop-name.names.items)) (holds x (numbers_of c.args.names.now.items) || (holds x (numbers_of c.args.more.now) && not (holds x less))) (not (holds x less)) c.args.more.now c.loop-name.name-index x c.loop-name-test.false (c.loop-name.invariant x)

@@ -1,5 +1,5 @@
 -- The names of the branches, less those that they bind.
-use Rattle.std.proofs.Common.{◌∷◌, [], ◌++◌}
+use Rattle.std.proofs.Common.{◌∷◌, []}
 use Rattle.std.proofs.lemmas.Result.{IfOk-weaker}
 use Rattle.bunch.specs.Names.{numbers_of}
 use Rattle.core_term.specs.FreeNames.{free_names}

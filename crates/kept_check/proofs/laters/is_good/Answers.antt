@@ -1,5 +1,5 @@
 -- Its values stand beside the context.
-use Rattle.std.proofs.Common.{◌≡◌, ◌∙◌, ◌∷◌, [], ap}
+use Rattle.std.proofs.Common.{◌≡◌, ◌∙◌, [], ap}
 use Rattle.stream_type.specs.StreamType.{type_of}
 use Rattle.core_term.specs.CoreTerm.{core_of}
 use Rattle.delta_check.specs.Scopes.{context_in, with_values}

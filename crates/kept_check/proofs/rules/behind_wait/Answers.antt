@@ -3,8 +3,7 @@ use Rattle.std.proofs.Common.{◌≡◌, ◌∙◌, ◌∷◌, [], false, true�
 use Rattle.stream_type.specs.StreamType.{type_of, null_of}
 use Rattle.bunch.specs.Names.{holds}
 use Rattle.core_term.specs.CoreTerm.{core_of}
-use Rattle.core_term.specs.FreeNames.{free_names, once}
-use Rattle.core_term.proofs.OnceEach.{holds-once}
+use Rattle.core_term.specs.FreeNames.{free_names}
 use Rattle.delta_check.specs.Scopes.{context_in}
 use Rattle.delta_state.specs.StateTyping.{with_known}
 use Rattle.delta_keep.specs.KeptView.{later_of}

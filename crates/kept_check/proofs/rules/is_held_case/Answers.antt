@@ -1,5 +1,5 @@
 -- The list has the free names.
-use Rattle.std.proofs.Common.{◌≡◌, ◌↔◌, ◌∷◌, ◌++◌, IsTrue, map}
+use Rattle.std.proofs.Common.{◌↔◌, ◌∷◌, ◌++◌, IsTrue, map}
 use Rattle.std.specs.Prelude.{IfOk}
 use Rattle.std.proofs.lemmas.Result.{IfOk-weaker}
 use Rattle.bunch.specs.Names.{numbers_of}

@@ -1,6 +1,6 @@
 -- A first part that isn't null, code that is good, and names in order.
 use Rattle.std.proofs.Common.{◌≡◌, ◌∙◌, false, true≢false, [], refl, sym}
-use Rattle.std.proofs.lemmas.Bool.{iff_false, false_from_ne_true}
+use Rattle.std.proofs.lemmas.Bool.{iff_false}
 use Rattle.stream_type.specs.StreamType.{type_of, cat, null_of}
 use Rattle.core_term.specs.CoreTerm.{core_of}
 use Rattle.core_term.specs.FreeNames.{free_names}

@@ -4,7 +4,6 @@ use Rattle.std.proofs.lemmas.Bool.{iff_false}
 use Rattle.hist_value.specs.HistType.{past}
 use Rattle.hist_value.specs.HistValue.{HasType}
 use Rattle.delta_state.specs.StateTree.{Known as KnownName}
-use Rattle.delta_keep.specs.declared.kept.Known.{Known}
 use Rattle.delta_keep.specs.KeptView.{known_of}
 use Rattle.kept_check.proofs.Gathered.{all_next, all_fails, all_whole, all_mapped, all_unmapped}
 use Rattle.kept_check.proofs.values.have_types.Goals as goal

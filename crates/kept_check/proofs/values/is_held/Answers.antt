@@ -1,5 +1,5 @@
 -- The names stand once, and are the free ones.
-use Rattle.std.proofs.Common.{◌∙◌, IsTrue, map, true≢false, sym}
+use Rattle.std.proofs.Common.{◌∙◌, map, true≢false, sym}
 use Rattle.std.proofs.lemmas.Result.{IfOk-weaker}
 use Rattle.bunch.specs.Names.{numbers_of}
 use Rattle.delta_check.specs.Scopes.{context_in}
