@@ -1,3 +1,4 @@
+-- The lemmas.
 pub mod Arguments
 pub mod NameLists
 pub mod FreeLists
@@ -11,3 +12,9 @@ pub mod InputContexts
 pub mod Placed
 pub mod FirstStates
 pub mod LoadedStates
+pub mod HeldFacts
+pub mod Gathered
+pub mod Contexts
+pub mod SameNames
+pub mod LaterRules
+pub mod StateForms

@@ -2,6 +2,7 @@
 pub mod Arguments
 pub mod Free
 pub mod Given
+pub mod Holding
 pub mod Laters
 pub mod Loading
 pub mod Sizes

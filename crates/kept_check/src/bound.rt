@@ -27,10 +27,7 @@ pub fn add_bound(n: &Node, found: &mut Vec<Name>) -> Result<(), Memory>
         Term::LetPar(x, y, _, a) | Term::LetCat(x, y, _, a) => add_behind(&[*x, *y], a, found),
         Term::CaseSum(_, _, x, a, y, b) => add_parts(&[*x], a, &[*y], b, found),
         Term::CaseStar(_, _, a, y, ys, b) => add_parts(&[], a, &[*y, *ys], b, found),
-        Term::Call(_, past, arguments) => {
-            add_bound_in_exprs(past, found)?;
-            add_of_all(arguments, found)
-        }
+        Term::Call(_, past, arguments) => add_of_call(arguments, past, found),
     }
 }
 
@@ -59,6 +56,17 @@ fn add_parts(
 {
     add_behind(first, a, found)?;
     add_behind(then, b, found)
+}
+
+// Those of the arguments of a call.
+#[cycle(bound)]
+#[tactic(auto, using(crate::proofs::NameLists::name_lists))]
+fn add_of_call(arguments: &[Node], past: &[Expr], found: &mut Vec<Name>) -> Result<(), Memory>
+    ensures { OnOk result (numbers_of found.new.items
+        ≡ numbers_of found.old.items ++ (bound_in_exprs (map expr_of past.now) ++ bound_in_terms (terms_from (map term_of arguments.now)))) }
+{
+    add_bound_in_exprs(past, found)?;
+    add_of_all(arguments, found)
 }
 
 // Those of terms in turn.

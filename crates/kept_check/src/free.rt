@@ -1,13 +1,13 @@
 //! The free stream names of states.
 
-ghost use Rattle.std.specs.Prelude.{◌≡◌, ◌++◌, ◌∷◌, [], ◌||◌, ◌&&◌, not, ℕ, IfOk, OnOk};
+ghost use Rattle.std.specs.Prelude.{◌≡◌, ◌++◌, ◌∷◌, ◌||◌, ◌&&◌, not, ℕ, IfOk, OnOk};
 ghost use Rattle.bunch.specs.Names.{numbers_of, holds};
 ghost use Rattle.core_term.specs.CoreTerm.{term_of};
 ghost use Rattle.core_term.specs.FreeNames.{free_names};
-ghost use Rattle.delta_state.specs.StateTree.{free_in_state, free_in_arguments};
+ghost use Rattle.delta_state.specs.StateTree.{free_in_state, free_in_arguments, free_in_wait};
 ghost use Rattle.delta_keep.specs.KeptView.{state_of, later_of};
 ghost use Rattle.kept_check.specs.Arguments.{arguments_from};
-ghost use Rattle.kept_check.specs.Free.{HasNames};
+ghost use Rattle.kept_check.specs.Free.{HasNames, without_all};
 
 use crate::names::is_there;
 use bunch::Name;
@@ -18,7 +18,7 @@ use stream_type::Memory;
 
 /// The free stream names of a state, each once or more often. Its only error is want of memory.
 #[cycle(free)]
-#[tactic(auto, using(crate::proofs::Arguments::rows, crate::proofs::FreeLists::free_lists))]
+#[tactic(auto, using(crate::proofs::Arguments::rows))]
 pub fn free_in(alloc: Global, s: &KeptState) -> Result<Vec<Name>, Memory>
     ensures { IfOk result (λ v. HasNames v.items (free_in_state (state_of s.now))) }
 {
@@ -31,7 +31,7 @@ pub fn free_in(alloc: Global, s: &KeptState) -> Result<Vec<Name>, Memory>
         KeptState::LetPar(x, y, z, a) | KeptState::LetCat(x, y, z, a) => {
             free_behind(alloc, *z, a, &[*x, *y])
         }
-        KeptState::CaseSum(z, _, _, x, l, y, m) => { free_of_case(alloc, *z, l, &[*x], m, &[*y]) }
+        KeptState::CaseSum(z, _, _, x, l, y, m) => free_of_case(alloc, *z, l, &[*x], m, &[*y]),
         KeptState::CaseStar(z, _, _, l, y, ys, m) => {
             free_of_case(alloc, *z, l, &[], m, &[*y, *ys])
         }
@@ -42,7 +42,7 @@ pub fn free_in(alloc: Global, s: &KeptState) -> Result<Vec<Name>, Memory>
 
 // Names, and beside them others less some.
 fn beside(alloc: Global, first: &[Name], more: &[Name], less: &[Name]) -> Result<Vec<Name>, Memory>
-    ensures { IfOk result (λ v. (x : ℕ) → holds x (numbers_of v.items) ≡ (holds x (numbers_of first.now) || (holds x (numbers_of more.now) && not (holds x (numbers_of less.now))))) }
+    ensures { IfOk result (λ v. HasNames v.items (numbers_of first.now ++ without_all (numbers_of less.now) (numbers_of more.now))) }
 {
     let mut names = first.to_vec(alloc)?;
     add_less(&mut names, more, less)?;
@@ -69,25 +69,27 @@ fn free_in_two(
     b: &KeptState,
     less: &[Name],
 ) -> Result<Vec<Name>, Memory>
-    ensures { IfOk result (λ v. (x : ℕ) → holds x (numbers_of v.items) ≡ (holds x (free_in_state (state_of a.now)) || (holds x (free_in_state (state_of b.now)) && not (holds x (numbers_of less.now))))) }
+    ensures { IfOk result (λ v. HasNames v.items (free_in_state (state_of a.now) ++ without_all (numbers_of less.now) (free_in_state (state_of b.now)))) }
 {
-    let (first, second) = (free_in(alloc, a)?, free_in(alloc, b)?);
+    let first = free_in(alloc, a)?;
+    let second = free_in(alloc, b)?;
     beside(alloc, &first, &second, less)
 }
 
 // Those of a state, and of code behind it.
 #[cycle(free)]
 fn free_in_both(alloc: Global, a: &KeptState, l: &Waiting) -> Result<Vec<Name>, Memory>
-    ensures { IfOk result (λ v. (x : ℕ) → holds x (numbers_of v.items) ≡ (holds x (free_in_state (state_of a.now)) || holds x (free_names (later_of l.now).term))) }
+    ensures { IfOk result (λ v. HasNames v.items (free_in_state (state_of a.now) ++ free_names (later_of l.now).term)) }
 {
-    let (first, second) = (free_in(alloc, a)?, free(alloc, &l.code)?);
+    let first = free_in(alloc, a)?;
+    let second = free(alloc, &l.code)?;
     beside(alloc, &first, &second, &[])
 }
 
 // A name, and those of a state less some.
 #[cycle(free)]
 fn free_behind(alloc: Global, z: Name, a: &KeptState, less: &[Name]) -> Result<Vec<Name>, Memory>
-    ensures { IfOk result (λ v. (x : ℕ) → holds x (numbers_of v.items) ≡ (holds x (z.0 ∷ []) || (holds x (free_in_state (state_of a.now)) && not (holds x (numbers_of less.now))))) }
+    ensures { IfOk result (λ v. HasNames v.items (z.0 ∷ without_all (numbers_of less.now) (free_in_state (state_of a.now)))) }
 {
     let inside = free_in(alloc, a)?;
     beside(alloc, &[z], &inside, less)
@@ -103,17 +105,17 @@ pub fn free_of_case(
     m: &Waiting,
     lesser: &[Name],
 ) -> Result<Vec<Name>, Memory>
-    ensures { IfOk result (λ v. (x : ℕ) → holds x (numbers_of v.items) ≡ (holds x (z.0 ∷ []) || (holds x (free_names (later_of l.now).term) && not (holds x (numbers_of less.now))))
-        || (holds x (free_names (later_of m.now).term) && not (holds x (numbers_of lesser.now)))) }
+    ensures { IfOk result (λ v. HasNames v.items (z.0 ∷ (without_all (numbers_of less.now) (free_names (later_of l.now).term) ++ without_all (numbers_of lesser.now) (free_names (later_of m.now).term)))) }
 {
-    let (left, right) = (free(alloc, &l.code)?, free(alloc, &m.code)?);
+    let left = free(alloc, &l.code)?;
+    let right = free(alloc, &m.code)?;
     let names = beside(alloc, &[z], &left, less)?;
     beside(alloc, &names, &right, lesser)
 }
 
 /// Those of a wait for `x`. Its only error is want of memory.
 pub fn free_of_wait(alloc: Global, x: Name, l: &Waiting) -> Result<Vec<Name>, Memory>
-    ensures { IfOk result (λ v. HasNames v.items (x.0 ∷ free_names (later_of l.now).term)) }
+    ensures { IfOk result (λ v. HasNames v.items (free_in_wait x.0 (later_of l.now))) }
 {
     let inside = free(alloc, &l.code)?;
     beside(alloc, &[x], &inside, &[])
@@ -124,11 +126,10 @@ pub fn free_of_wait(alloc: Global, x: Name, l: &Waiting) -> Result<Vec<Name>, Me
 fn free_of_all(alloc: Global, args: &[Argument]) -> Result<Vec<Name>, Memory>
     ensures { IfOk result (λ v. HasNames v.items (free_in_arguments (arguments_from args.now))) }
 {
-    match args {
-        [] => Ok(Vec::new(alloc)),
-        [arg, rest @ ..] => {
-            let (first, more) = (free_in(alloc, &arg.state)?, free_of_all(alloc, rest)?);
-            beside(alloc, &first, &more, &[])
-        }
+    let mut names = Vec::new(alloc);
+    for arg in args {
+        let inside = free_in(alloc, &arg.state)?;
+        names.extend_from_slice(&inside)?;
     }
+    Ok(names)
 }

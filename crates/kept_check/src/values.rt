@@ -50,12 +50,19 @@ pub fn have_types(alloc: Global, known: &[Known]) -> Result<bool, Memory>
     ensures { IfOk result (λ b. IsTrue b ↔ All (λ e. HasType (past e.type) e.value) (map known_of known.now)) }
 {
     for entry in known {
-        let t = past(alloc, &entry.ty)?;
-        if !has_type(&entry.value, &t) {
+        if !has_its_type(alloc, entry)? {
             return Ok(false);
         }
     }
     Ok(true)
+}
+
+// Whether the value is of its type.
+fn has_its_type(alloc: Global, entry: &Known) -> Result<bool, Memory>
+    ensures { IfOk result (λ b. IsTrue b ↔ HasType (past (known_of entry.now).type) (known_of entry.now).value) }
+{
+    let t = past(alloc, &entry.ty)?;
+    Ok(has_type(&entry.value, &t))
 }
 
 /// The names of which something is held, in turn. Its only error is want of memory.
@@ -92,7 +99,13 @@ pub fn is_held(
     requires { numbers_of names.now ≡ held_names (map held_of held.now) }
     ensures { IfOk result (λ b. IsTrue b ↔ IsHeld (context_in scope.now) (numbers_of free.now) (map held_of held.now)) }
 {
-    Ok(are_distinct(names) && are_same(names, free) && are_left(alloc, scope, held)?)
+    if !are_distinct(names) {
+        return Ok(false);
+    }
+    if !are_same(names, free) {
+        return Ok(false);
+    }
+    are_left(alloc, scope, held)
 }
 
 // Whether what is held of each name is a prefix of its type from before, and leaves its type.

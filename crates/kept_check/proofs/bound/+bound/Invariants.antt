@@ -22,3 +22,6 @@ decreases-add_parts l = max (3 * size-Node l.a.now) (3 * size-Node l.b.now) + 2
 
 abbrev pub decreases-add_of_all : goal.decreases-add_of_all
 decreases-add_of_all l = 3 * goal.size-add_of_all l + 1
+
+abbrev pub decreases-add_of_call : goal.decreases-add_of_call
+decreases-add_of_call l = 3 * goal.size-add_of_call l + 2

@@ -1,5 +1,5 @@
 -- None of the names seen so far decides, so the rest do.
-use Rattle.std.proofs.Common.{◌≡◌, not, drop}
+use Rattle.std.proofs.Common.{◌≡◌, drop}
 use Rattle.std.specs.List.{list_all}
 use Rattle.bunch.specs.Names.{numbers_of, holds}
 use Rattle.kept_check.proofs.names.are_among.Given as goal
