@@ -1,6 +1,6 @@
 -- The first state of a kept state that isn't typed, from what is found of its states in turn.
-use Rattle.std.proofs.Common.{◌≡◌, ◌∙◌, ℕ, zero, suc, ◌+◌, ◌<◌, List, [], ◌∷◌, refl, ap, sym, subst, arith}
-use Rattle.std.specs.Prelude.{Option, Some, None, slice_get, IsSomeAnd, Result, Ok, Err}
+use Rattle.std.proofs.Common.{◌≡◌, ℕ, zero, suc, ◌+◌, ◌<◌, List, [], ◌∷◌, refl, subst, arith}
+use Rattle.std.specs.Prelude.{Option, Some, None, slice_get, IsSomeAnd, Ok, Err}
 use Rattle.core_term.specs.CoreTerm.{CoreBody, CoreProgram}
 use Rattle.delta_state.specs.Stands.{depth_after}
 use Rattle.kept_state.specs.KeptTree.{KeptTree}
@@ -9,8 +9,7 @@ use Rattle.kept_rules.specs.InTurn.{StateAt, states_kept}
 use Rattle.kept_rules.specs.StateRules.{IsGood, AreGood, IsGoodAt}
 use Rattle.kept_rules.specs.FirstUntyped.{IsFirstUntyped}
 use Rattle.kept_rules.proofs.GoodStates.{typed_is_good}
-use Rattle.kept_check.specs.declared.stop.Stop.{Stop}
-use Rattle.kept_check.specs.declared.stop.Stop.TheVariants.{Memory, At}
+use Rattle.kept_check.specs.declared.stop.Stop.TheVariants.{At}
 use Rattle.kept_check.specs.Walk.{IsFirstBad, FindsBad}
 
 module _ (funs : List CoreBody) (depth : ℕ) where

@@ -1,6 +1,6 @@
 -- The scope of main's parameters, where types are left of them.
 use mathlib.Core.Path.{fun_ext}
-use Rattle.std.proofs.Common.{◌≡◌, ◌∙◌, ℕ, Bool, true, false, true≢false, ◌||◌, if◌then◌else◌, List, [], ◌∷◌, ◌≤◌, ◌^◌, length, map, refl, ap, ap₂, sym, subst}
+use Rattle.std.proofs.Common.{◌≡◌, ◌∙◌, ℕ, Bool, true, false, true≢false, ◌||◌, if◌then◌else◌, List, [], ◌∷◌, ◌≤◌, ◌^◌, length, refl, ap, ap₂, sym, subst}
 use Rattle.std.specs.Prelude.{Option, Some, None, unwrap_or, ◌==◌, IsTrue, ◌↔◌}
 use Rattle.std.proofs.lemmas.List.{length-map}
 use Rattle.stream_type.specs.declared.ty.Ty.{Ty}

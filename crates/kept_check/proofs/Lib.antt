@@ -18,3 +18,4 @@ pub mod Contexts
 pub mod SameNames
 pub mod LaterRules
 pub mod StateForms
+mod Examples

@@ -1,6 +1,6 @@
 -- What is told of bytes, from what is found of the states that were read from them.
-use Rattle.std.proofs.Common.{◌≡◌, ◌∙◌, ℕ, Bool, true, false, true≢false, List, length, map, ap, sym, subst}
-use Rattle.std.specs.Prelude.{Result, Ok, Err, IsTrue, ◌↔◌}
+use Rattle.std.proofs.Common.{◌≡◌, ◌∙◌, ℕ, Bool, false, true≢false, List, length, ap, sym, subst}
+use Rattle.std.specs.Prelude.{Result, Err, IsTrue, ◌↔◌}
 use Rattle.std.proofs.lemmas.List.{length-map}
 use Rattle.stream_type.specs.declared.ty.Ty.{Ty}
 use Rattle.stream_type.specs.StreamType.{StreamType}

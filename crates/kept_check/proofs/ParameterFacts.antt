@@ -1,8 +1,8 @@
 -- The context of a called body, as its arguments are gone through.
 use mathlib.Core.Path.{fun_ext}
-use Rattle.std.proofs.Common.{◌≡◌, ◌∙◌, ℕ, ◌+◌, ◌<◌, ◌≤◌, Bool, true, false, true≢false, ◌&&◌, ◌||◌, not, eqb, if◌then◌else◌, List, [], ◌∷◌, ◌++◌, map, length, get_or, take, drop, refl, ap, ap₂, sym, subst}
+use Rattle.std.proofs.Common.{◌≡◌, ◌∙◌, ℕ, ◌+◌, ◌<◌, ◌≤◌, Bool, true, false, true≢false, ◌&&◌, ◌||◌, not, if◌then◌else◌, List, [], ◌∷◌, ◌++◌, map, length, get_or, take, drop, refl, ap, ap₂, sym}
 use Rattle.std.specs.Prelude.{Option, Some, IsTrue, ◌↔◌, ◌==◌}
-use Rattle.std.specs.List.{list_all, list_any}
+use Rattle.std.specs.List.{list_all}
 use Rattle.std.proofs.lemmas.Bool.{eqb-true}
 use Rattle.std.proofs.lemmas.List.{drop_all, drop_more, take_all}
 use Rattle.std.proofs.lemmas.List.Folds.{list_any-append}
@@ -10,7 +10,7 @@ use Rattle.stream_type.specs.declared.ty.Ty.{Ty}
 use Rattle.stream_type.specs.StreamType.{StreamType, type_of}
 use Rattle.bunch.specs.declared.name.Name.{Name}
 use Rattle.bunch.specs.Facts.{Facts}
-use Rattle.bunch.specs.Names.{numbers_of, holds, put}
+use Rattle.bunch.specs.Names.{numbers_of, holds}
 use Rattle.core_term.specs.CoreTerm.{typed_names_of}
 use Rattle.core_term.specs.FreeNames.{is_distinct}
 use Rattle.core_term.specs.Typing.{Context, is_before, AllBefore}

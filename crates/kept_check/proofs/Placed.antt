@@ -1,6 +1,6 @@
 -- Where the types that are left and the marks fit together, test by test.
-use Rattle.std.proofs.Common.{◌≡◌, ◌∙◌, ℕ, Bool, true, false, true≢false, ◌&&◌, ◌||◌, if◌then◌else◌, List, [], ◌∷◌, ap, refl, sym}
-use Rattle.std.specs.Prelude.{Option, Some, None, IsTrue, ◌↔◌, option_map, ◌==◌}
+use Rattle.std.proofs.Common.{◌≡◌, ◌∙◌, ℕ, Bool, true, false, true≢false, ◌||◌, if◌then◌else◌, List, ap, refl, sym}
+use Rattle.std.specs.Prelude.{Some, None, IsTrue, ◌↔◌, option_map, ◌==◌}
 use Rattle.std.specs.List.{list_all}
 use Rattle.stream_type.specs.StreamType.{StreamType, eps, null_of}
 use Rattle.bunch.specs.Names.{holds}
@@ -10,7 +10,7 @@ use Rattle.core_term.specs.Agreement.{types_in}
 use Rattle.core_term.specs.Environment.{NameTypes}
 use Rattle.core_term.specs.Parts.{is_same_type}
 use Rattle.core_term.proofs.Causes.{is_same_type-true, is_same_type-same}
-use Rattle.core_term.proofs.Sides.{and_first, and_second, or_first, or_second, all-holds, holds-all}
+use Rattle.core_term.proofs.Sides.{all-holds, holds-all}
 use Rattle.kept_state.specs.KeptPlace.{IsOver, IsUncut, IsUntouched}
 
 -- a test of two types tells whether they are the same

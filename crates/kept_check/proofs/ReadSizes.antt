@@ -1,5 +1,5 @@
 -- What is read has no more states, and no more nodes of code and of types, than bytes.
-use Rattle.std.proofs.Common.{◌≡◌, ◌+◌, ◌<◌, ◌≤◌, ◌^◌, ℕ, suc, List, [], ◌∷◌, ◌++◌, length, drop, get_or, length-append, Bool, true, false, nat_lt, if◌then◌else◌, refl, subst, arith}
+use Rattle.std.proofs.Common.{◌≡◌, ◌+◌, ◌<◌, ◌≤◌, ◌^◌, ℕ, List, [], ◌∷◌, ◌++◌, length, drop, get_or, length-append, Bool, true, false, nat_lt, if◌then◌else◌, refl, subst, arith}
 use Rattle.std.specs.Prelude.{Some, None, option_map}
 use Rattle.std.proofs.lemmas.Bool.Decides.{nat_tests}
 use Rattle.std.specs.List.{All}
@@ -10,7 +10,7 @@ use Rattle.delta_state.specs.StateTree.{LaterTree, StateTree, ArgumentTrees, sin
 use Rattle.kept_state.specs.KeptTree.{KeptTree}
 use Rattle.kept_state.specs.KeptBytes.{short_bytes, long_bytes, list_bytes, bool_bytes, type_bytes, expr_bytes, places_behind, node_bytes, inside, term_bytes, terms_bytes, known_bytes, held_name_bytes, later_bytes, nodes_in_state, nodes_in_arguments, state_bytes, arguments_bytes, kept_bytes, most_bytes}
 use Rattle.kept_state.specs.KeptForm.{form_fault, bad_form, version_fault, or_else, fault_from, kept_parts}
-use Rattle.kept_check.specs.Sizes.{codes_fit, states_of_parts, states_in_arguments, states_number, IsSmall}
+use Rattle.kept_check.specs.Sizes.{codes_fit, states_in_arguments, states_number, IsSmall}
 
 -- there are so many bytes at least
 record IsLong (n : ℕ) (bytes : List ℕ) : Type 0 where

@@ -1,14 +1,14 @@
 -- What is found of states that stand one after the other, and which names are bound behind them.
-use Rattle.std.proofs.Common.{◌≡◌, ◌∙◌, ℕ, zero, suc, ◌+◌, ◌<◌, ◌^◌, true, List, [], ◌∷◌, ◌++◌, length, length-append, append_assoc, append-nil, refl, ap, sym, subst, arith}
+use Rattle.std.proofs.Common.{◌≡◌, ◌∙◌, ℕ, zero, suc, ◌+◌, true, List, [], ◌∷◌, ◌++◌, length, length-append, append_assoc, append-nil, refl, ap, sym, subst, arith}
 use Rattle.std.specs.Prelude.{Result, Ok, Err, OnOk}
 use Rattle.stream_type.specs.StreamType.{StreamType}
 use Rattle.core_term.specs.CoreTerm.{CoreBody}
 use Rattle.core_term.specs.FreeNames.{bound_names, is_distinct}
-use Rattle.core_term.specs.Parts.{par_left, par_right, cat_first, cat_second}
+use Rattle.core_term.specs.Parts.{par_left, par_right, cat_first}
 use Rattle.core_term.specs.Typing.{Context}
 use Rattle.delta_state.specs.StateTree.{StateTree, ArgumentTrees, sink, var_state, par_state, cat_state, let_state, let_par_state, let_cat_state, sum_state, star_state, wait_state, frame_state, no_arguments, argument_before, argument_names}
 use Rattle.delta_state.specs.StateTyping.{context_of_arguments}
-use Rattle.kept_rules.specs.InTurn.{StateAt, with_state, with_sides, with_steps, own_names, names_of_parts, names_in_turn, names_of_arguments, state_at, states_in, states_of, states_of_arguments}
+use Rattle.kept_rules.specs.InTurn.{StateAt, with_state, with_sides, with_steps, own_names, names_of_parts, names_in_turn, names_of_arguments, states_in, states_of, states_of_arguments}
 use Rattle.kept_rules.specs.StateRules.{IsGood, AreGood}
 use Rattle.kept_check.specs.declared.stop.Stop.{Stop}
 use Rattle.kept_check.specs.declared.stop.Stop.TheVariants.{Memory, At}

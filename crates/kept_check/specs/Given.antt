@@ -1,7 +1,7 @@
 -- What is given of names in lists.
-use Rattle.std.specs.Prelude.{ℕ, List, unwrap_or}
+use Rattle.std.specs.Prelude.{List, unwrap_or}
 use Rattle.stream_type.specs.declared.ty.Ty.{Ty}
-use Rattle.stream_type.specs.StreamType.{StreamType, eps}
+use Rattle.stream_type.specs.StreamType.{eps}
 use Rattle.bunch.specs.declared.name.Name.{Name}
 use Rattle.core_term.specs.CoreTerm.{typed_names_of}
 use Rattle.core_term.specs.Environment.{NameTypes}

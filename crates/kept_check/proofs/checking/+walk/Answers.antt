@@ -1,5 +1,5 @@
 -- The states of a state in turn: those of its parts one after the other.
-use Rattle.std.proofs.Common.{◌≡◌, ◌∙◌, ℕ, ◌+◌, ◌-◌, ◌<◌, List, ◌++◌, length, take, drop, ap, ap₂, sym, subst, append_assoc, arith, rules}
+use Rattle.std.proofs.Common.{◌≡◌, ◌∙◌, ℕ, ◌+◌, ◌-◌, List, ◌++◌, length, take, drop, ap, ap₂, sym, subst, append_assoc, arith, rules}
 use Rattle.std.specs.Prelude.{Err}
 use Rattle.std.proofs.lemmas.Result.{err_from_is_err_and, on_ok_weaker}
 use Rattle.stream_type.specs.StreamType.{type_of}
@@ -14,7 +14,7 @@ use Rattle.delta_state.specs.StateTree.{StateTree, ArgumentTrees, par_state, cat
 use Rattle.delta_state.specs.StateTyping.{context_of_arguments}
 use Rattle.kept_state.specs.KeptBytes.{nodes_in_state, nodes_in_arguments}
 use Rattle.kept_rules.specs.InTurn.{own_names, names_in_turn, names_of_parts, names_of_arguments, state_at, states_in, states_of, states_of_arguments}
-use Rattle.kept_rules.specs.StateRules.{FollowsRule, IsGood}
+use Rattle.kept_rules.specs.StateRules.{FollowsRule}
 use Rattle.delta_keep.specs.KeptView.{state_of, later_of}
 use Rattle.kept_check.specs.Arguments.{arguments_from}
 use Rattle.kept_check.specs.Sizes.{states_number, states_of_parts, states_in_arguments}

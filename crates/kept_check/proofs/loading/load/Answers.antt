@@ -1,6 +1,4 @@
 -- The kept state that was read has a first state that isn't typed.
-use Rattle.core_term.specs.CoreTerm.{core_of}
-use Rattle.delta_keep.specs.KeptView.{kept_of}
 use Rattle.kept_check.proofs.loading.load.Goals as goal
 
 pub returns-in-Err-At-clause-fault : goal.returns-in-Err-At-clause-fault
