@@ -1,0 +1,21 @@
+-- The lemmas.
+pub mod Arguments
+pub mod NameLists
+pub mod FreeLists
+pub mod Lists
+pub mod ReadSizes
+pub mod Turns
+pub mod ParameterFacts
+pub mod LetPlaces
+pub mod BoundTogether
+pub mod InputContexts
+pub mod Placed
+pub mod FirstStates
+pub mod LoadedStates
+pub mod HeldFacts
+pub mod Gathered
+pub mod Contexts
+pub mod SameNames
+pub mod LaterRules
+pub mod StateForms
+mod Examples

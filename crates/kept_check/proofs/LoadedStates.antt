@@ -1,0 +1,63 @@
+-- What is told of bytes, from what is found of the states that were read from them.
+use Rattle.std.proofs.Common.{◌≡◌, ◌∙◌, ℕ, Bool, false, true≢false, List, length, ap, sym, subst}
+use Rattle.std.specs.Prelude.{Result, Err, IsTrue, ◌↔◌}
+use Rattle.std.proofs.lemmas.List.{length-map}
+use Rattle.stream_type.specs.declared.ty.Ty.{Ty}
+use Rattle.stream_type.specs.StreamType.{StreamType}
+use Rattle.bunch.specs.declared.name.Name.{Name}
+use Rattle.bunch.specs.BunchTree.{leaf_names, stands_before}
+use Rattle.bunch.specs.Facts.{Facts}
+use Rattle.bunch.specs.Names.{numbers_of, number_of}
+use Rattle.core_term.specs.CoreTerm.{CoreProgram}
+use Rattle.core_term.specs.Params.{names_in, types_listed}
+use Rattle.core_term.specs.Typing.{Context}
+use Rattle.delta_check.specs.Scopes.{context_given}
+use Rattle.delta_state.specs.StateTree.{StateTree}
+use Rattle.delta_state.specs.Stands.{depth_after}
+use Rattle.kept_state.specs.KeptTree.{KeptTree}
+use Rattle.kept_state.specs.KeptTyping.{IsPlaced, context_kept}
+use Rattle.kept_rules.specs.InTurn.{states_of, states_kept}
+use Rattle.kept_rules.specs.FirstUntyped.{IsFirstUntyped}
+use Rattle.delta_keep.specs.declared.kept.Kept.{Kept}
+use Rattle.delta_keep.specs.KeptView.{kept_of}
+use Rattle.kept_check.specs.declared.fault.KeepFault.{KeepFault}
+use Rattle.kept_check.specs.declared.fault.KeepFault.TheVariants.{Memory as NoMemory, Form, Untyped, Version}
+use Rattle.kept_check.specs.declared.stop.Stop.{Stop}
+use Rattle.kept_check.specs.declared.stop.Stop.TheVariants.{Memory, At}
+use Rattle.kept_check.specs.Loading.{TellsKeepFault, TellsForm, TellsStop}
+use Rattle.kept_check.specs.Walk.{FindsBad}
+use Rattle.kept_check.proofs.FirstStates.{unplaced_first, first_where}
+use Rattle.kept_check.proofs.InputContexts.{input_context}
+
+-- what is found in the scope of main's parameters is found of the states of the kept state
+pub kept_found : (c : CoreProgram) (k : KeptTree) (v : List (Name × Ty)) (before : Facts) (depth : ℕ) (out : StreamType) (names : List ℕ) (s : StateTree) (q : Result ℕ Stop)
+    → names_in v ≡ leaf_names c.main.params → types_listed v ≡ k.ins → before ≡ stands_before c.main.params → depth ≡ depth_after k.events → out ≡ k.out → names ≡ leaf_names c.main.params → s ≡ k.state
+    → FindsBad c.funs depth 0 (states_of (context_given v before) out names s) q → FindsBad c.funs (depth_after k.events) 0 (states_kept c k) q
+kept_found c k v before depth out names s q e f o d t n i h =
+    let D = depth_after k.events in
+    let P : ℕ → Type 0 = λ m. FindsBad c.funs m 0 (states_of (context_given v before) out names s) q in
+    let Q : Context → Type 0 = λ g. FindsBad c.funs D 0 (states_of g out names s) q in
+    let R : StreamType → Type 0 = λ r. FindsBad c.funs D 0 (states_of (context_kept c k) r names s) q in
+    let S : List ℕ → Type 0 = λ l. FindsBad c.funs D 0 (states_of (context_kept c k) k.out l s) q in
+    let T : StateTree → Type 0 = λ u. FindsBad c.funs D 0 (states_of (context_kept c k) k.out (leaf_names c.main.params) u) q in
+    subst T i (subst S n (subst R t (subst Q (input_context c k v before e f o) (subst P d h))))
+
+-- it is told which state isn't typed
+pub stop_told : (c : CoreProgram) (k : Kept) (e : Stop) → IsPlaced c (kept_of k) → FindsBad c.funs (depth_after k.events) 0 (states_kept c (kept_of k)) (Err e) → TellsStop c k e
+stop_told c k Memory p h = tt
+stop_told c k (At m) p h = first_where c (kept_of k) m p h
+
+-- there aren't as many types as names
+pub types_missing : (c : CoreProgram) (k : KeptTree) (names : List Name) (m n : ℕ) → numbers_of names ≡ leaf_names c.main.params → m ≡ length names → n ≡ length k.ins → (m ≡ n → ⊥) → IsFirstUntyped c k 0
+types_missing c k names m n e f g h = unplaced_first c k (λ p. h (f ∙ sym (length-map names number_of) ∙ ap length e ∙ sym p.has_types ∙ sym g))
+
+-- or it is in no place of the input
+pub not_placed : (c : CoreProgram) (k : KeptTree) (b : Bool) → b ≡ false → (IsTrue b ↔ IsPlaced c k) → IsFirstUntyped c k 0
+not_placed c k b e h = unplaced_first c k (λ p. true≢false (sym (h.1 p) ∙ e))
+
+-- what is wrong with the form is told as it is
+pub form_told : (c : CoreProgram) (bytes : List ℕ) (e : KeepFault) → TellsForm bytes (Err e) → TellsKeepFault c bytes (Err e)
+form_told c bytes NoMemory h = tt
+form_told c bytes (Form at) h = h
+form_told c bytes (Untyped n) h = absurd h
+form_told c bytes (Version n) h = h

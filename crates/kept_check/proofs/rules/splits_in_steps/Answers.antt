@@ -1,0 +1,20 @@
+-- The type of the stream has the form, or there is no stream.
+use Rattle.std.proofs.Common.{true≢false, sym}
+use Rattle.stream_type.specs.StreamType.{StreamType, type_of, cat}
+use Rattle.core_term.specs.Parts.{cat_first, cat_second}
+use Rattle.core_term.specs.Typing.{type_at}
+use Rattle.delta_check.specs.Scopes.{context_in}
+use Rattle.kept_check.proofs.StateForms.{form_at, form_none}
+use Rattle.kept_check.proofs.rules.splits_in_steps.Goals as goal
+
+pub returns-in-Some : goal.returns-in-Some
+returns-in-Some c =
+    let s = type_of c.in-Some.t.now in
+    let whole = form_at (context_in c.args.scope.now) c.args.z.0 s (λ (u : StreamType). cat (cat_first u) (cat_second u)) (sym c.in-Some.ensures) in
+    (λ t. whole.0 (c.has_steps.ensures.0 t), λ h. c.has_steps.ensures.1 (whole.1 h))
+
+pub returns-in-None : goal.returns-in-None
+returns-in-None c =
+    let d = context_in c.args.scope.now in
+    let t = type_at d c.args.z.0 in
+    (λ t. absurd (true≢false (sym t)), λ h. absurd (form_none d c.args.z.0 (cat (cat_first t) (cat_second t)) (sym c.in-None.ensures) h))

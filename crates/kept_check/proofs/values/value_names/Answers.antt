@@ -1,0 +1,11 @@
+-- With all of them seen, the names are those of the values.
+use Rattle.std.proofs.Common.{◌∙◌}
+use Rattle.bunch.specs.Names.{number_of}
+use Rattle.delta_keep.specs.KeptView.{known_of}
+use Rattle.kept_check.proofs.Gathered.{map_whole, map_both}
+use Rattle.kept_check.proofs.values.value_names.Goals as goal
+
+pub returns : goal.returns
+returns c =
+    let known = c.args.known.now in
+    map_whole number_of (λ e. e.name.0) c.loop-entry.names.items known c.loop-entry.entry-index c.loop-entry-test.false c.loop-entry.invariant ∙ map_both (λ e. e.name) known_of known

@@ -1,0 +1,9 @@
+-- What the contracts cite.
+pub mod Arguments
+pub mod Free
+pub mod Given
+pub mod Holding
+pub mod Laters
+pub mod Loading
+pub mod Sizes
+pub mod Walk

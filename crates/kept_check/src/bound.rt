@@ -1,0 +1,157 @@
+//! The names that terms and historical expressions bind.
+
+ghost use Rattle.std.specs.Prelude.{◌≡◌, ◌++◌, ◌∷◌, map, OnOk};
+ghost use Rattle.bunch.specs.Names.{numbers_of};
+ghost use Rattle.hist_value.specs.HistExpr.{expr_of};
+ghost use Rattle.core_term.specs.CoreTerm.{term_of, terms_from};
+ghost use Rattle.core_term.specs.FreeNames.{bound_in_expr, bound_in_exprs, bound_names, bound_in_terms};
+
+use bunch::Name;
+use core_term::{Node, Term};
+use hist_value::Expr;
+use stream_type::Memory;
+
+/// Adds the names that a term binds, in the order of reading: `bound_names` in the specs of core_term.
+/// Its only error is want of memory.
+#[cycle(bound)]
+#[tactic(auto, using(core_term::proofs::Rows::rows, crate::proofs::NameLists::name_lists))]
+pub fn add_bound(n: &Node, found: &mut Vec<Name>) -> Result<(), Memory>
+    ensures { OnOk result (numbers_of found.new.items ≡ numbers_of found.old.items ++ bound_names (term_of n.now)) }
+{
+    match &n.term {
+        Term::Var(_) | Term::Eps | Term::Unit | Term::Nil => Ok(()),
+        Term::Past(m) => add_bound_in_expr(m, found),
+        Term::Par(a, b) | Term::Cat(a, b) | Term::Cons(a, b) => add_parts(&[], a, &[], b, found),
+        Term::Inl(a) | Term::Inr(a) | Term::Wait(_, _, a) => add_bound(a, found),
+        Term::Let(x, _, a, b) => add_parts(&[*x], a, &[], b, found),
+        Term::LetPar(x, y, _, a) | Term::LetCat(x, y, _, a) => add_behind(&[*x, *y], a, found),
+        Term::CaseSum(_, _, x, a, y, b) => add_parts(&[*x], a, &[*y], b, found),
+        Term::CaseStar(_, _, a, y, ys, b) => add_parts(&[], a, &[*y, *ys], b, found),
+        Term::Call(_, past, arguments) => add_of_call(arguments, past, found),
+    }
+}
+
+// Names, and behind them those of a term.
+#[cycle(bound)]
+#[tactic(auto, using(crate::proofs::NameLists::name_lists))]
+fn add_behind(first: &[Name], a: &Node, found: &mut Vec<Name>) -> Result<(), Memory>
+    ensures { OnOk result (numbers_of found.new.items ≡ numbers_of found.old.items ++ (numbers_of first.now ++ bound_names (term_of a.now))) }
+{
+    found.extend_from_slice(first)?;
+    add_bound(a, found)
+}
+
+// The same twice.
+#[cycle(bound)]
+#[tactic(auto, using(crate::proofs::NameLists::name_lists))]
+fn add_parts(
+    first: &[Name],
+    a: &Node,
+    then: &[Name],
+    b: &Node,
+    found: &mut Vec<Name>,
+) -> Result<(), Memory>
+    ensures { OnOk result (numbers_of found.new.items
+        ≡ numbers_of found.old.items ++ ((numbers_of first.now ++ bound_names (term_of a.now)) ++ (numbers_of then.now ++ bound_names (term_of b.now)))) }
+{
+    add_behind(first, a, found)?;
+    add_behind(then, b, found)
+}
+
+// Those of the arguments of a call.
+#[cycle(bound)]
+#[tactic(auto, using(crate::proofs::NameLists::name_lists))]
+fn add_of_call(arguments: &[Node], past: &[Expr], found: &mut Vec<Name>) -> Result<(), Memory>
+    ensures { OnOk result (numbers_of found.new.items
+        ≡ numbers_of found.old.items ++ (bound_in_exprs (map expr_of past.now) ++ bound_in_terms (terms_from (map term_of arguments.now)))) }
+{
+    add_bound_in_exprs(past, found)?;
+    add_of_all(arguments, found)
+}
+
+// Those of terms in turn.
+#[cycle(bound)]
+#[tactic(auto, using(crate::proofs::NameLists::name_lists))]
+fn add_of_all(terms: &[Node], found: &mut Vec<Name>) -> Result<(), Memory>
+    ensures { OnOk result (numbers_of found.new.items ≡ numbers_of found.old.items ++ bound_in_terms (terms_from (map term_of terms.now))) }
+{
+    for term in terms {
+        add_bound(term, found)?;
+    }
+    Ok(())
+}
+
+// Those of historical expressions in turn.
+#[tactic(auto, using(crate::proofs::NameLists::name_lists))]
+fn add_bound_in_exprs(exprs: &[Expr], found: &mut Vec<Name>) -> Result<(), Memory>
+    ensures { OnOk result (numbers_of found.new.items ≡ numbers_of found.old.items ++ bound_in_exprs (map expr_of exprs.now)) }
+{
+    for expr in exprs {
+        add_bound_in_expr(expr, found)?;
+    }
+    Ok(())
+}
+
+// Those of a historical expression.
+#[cycle(bound_in_expr)]
+#[tactic(auto, using(crate::proofs::NameLists::name_lists))]
+fn add_bound_in_expr(m: &Expr, found: &mut Vec<Name>) -> Result<(), Memory>
+    ensures { OnOk result (numbers_of found.new.items ≡ numbers_of found.old.items ++ bound_in_expr (expr_of m.now)) }
+{
+    match m {
+        Expr::Var(_) | Expr::Lit(_) | Expr::Unit | Expr::Nil => Ok(()),
+        Expr::Bin(_, a, b) | Expr::Pair(a, b) | Expr::Cons(a, b) => add_of_exprs(a, &[], b, found),
+        Expr::Fst(a) | Expr::Snd(a) | Expr::Inl(a) | Expr::Inr(a) => add_bound_in_expr(a, found),
+        Expr::Choose(a, x, b, y, c) => add_of_choice(a, *x, b, *y, c, found),
+        Expr::Fold(a, s, x, y, b) => add_of_fold(a, s, *x, *y, b, found),
+    }
+}
+
+// Those of one, names, and those of another.
+#[cycle(bound_in_expr)]
+#[tactic(auto, using(crate::proofs::NameLists::name_lists))]
+fn add_of_exprs(a: &Expr, then: &[Name], b: &Expr, found: &mut Vec<Name>) -> Result<(), Memory>
+    ensures { OnOk result (numbers_of found.new.items ≡ numbers_of found.old.items ++ (bound_in_expr (expr_of a.now) ++ (numbers_of then.now ++ bound_in_expr (expr_of b.now)))) }
+{
+    add_bound_in_expr(a, found)?;
+    found.extend_from_slice(then)?;
+    add_bound_in_expr(b, found)
+}
+
+// Those of a case.
+#[cycle(bound_in_expr)]
+#[tactic(auto, using(crate::proofs::NameLists::name_lists))]
+fn add_of_choice(
+    a: &Expr,
+    x: Name,
+    b: &Expr,
+    y: Name,
+    c: &Expr,
+    found: &mut Vec<Name>,
+) -> Result<(), Memory>
+    ensures { OnOk result (numbers_of found.new.items
+        ≡ numbers_of found.old.items ++ (bound_in_expr (expr_of a.now) ++ ((x.0 ∷ bound_in_expr (expr_of b.now)) ++ (y.0 ∷ bound_in_expr (expr_of c.now))))) }
+{
+    add_of_exprs(a, &[x], b, found)?;
+    found.push(y)?;
+    add_bound_in_expr(c, found)
+}
+
+// Those of a fold.
+#[cycle(bound_in_expr)]
+#[tactic(auto, using(crate::proofs::NameLists::name_lists))]
+fn add_of_fold(
+    a: &Expr,
+    s: &Expr,
+    x: Name,
+    y: Name,
+    b: &Expr,
+    found: &mut Vec<Name>,
+) -> Result<(), Memory>
+    ensures { OnOk result (numbers_of found.new.items
+        ≡ numbers_of found.old.items ++ (bound_in_expr (expr_of a.now) ++ (bound_in_expr (expr_of s.now) ++ (x.0 ∷ (y.0 ∷ bound_in_expr (expr_of b.now)))))) }
+{
+    add_of_exprs(a, &[], s, found)?;
+    found.extend_from_slice(&[x, y])?;
+    add_bound_in_expr(b, found)
+}
