@@ -1,6 +1,6 @@
 -- The first fault of bytes stands no further than the most bytes that a state may have.
-use Rattle.std.proofs.Common.{◌≡◌, ◌≤◌, ◌+◌, ℕ, suc, Bool, true, false, List, [], ◌∷◌, Option, Some, None, option_map, length, nat_lt, if◌then◌else◌, refl, ap, sym, ◌∙◌, arith}
-use Rattle.std.proofs.lemmas.Bool.{cases_lt}
+use Rattle.std.proofs.Common.{◌≡◌, ◌≤◌, ◌+◌, ℕ, suc, Bool, true, false, List, [], ◌∷◌, Option, Some, None, option_map, length, nat_lt, if◌then◌else◌, refl, ap, arith}
+use Rattle.std.proofs.lemmas.Bool.{ltb-false}
 use Rattle.kept_state.specs.KeptBytes.{most_bytes}
 use Rattle.kept_state.specs.KeptForm.{Part, settle, after_byte, is_whole, go_on, fault_from, kept_parts, FormFault, bad_form, bad_version, version_fault, or_else, form_fault}
 
@@ -42,7 +42,8 @@ by_length : (b : Bool) (bytes : List ℕ) (at : ℕ) → nat_lt most_bytes (leng
 by_length true bytes at many e = let same : most_bytes ≡ at = cc in omega (arith, same)
 by_length false bytes at few e =
     let place = by_version (version_fault bytes) (fault_from kept_parts 0 bytes) at (version_is bytes at) e in
-    let within = fault_within kept_parts 0 bytes at place in omega (arith, few, within)
+    let within = fault_within kept_parts 0 bytes at place in
+    let most = ltb-false most_bytes (length bytes) few in omega (arith, most, within)
 
 pub form_within : (bytes : List ℕ) (at : ℕ) → form_fault bytes ≡ Some (bad_form at) → at ≤ most_bytes
 form_within bytes at e = by_length (nat_lt most_bytes (length bytes)) bytes at refl e

@@ -1,0 +1,14 @@
+-- The run is that of the state that was read, and what is told has a small place.
+use Rattle.core_term.specs.CoreTerm.{core_of}
+use Rattle.delta_keep.specs.KeptView.{kept_of, places_kept}
+use Rattle.command_resume.proofs.Ends.{is_small, goes_on}
+use Rattle.command_resume.proofs.resuming.resume_bytes.Goals as goal
+
+pub fault_end-requires : goal.fault_end-requires
+fault_end-requires g c = is_small (core_of c.args.c.now) c.args.bytes.now c.in-Err.fault c.in-Err.ensures.fault
+
+pub returns-in-Ok-clause-resumed : goal.returns-in-Ok-clause-resumed
+returns-in-Ok-clause-resumed g c =
+    goes_on (core_of c.args.c.now) c.args.budget c.args.version c.args.bytes.now (g.L.Link.log c.args.link.now) (g.L.Link.log c.run_kept-end.new.link)
+    (g.L.Link.left c.args.link.now) (g.L.Link.left c.run_kept-end.new.link) c.run_kept-end.result
+    (record { kept = kept_of c.in-Ok.k; places = places_kept c.in-Ok.k; has_bytes = c.in-Ok.ensures.bytes; typed = c.in-Ok.ensures.typed; ran = c.run_kept-end.ensures.ran })

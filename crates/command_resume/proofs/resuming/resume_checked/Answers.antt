@@ -1,0 +1,11 @@
+-- The bytes are those of the file.
+use Rattle.std.proofs.Common.{◌∙◌}
+use Rattle.core_term.specs.CoreTerm.{core_of}
+use Rattle.command_resume.proofs.Ends.{of_file}
+use Rattle.command_resume.proofs.resuming.resume_checked.Goals as goal
+
+pub returns-in-Ok-clause-resumed : goal.returns-in-Ok-clause-resumed
+returns-in-Ok-clause-resumed g c =
+    of_file (core_of c.args.c.now) c.args.budget c.args.version (g.S.Shelf.holds c.args.shelf.now) c.args.name.now (g.L.Link.log c.args.link.now)
+    (g.L.Link.log c.resume_bytes.new.link) (g.L.Link.left c.args.link.now) (g.L.Link.left c.resume_bytes.new.link) c.deref.result.now
+    (λ told there. c.deref.ensures.value ∙ c.in-Ok.ensures.bytes told there) c.resume_bytes.result c.resume_bytes.ensures.resumed
