@@ -8,23 +8,23 @@ use port::{MemLink, MemShelf, Shelf};
 use std::alloc::Global;
 use std::test::Fail;
 
-// One stream of numbers, as it comes.
-const SAME: &[u8] = b"main(x : Int) : Int = x";
+/// One stream of numbers, as it comes.
+pub const SAME: &[u8] = b"main(x : Int) : Int = x";
 
 // A name that nothing binds.
 const UNBOUND: &[u8] = b"main(x : Int) : Int = y";
 
-// A header alone.
-const HEADER: &[u8] = &[68, 69, 86, 49];
+/// A header alone.
+pub const HEADER: &[u8] = &[68, 69, 86, 49];
 
-// A header and the number 7.
-const SEVEN: &[u8] = &[68, 69, 86, 49, 0, 17, 0, 0, 0, 0, 0, 0, 0, 7];
+/// A header and the number 7.
+pub const SEVEN: &[u8] = &[68, 69, 86, 49, 0, 17, 0, 0, 0, 0, 0, 0, 0, 7];
 
 // A header and a byte that begins no frame of a number.
 const WRONG: &[u8] = &[68, 69, 86, 49, 0, 16];
 
-// What is kept of the first program before any event: its types, and its name as its state.
-const FRESH: &[u8] = &[
+/// What is kept of the first program before any event: its types, and its name as its state.
+pub const FRESH: &[u8] = &[
     68, 83, 84, 1, 0, 0, 0, 0, 0, 0, 0, 0, 0, 0, 0, 1, 2, 0, 0, 0, 0, 2, 1, 0, 0, 0, 0,
 ];
 
@@ -34,15 +34,15 @@ const AFTER_ONE: &[u8] = &[68, 83, 84, 1, 0, 0, 0, 0, 0, 0, 0, 1];
 // What another name holds.
 const OTHER: &[u8] = b"other";
 
-// A shelf with another name, whose calls with these numbers fail.
-fn shelf_failing(alloc: Global, fail: &[u64]) -> Result<MemShelf, Fail> {
+/// A shelf with another name, whose calls with these numbers fail.
+pub fn shelf_failing(alloc: Global, fail: &[u64]) -> Result<MemShelf, Fail> {
     let mut files = Vec::new(alloc);
     files.push((String::from_str(alloc, "other")?, OTHER.to_vec(alloc)?))?;
     Ok(MemShelf::new(alloc, files, fail.to_vec(alloc)?))
 }
 
-// How a run of the text over the input ends that is to leave its state.
-fn end_of(alloc: Global, text: &[u8], input: &[u8], shelf: &mut MemShelf) -> Result<End, Fail> {
+/// How a run of the text over the input ends that is to leave its state.
+pub fn end_of(alloc: Global, text: &[u8], input: &[u8], shelf: &mut MemShelf) -> Result<End, Fail> {
     let mut pieces = Vec::new(alloc);
     pieces.push(input.to_vec(alloc)?)?;
     let mut link = MemLink::new(alloc, pieces, Vec::new(alloc), Vec::new(alloc), 4096);
