@@ -43,7 +43,8 @@ IsWrong c bytes state.Untyped n = TellsUntyped c bytes n
 IsWrong c bytes state.Large n = ⊥
 
 -- the bytes are those of a typed state of the program, and the run that goes on from it ended so
-pub record GoesOn (c : CoreProgram) (budget : ℕ) (v : Version) (bytes : List ℕ) (old new : Option (List Move)) (left0 left1 : Option (List ℕ)) (end : End) : Type 0 where
+pub record GoesOn (c : CoreProgram) (budget : ℕ) (v : Version) (bytes : List ℕ) (old new : Option (List Move)) (left0 left1 : Option (List ℕ))
+    (end : End) : Type 0 where
   pub kept : KeptTree
   pub places : List ℕ
   pub has_bytes : bytes ≡ kept_bytes kept places
