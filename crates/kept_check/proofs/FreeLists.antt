@@ -63,47 +63,42 @@ names_once v xs e x = ap (holds x) e ∙ holds-once x xs
 pub names_same : (v : List Name) → HasNames v (numbers_of v)
 names_same v x = refl
 
-left_out : (h b r l : Bool) → (b ≡ true → l ≡ true) → (h || (r && not l)) ≡ (h || ((b || r) && not l))
-left_out true b r l e = refl
-left_out false false r l e = refl
-left_out false true r true e = last r
-  where
-    last : (r : Bool) → (r && false) ≡ false
-    last true = refl
-    last false = refl
-left_out false true r false e = absurd (true≢false (sym (e refl)))
-
-put_in : (h b r l : Bool) → (b ≡ true → l ≡ false) → ((h || b) || (r && not l)) ≡ (h || ((b || r) && not l))
-put_in true b r l e = refl
-put_in false false r l e = refl
-put_in false true r false e = refl
-put_in false true r true e = absurd (true≢false (e refl))
-
--- the names left, where the next is left out, or put in
-module _ (x : ℕ) (found more : List Name) (less : List ℕ) (i : ℕ) (n d : Name) (h : i < length more) (e : n ≡ get_or more i d) where
-  next : holds x (numbers_of (drop i more)) ≡ (eqb x n.0 || holds x (numbers_of (drop (i + 1) more)))
-  next = at_drop_more (λ l. holds x (numbers_of l)) more i d h ∙ ap (λ (m : Name). eqb x m.0 || holds x (numbers_of (drop (i + 1) more))) (sym e)
-
+-- a name that is left out, or put in
+module _ (x : ℕ) (found : List Name) (n : Name) (less : List ℕ) where
   same : (l : Bool) → holds n.0 less ≡ l → eqb x n.0 ≡ true → holds x less ≡ l
   same l k q = ap (λ y. holds y less) (eqb-true x n.0 q) ∙ k
 
-  pub next_left_out : holds n.0 less ≡ true
-      → (holds x (numbers_of found) || (holds x (numbers_of (drop (i + 1) more)) && not (holds x less))) ≡ (holds x (numbers_of found) || (holds x (numbers_of (drop i more)) && not (holds x less)))
-  next_left_out k =
-      left_out (holds x (numbers_of found)) (eqb x n.0) (holds x (numbers_of (drop (i + 1) more))) (holds x less) (same true k)
-      ∙ ap (λ b. holds x (numbers_of found) || (b && not (holds x less))) (sym next)
+  pub left_out : holds n.0 less ≡ true → holds x (numbers_of found) ≡ (holds x (numbers_of found) || (eqb x n.0 && not (holds x less)))
+  left_out k = go (holds x (numbers_of found)) (eqb x n.0) (holds x less) (same true k)
+    where
+      go : (h b l : Bool) → (b ≡ true → l ≡ true) → h ≡ (h || (b && not l))
+      go true b l e = refl
+      go false false l e = refl
+      go false true true e = refl
+      go false true false e = absurd (true≢false (sym (e refl)))
 
-  last_put : (a b : Bool) → (a || (b || false)) ≡ (a || b)
-  last_put true b = refl
-  last_put false true = refl
-  last_put false false = refl
+  pub put_in : holds n.0 less ≡ false → holds x (numbers_of (found ++ n ∷ [])) ≡ (holds x (numbers_of found) || (eqb x n.0 && not (holds x less)))
+  put_in k = ap (holds x) (numbers_of-append found (n ∷ [])) ∙ (holds-append x (numbers_of found) (n.0 ∷ []) ∙ go (holds x (numbers_of found)) (eqb x n.0) (holds x less) (same false k))
+    where
+      go : (h b l : Bool) → (b ≡ true → l ≡ false) → (h || (b || false)) ≡ (h || (b && not l))
+      go true b l e = refl
+      go false false l e = refl
+      go false true false e = refl
+      go false true true e = absurd (true≢false (e refl))
 
-  pub next_put_in : holds n.0 less ≡ false
-      → (holds x (numbers_of (found ++ n ∷ [])) || (holds x (numbers_of (drop (i + 1) more)) && not (holds x less))) ≡ (holds x (numbers_of found) || (holds x (numbers_of (drop i more)) && not (holds x less)))
-  next_put_in k =
-      ap (λ b. b || (holds x (numbers_of (drop (i + 1) more)) && not (holds x less))) (ap (holds x) (numbers_of-append found (n ∷ [])) ∙ (holds-append x (numbers_of found) (n.0 ∷ []) ∙ last_put (holds x (numbers_of found)) (eqb x n.0)))
-      ∙ (put_in (holds x (numbers_of found)) (eqb x n.0) (holds x (numbers_of (drop (i + 1) more))) (holds x less) (same false k)
-      ∙ ap (λ b. holds x (numbers_of found) || (b && not (holds x less))) (sym next))
+-- the names left, with what the next one adds
+pub next_added : (x : ℕ) (more : List Name) (i : ℕ) (d : Name) (old new l : Bool) → i < length more → new ≡ (old || (eqb x (get_or more i d).0 && l))
+    → (new || (holds x (numbers_of (drop (i + 1) more)) && l)) ≡ (old || (holds x (numbers_of (drop i more)) && l))
+next_added x more i d old new l h e =
+    ap (λ b. b || (holds x (numbers_of (drop (i + 1) more)) && l)) e
+    ∙ (go old (eqb x (get_or more i d).0) (holds x (numbers_of (drop (i + 1) more))) l ∙ ap (λ b. old || (b && l)) (sym (at_drop_more (λ ns. holds x (numbers_of ns)) more i d h)))
+  where
+    go : (a b r l : Bool) → ((a || (b && l)) || (r && l)) ≡ (a || ((b || r) && l))
+    go true b r l = refl
+    go false false r l = refl
+    go false true r true = refl
+    go false true true false = refl
+    go false true false false = refl
 
 -- the names of lists one after the other
 pub holds-behind : (x : ℕ) (xs ys zs : List ℕ) → (holds x (xs ++ ys) || holds x zs) ≡ (holds x xs || holds x (ys ++ zs))

@@ -1,6 +1,6 @@
 //! The free stream names of states.
 
-ghost use Rattle.std.specs.Prelude.{◌≡◌, ◌++◌, ◌∷◌, ◌||◌, ◌&&◌, not, ℕ, IfOk, OnOk};
+ghost use Rattle.std.specs.Prelude.{◌≡◌, ◌==◌, ◌++◌, ◌∷◌, ◌||◌, ◌&&◌, not, ℕ, IfOk, OnOk};
 ghost use Rattle.bunch.specs.Names.{numbers_of, holds};
 ghost use Rattle.core_term.specs.CoreTerm.{term_of};
 ghost use Rattle.core_term.specs.FreeNames.{free_names};
@@ -54,10 +54,19 @@ fn add_less(names: &mut Vec<Name>, more: &[Name], less: &[Name]) -> Result<(), M
     ensures { OnOk result ((x : ℕ) → holds x (numbers_of names.new.items) ≡ (holds x (numbers_of names.old.items) || (holds x (numbers_of more.now) && not (holds x (numbers_of less.now))))) }
 {
     for name in more {
-        if !is_there(less, *name) {
-            names.push(*name)?;
-        }
+        add_unless(names, *name, less)?;
     }
+    Ok(())
+}
+
+// Adds a name that isn't among these.
+fn add_unless(names: &mut Vec<Name>, y: Name, less: &[Name]) -> Result<(), Memory>
+    ensures { OnOk result ((x : ℕ) → holds x (numbers_of names.new.items) ≡ (holds x (numbers_of names.old.items) || ((x == y.0) && not (holds x (numbers_of less.now))))) }
+{
+    if is_there(less, y) {
+        return Ok(());
+    }
+    names.push(y)?;
     Ok(())
 }
 

@@ -92,7 +92,29 @@ pub fn is_good_at_item(
     let types = value_types(alloc, &l.past)?;
     let outer = Scope::Valued(&types, scope);
     let item = Scope::Like(y, s, z, &outer);
-    let items = Scope::Like(ys, t, z, &item);
+    is_good_behind_item(alloc, c, marks, depth, &item, y, ys, t, z, l, r)
+}
+
+// Whether code is good in the scope, where its form binds for it the item `y`, which is in the scope, and
+// then the items `ys` after it.
+fn is_good_behind_item(
+    alloc: Global,
+    c: &Core,
+    marks: &[bool],
+    depth: u64,
+    scope: &Scope<'_>,
+    y: Name,
+    ys: Name,
+    t: &Ty,
+    z: Name,
+    l: &Waiting,
+    r: &Ty,
+) -> Result<bool, Memory>
+    requires size { node_count (later_of l.now).term < 2 ^ 32 }
+    requires marks { (f : ℕ) → counts_in (core_of c.now).funs marks.now f ≡ is_inert_fun (core_of c.now).funs f }
+    ensures { IfOk result (λ b. IsTrue b ↔ IsTypedAndFit (core_of c.now).funs depth (with_fact y.0 ys.0 (with_name_like ys.0 (type_of t.now) z.0 (context_in scope.now))) (y.0 ∷ (ys.0 ∷ [])) (later_of l.now) (type_of r.now)) }
+{
+    let items = Scope::Like(ys, t, z, scope);
     let inner = Scope::Fact(y, ys, &items);
     is_good_inside(alloc, c, marks, depth, &inner, l, &[y, ys], r)
 }

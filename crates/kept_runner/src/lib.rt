@@ -2,7 +2,6 @@
 //! what that answers.
 #![tactic(auto)]
 
-mod framing;
 pub mod laws;
 mod runner;
 mod running;

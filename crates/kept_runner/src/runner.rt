@@ -10,10 +10,10 @@ ghost use Rattle.delta_loop.specs.Meaning.{HasBegun};
 ghost use Rattle.kept_runner.specs.KeptOneShot.{meaning_since};
 ghost use Rattle.kept_runner.specs.Standing.{IsOfSame, StandsFor};
 
-use crate::framing::word_frames;
 use core_term::Checked;
 use delta_keep::Kept;
 use delta_loop::{StepFault, Stepper};
+use delta_runner::word_frames;
 use delta_session::FeedRefusal;
 use event_frame::Version;
 use event_word::Event;

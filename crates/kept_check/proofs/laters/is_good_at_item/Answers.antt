@@ -17,4 +17,4 @@ returns c =
     let y = c.args.y.0 in
     let ys = c.args.ys.0 in
     let inside = λ (e : Context). with_fact y ys (with_parts y (type_of c.args.s.now) ys (type_of c.args.t.now) c.args.z.0 e) in
-    good_if (core_of c.args.c.now).funs c.args.depth (y ∷ (ys ∷ [])) l (type_of c.args.r.now) d (inside (with_values c.deref-2.result.now d)) inside c.is_good_inside.result (ap inside beside) c.is_good_inside.ensures
+    good_if (core_of c.args.c.now).funs c.args.depth (y ∷ (ys ∷ [])) l (type_of c.args.r.now) d (inside (with_values c.deref-2.result.now d)) inside c.is_good_behind_item.result (ap inside beside) c.is_good_behind_item.ensures
