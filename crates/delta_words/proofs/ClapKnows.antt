@@ -7,7 +7,7 @@ use Rattle.clap.specs.Simple.{filled, with_index, built_leaf, inherited}
 use Rattle.clap.specs.Walk.{Row, Rule, Text, arg_by_id, arg_by_index, arg_by_long, has_row, with_default}
 use Rattle.clap.specs.Words.{Shape}
 use Rattle.delta_words.specs.declared.command.Command.{Command}
-use Rattle.delta_words.specs.declared.command.Command.TheVariants.{Run, Eval, Check, Print, Text as TextCommand, Gen, Bound, Derive, Feed}
+use Rattle.delta_words.specs.declared.command.Command.TheVariants.{Run, Eval, Check, Print, Text as TextCommand, Gen, Bound, Derive, Feed, Save, Resume}
 use Rattle.delta_words.specs.declared.command.Takes.{Takes}
 use Rattle.delta_words.specs.Commands.{takes_of}
 use Rattle.delta_words.specs.ClapCommand.{operand_rule, rest_rule as several_rule, budget_rule, flag_rule, with_rule_if, leaf_app, delta_top}
@@ -42,10 +42,16 @@ name_of Gen = codes "gen"
 name_of Bound = codes "bound"
 name_of Derive = codes "derive"
 name_of Feed = codes "feed"
+name_of Save = codes "save"
+name_of Resume = codes "resume"
 
--- a subcommand once it is built
-unfoldable pub leaf_of : Command → Shape
-leaf_of c = built_leaf (inherited delta_top.top (leaf_app (name_of c) (takes_of c)).top)
+-- a subcommand of a name that takes so much, once it is built
+unfoldable pub leaf_that : Text → Takes → Shape
+leaf_that name takes = built_leaf (inherited delta_top.top (leaf_app name takes).top)
+
+-- the one of a command
+abbrev pub leaf_of : Command → Shape
+leaf_of c = leaf_that (name_of c) (takes_of c)
 
 -- a subcommand that takes so much finds each argument, by its place and its names, and asks for the operands
 pub record Knows (s : Shape) (t : Takes) : Type 0 where
@@ -138,10 +144,14 @@ feed_defaults : (rows : List Row) → defaults_fault rows (first_rule ∷ second
 feed_defaults =
     one_more first_rule _ first_passes (one_more second_rule _ second_passes (one_more rest_rule _ rest_passes (one_more valued_rule _ valued_passes no_defaults)))
 
--- the parts of what a subcommand with one operand and the options of `run` knows
-pub knows : (c : Command) → Knows (leaf_of c) (takes_of c)
-unfolding leaf_of with_rule_if
-knows Run = record {
+save_defaults : (rows : List Row) → defaults_fault rows (first_rule ∷ second_rule ∷ valued_rule ∷ v2_rule ∷ []) ≡ []
+save_defaults =
+    one_more first_rule _ first_passes (one_more second_rule _ second_passes (one_more valued_rule _ valued_passes (one_more v2_rule _ v2_passes no_defaults)))
+
+-- one operand and the options of `run`
+knows_run : (called : Text) → Knows (leaf_that called (takes_of Run)) (takes_of Run)
+unfolding leaf_that with_rule_if
+knows_run called = record {
   again = refl;
   some = λ h. omega (arith, h);
   both = λ h. omega (arith, h);
@@ -159,25 +169,11 @@ knows Run = record {
   defaults = run_defaults;
   asks = λ rows first second rest. (let f = first (omega arith) in simp f);
 }
-knows Eval = record {
-  again = refl;
-  some = λ h. omega (arith, h);
-  both = λ h. omega (arith, h);
-  several = λ h. omega (arith, h);
-  index_first = λ _. refl;
-  index_second = λ h. absurd (omega arith);
-  index_rest = λ h. absurd (omega arith);
-  id_first = λ _. refl;
-  id_second = λ h. absurd (omega arith);
-  id_rest = λ h. absurd (omega arith);
-  id_budget = λ _. refl;
-  long_budget = λ _. refl;
-  long_v2 = λ _. refl;
-  long_frames = λ h. cc;
-  defaults = run_defaults;
-  asks = λ rows first second rest. (let f = first (omega arith) in simp f);
-}
-knows Check = record {
+
+-- one operand
+knows_check : (called : Text) → Knows (leaf_that called (takes_of Check)) (takes_of Check)
+unfolding leaf_that with_rule_if
+knows_check called = record {
   again = refl;
   some = λ h. omega (arith, h);
   both = λ h. omega (arith, h);
@@ -195,25 +191,11 @@ knows Check = record {
   defaults = check_defaults;
   asks = λ rows first second rest. (let f = first (omega arith) in simp f);
 }
-knows Print = record {
-  again = refl;
-  some = λ h. omega (arith, h);
-  both = λ h. omega (arith, h);
-  several = λ h. omega (arith, h);
-  index_first = λ _. refl;
-  index_second = λ h. absurd (omega arith);
-  index_rest = λ h. absurd (omega arith);
-  id_first = λ _. refl;
-  id_second = λ h. absurd (omega arith);
-  id_rest = λ h. absurd (omega arith);
-  id_budget = λ h. cc;
-  long_budget = λ h. cc;
-  long_v2 = λ h. cc;
-  long_frames = λ h. cc;
-  defaults = check_defaults;
-  asks = λ rows first second rest. (let f = first (omega arith) in simp f);
-}
-knows TextCommand = record {
+
+-- no operand, and the options of `text`
+knows_text : (called : Text) → Knows (leaf_that called (takes_of TextCommand)) (takes_of TextCommand)
+unfolding leaf_that with_rule_if
+knows_text called = record {
   again = refl;
   some = λ h. omega (arith, h);
   both = λ h. omega (arith, h);
@@ -231,7 +213,11 @@ knows TextCommand = record {
   defaults = text_defaults;
   asks = λ rows first second rest. refl;
 }
-knows Gen = record {
+
+-- two operands
+knows_gen : (called : Text) → Knows (leaf_that called (takes_of Gen)) (takes_of Gen)
+unfolding leaf_that with_rule_if
+knows_gen called = record {
   again = refl;
   some = λ h. omega (arith, h);
   both = λ h. omega (arith, h);
@@ -249,43 +235,11 @@ knows Gen = record {
   defaults = gen_defaults;
   asks = λ rows first second rest. (let f = first (omega arith) in let g = second (omega arith) in simp (f, g));
 }
-knows Bound = record {
-  again = refl;
-  some = λ h. omega (arith, h);
-  both = λ h. omega (arith, h);
-  several = λ h. omega (arith, h);
-  index_first = λ _. refl;
-  index_second = λ h. absurd (omega arith);
-  index_rest = λ h. absurd (omega arith);
-  id_first = λ _. refl;
-  id_second = λ h. absurd (omega arith);
-  id_rest = λ h. absurd (omega arith);
-  id_budget = λ h. cc;
-  long_budget = λ h. cc;
-  long_v2 = λ h. cc;
-  long_frames = λ h. cc;
-  defaults = check_defaults;
-  asks = λ rows first second rest. (let f = first (omega arith) in simp f);
-}
-knows Derive = record {
-  again = refl;
-  some = λ h. omega (arith, h);
-  both = λ h. omega (arith, h);
-  several = λ h. omega (arith, h);
-  index_first = λ _. refl;
-  index_second = λ _. refl;
-  index_rest = λ h. absurd (omega arith);
-  id_first = λ _. refl;
-  id_second = λ _. refl;
-  id_rest = λ h. absurd (omega arith);
-  id_budget = λ h. cc;
-  long_budget = λ h. cc;
-  long_v2 = λ h. cc;
-  long_frames = λ h. cc;
-  defaults = gen_defaults;
-  asks = λ rows first second rest. (let f = first (omega arith) in let g = second (omega arith) in simp (f, g));
-}
-knows Feed = record {
+
+-- three operands or more, and a budget
+knows_feed : (called : Text) → Knows (leaf_that called (takes_of Feed)) (takes_of Feed)
+unfolding leaf_that with_rule_if
+knows_feed called = record {
   again = refl;
   some = λ h. omega arith;
   both = λ h. omega arith;
@@ -303,3 +257,39 @@ knows Feed = record {
   defaults = feed_defaults;
   asks = λ rows first second rest. (let f = first (omega arith) in let g = second (omega arith) in let r = rest (omega arith) in simp (f, g, r));
 }
+
+-- two operands and the options of `run`
+knows_save : (called : Text) → Knows (leaf_that called (takes_of Save)) (takes_of Save)
+unfolding leaf_that with_rule_if
+knows_save called = record {
+  again = refl;
+  some = λ h. omega (arith, h);
+  both = λ h. omega (arith, h);
+  several = λ h. omega (arith, h);
+  index_first = λ _. refl;
+  index_second = λ _. refl;
+  index_rest = λ h. absurd (omega arith);
+  id_first = λ _. refl;
+  id_second = λ _. refl;
+  id_rest = λ h. absurd (omega arith);
+  id_budget = λ _. refl;
+  long_budget = λ _. refl;
+  long_v2 = λ _. refl;
+  long_frames = λ h. cc;
+  defaults = save_defaults;
+  asks = λ rows first second rest. (let f = first (omega arith) in let g = second (omega arith) in simp (f, g));
+}
+
+-- what the subcommand of each command knows
+pub knows : (c : Command) → Knows (leaf_of c) (takes_of c)
+knows Run = knows_run (name_of Run)
+knows Eval = knows_run (name_of Eval)
+knows Check = knows_check (name_of Check)
+knows Print = knows_check (name_of Print)
+knows TextCommand = knows_text (name_of TextCommand)
+knows Gen = knows_gen (name_of Gen)
+knows Bound = knows_check (name_of Bound)
+knows Derive = knows_gen (name_of Derive)
+knows Feed = knows_feed (name_of Feed)
+knows Save = knows_save (name_of Save)
+knows Resume = knows_save (name_of Resume)

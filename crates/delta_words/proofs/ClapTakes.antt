@@ -14,14 +14,14 @@ use Rattle.clap.specs.declared.builder.value_parser.ValueParser.TheVariants as v
 use Rattle.clap.specs.declared.parser.matches.ValueSource.TheVariants.{CommandLine}
 use Rattle.clap.proofs.FaultLemmas.{stopped_fault}
 use Rattle.delta_words.specs.declared.command.Command.{Command}
-use Rattle.delta_words.specs.declared.command.Command.TheVariants.{Run, Eval, Check, Print, Text as TextCommand, Gen, Bound, Derive, Feed}
+use Rattle.delta_words.specs.declared.command.Command.TheVariants.{Run, Eval, Check, Print, Text as TextCommand, Gen, Bound, Derive, Feed, Save, Resume}
 use Rattle.delta_words.specs.declared.command.Takes.{Takes}
 use Rattle.delta_words.specs.Commands.{command_of, takes_of}
 use Rattle.delta_words.specs.CommandLine.{WrittenLine, no_words, read_rest, whole_line, line_of}
 use Rattle.delta_words.specs.CommandTask.{CommandTask, task_of_line, task_of_command, task_of}
 use Rattle.delta_words.specs.ClapCommand.{delta_app, with_rule_if}
 use Rattle.delta_words.proofs.ClapRows.{found, row_of, given, defaults-found, same_bytes, and_true}
-use Rattle.delta_words.proofs.ClapKnows.{Knows, knows, leaf_of, name_of}
+use Rattle.delta_words.proofs.ClapKnows.{Knows, knows, leaf_of, leaf_that, name_of}
 use Rattle.delta_words.proofs.ClapSteps.{Stands, word_row, rest_found}
 use Rattle.delta_words.proofs.ClapLines.{walks, not_true}
 
@@ -111,7 +111,7 @@ record Enters (c : Command) (rest : List Text) : Type 0 where
   ends : faults (record (walk_from nothing_held) { stopped = Some (name_of c, rest) }) [] ≡ or_else (level_fault (leaf_of c) [] nothing_held rest false []) []
 
 enters : (c : Command) (rest : List Text) → Enters c rest
-unfolding leaf_of with_rule_if walked defaults_fault
+unfolding leaf_that with_rule_if walked defaults_fault
 enters Run rest = record { walks_on = refl; turn = refl; ends = refl }
 enters Eval rest = record { walks_on = refl; turn = refl; ends = refl }
 enters Check rest = record { walks_on = refl; turn = refl; ends = refl }
@@ -121,6 +121,8 @@ enters Gen rest = record { walks_on = refl; turn = refl; ends = refl }
 enters Bound rest = record { walks_on = refl; turn = refl; ends = refl }
 enters Derive rest = record { walks_on = refl; turn = refl; ends = refl }
 enters Feed rest = record { walks_on = refl; turn = refl; ends = refl }
+enters Save rest = record { walks_on = refl; turn = refl; ends = refl }
+enters Resume rest = record { walks_on = refl; turn = refl; ends = refl }
 
 -- a command's name and a line that its subcommand takes
 top_takes : (c : Command) (rest : List Text) → level_fault (leaf_of c) [] nothing_held rest false [] ≡ [] → fault_of delta_app (name_of c ∷ rest) ≡ []
@@ -140,26 +142,28 @@ named : (word : Text) (c : Command) → command_of word ≡ Some c → word ≡ 
 named word c h =
     go (bytes_eq word (codes "run")) refl (bytes_eq word (codes "eval")) refl (bytes_eq word (codes "check")) refl
     (bytes_eq word (codes "print")) refl (bytes_eq word (codes "text")) refl (bytes_eq word (codes "gen")) refl (bytes_eq word (codes "bound")) refl
-    (bytes_eq word (codes "derive")) refl (bytes_eq word (codes "feed")) refl h
+    (bytes_eq word (codes "derive")) refl (bytes_eq word (codes "feed")) refl (bytes_eq word (codes "save")) refl (bytes_eq word (codes "resume")) refl h
   where
     when : (x : Command) (name : Text) → bytes_eq word name ≡ true → name ≡ name_of x → Some x ≡ Some c → word ≡ name_of c
     when x name same is j = let i : x ≡ c = cc in same_bytes word name same ∙ (is ∙ ap name_of i)
 
     go : (b1 : Bool) → bytes_eq word (codes "run") ≡ b1 → (b2 : Bool) → bytes_eq word (codes "eval") ≡ b2 → (b3 : Bool) → bytes_eq word (codes "check") ≡ b3
-        → (b4 : Bool) → bytes_eq word (codes "print") ≡ b4 → (b5 : Bool) → bytes_eq word (codes "text") ≡ b5 → (b6 : Bool) → bytes_eq word (codes "gen") ≡ b6
-        → (b7 : Bool) → bytes_eq word (codes "bound") ≡ b7 → (b8 : Bool) → bytes_eq word (codes "derive") ≡ b8 → (b9 : Bool) → bytes_eq word (codes "feed") ≡ b9
-        → cond b1 (Some Run) (cond b2 (Some Eval) (cond b3 (Some Check) (cond b4 (Some Print) (cond b5 (Some TextCommand) (cond b6 (Some Gen) (cond b7 (Some Bound) (cond b8 (Some Derive) (cond b9 (Some Feed) None)))))))) ≡ Some c
+        → (b4 : Bool) → bytes_eq word (codes "print") ≡ b4 → (b5 : Bool) → bytes_eq word (codes "text") ≡ b5 → (b6 : Bool) → bytes_eq word (codes "gen") ≡ b6 → (b7 : Bool) → bytes_eq word (codes "bound") ≡ b7
+        → (b8 : Bool) → bytes_eq word (codes "derive") ≡ b8 → (b9 : Bool) → bytes_eq word (codes "feed") ≡ b9 → (b10 : Bool) → bytes_eq word (codes "save") ≡ b10 → (b11 : Bool) → bytes_eq word (codes "resume") ≡ b11
+        → cond b1 (Some Run) (cond b2 (Some Eval) (cond b3 (Some Check) (cond b4 (Some Print) (cond b5 (Some TextCommand) (cond b6 (Some Gen) (cond b7 (Some Bound) (cond b8 (Some Derive) (cond b9 (Some Feed) (cond b10 (Some Save) (cond b11 (Some Resume) None)))))))))) ≡ Some c
         → word ≡ name_of c
-    go true e1 b2 e2 b3 e3 b4 e4 b5 e5 b6 e6 b7 e7 b8 e8 b9 e9 j = when Run (codes "run") e1 refl j
-    go false e1 true e2 b3 e3 b4 e4 b5 e5 b6 e6 b7 e7 b8 e8 b9 e9 j = when Eval (codes "eval") e2 refl j
-    go false e1 false e2 true e3 b4 e4 b5 e5 b6 e6 b7 e7 b8 e8 b9 e9 j = when Check (codes "check") e3 refl j
-    go false e1 false e2 false e3 true e4 b5 e5 b6 e6 b7 e7 b8 e8 b9 e9 j = when Print (codes "print") e4 refl j
-    go false e1 false e2 false e3 false e4 true e5 b6 e6 b7 e7 b8 e8 b9 e9 j = when TextCommand (codes "text") e5 refl j
-    go false e1 false e2 false e3 false e4 false e5 true e6 b7 e7 b8 e8 b9 e9 j = when Gen (codes "gen") e6 refl j
-    go false e1 false e2 false e3 false e4 false e5 false e6 true e7 b8 e8 b9 e9 j = when Bound (codes "bound") e7 refl j
-    go false e1 false e2 false e3 false e4 false e5 false e6 false e7 true e8 b9 e9 j = when Derive (codes "derive") e8 refl j
-    go false e1 false e2 false e3 false e4 false e5 false e6 false e7 false e8 true e9 j = when Feed (codes "feed") e9 refl j
-    go false e1 false e2 false e3 false e4 false e5 false e6 false e7 false e8 false e9 j = cc
+    go true e1 b2 e2 b3 e3 b4 e4 b5 e5 b6 e6 b7 e7 b8 e8 b9 e9 b10 e10 b11 e11 j = when Run (codes "run") e1 refl j
+    go false e1 true e2 b3 e3 b4 e4 b5 e5 b6 e6 b7 e7 b8 e8 b9 e9 b10 e10 b11 e11 j = when Eval (codes "eval") e2 refl j
+    go false e1 false e2 true e3 b4 e4 b5 e5 b6 e6 b7 e7 b8 e8 b9 e9 b10 e10 b11 e11 j = when Check (codes "check") e3 refl j
+    go false e1 false e2 false e3 true e4 b5 e5 b6 e6 b7 e7 b8 e8 b9 e9 b10 e10 b11 e11 j = when Print (codes "print") e4 refl j
+    go false e1 false e2 false e3 false e4 true e5 b6 e6 b7 e7 b8 e8 b9 e9 b10 e10 b11 e11 j = when TextCommand (codes "text") e5 refl j
+    go false e1 false e2 false e3 false e4 false e5 true e6 b7 e7 b8 e8 b9 e9 b10 e10 b11 e11 j = when Gen (codes "gen") e6 refl j
+    go false e1 false e2 false e3 false e4 false e5 false e6 true e7 b8 e8 b9 e9 b10 e10 b11 e11 j = when Bound (codes "bound") e7 refl j
+    go false e1 false e2 false e3 false e4 false e5 false e6 false e7 true e8 b9 e9 b10 e10 b11 e11 j = when Derive (codes "derive") e8 refl j
+    go false e1 false e2 false e3 false e4 false e5 false e6 false e7 false e8 true e9 b10 e10 b11 e11 j = when Feed (codes "feed") e9 refl j
+    go false e1 false e2 false e3 false e4 false e5 false e6 false e7 false e8 false e9 true e10 b11 e11 j = when Save (codes "save") e10 refl j
+    go false e1 false e2 false e3 false e4 false e5 false e6 false e7 false e8 false e9 false e10 true e11 j = when Resume (codes "resume") e11 refl j
+    go false e1 false e2 false e3 false e4 false e5 false e6 false e7 false e8 false e9 false e10 false e11 j = cc
 
 -- a subcommand takes the words that make a line
 line_takes : (c : Command) (rest : List Text) (line : WrittenLine) → line_of (takes_of c) rest ≡ Some line → level_fault (leaf_of c) [] nothing_held rest false [] ≡ []

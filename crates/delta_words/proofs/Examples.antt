@@ -1,6 +1,6 @@
 -- Worked command lines.
 use Rattle.std.proofs.Common.{◌≡◌, [], ◌∷◌, refl, codes, Some, None}
-use Rattle.delta_words.specs.CommandTask.{run, eval, frames, gen, bound, derive, feed, task_of}
+use Rattle.delta_words.specs.CommandTask.{run, eval, frames, gen, bound, derive, feed, save, resume, task_of}
 use Rattle.delta_words.specs.declared.task.Version.TheVariants.{V1, V2}
 
 -- `--` ends the options
@@ -93,6 +93,19 @@ budget_between_tables = refl
 -- `--` may stand there
 end_between_tables : task_of (codes "feed" ∷ codes "p" ∷ codes "0" ∷ codes "a" ∷ codes "--" ∷ codes "-b" ∷ []) ≡ Some (feed (codes "p") (0 ∷ []) (codes "a" ∷ codes "-b" ∷ []) 1000000)
 end_between_tables = refl
+
+-- a saved run has two files and the options of `run`, which may stand between them; both files must stand there
+saved : task_of (codes "save" ∷ codes "p" ∷ codes "--budget=7" ∷ codes "s" ∷ []) ≡ Some (save (codes "p") (codes "s") 7 V1)
+saved = refl
+
+resumed : task_of (codes "resume" ∷ codes "--v2" ∷ codes "p" ∷ codes "s" ∷ []) ≡ Some (resume (codes "p") (codes "s") 1000000 V2)
+resumed = refl
+
+no_state : task_of (codes "save" ∷ codes "p" ∷ []) ≡ None
+no_state = refl
+
+two_states : task_of (codes "resume" ∷ codes "p" ∷ codes "s" ∷ codes "t" ∷ []) ≡ None
+two_states = refl
 
 -- no abbreviation
 abbreviated : task_of (codes "text" ∷ codes "--fra" ∷ []) ≡ None

@@ -50,7 +50,8 @@ with_command app name c = with_subcommand app (leaf_app name (takes_of c)).top
 
 -- the whole command
 abbrev pub delta_app : App
-delta_app = with_command (with_command (with_command (with_command (with_command (with_command (with_command (with_command (with_command delta_top
+delta_app = with_command (with_command (with_command (with_command (with_command (with_command (with_command (with_command (with_command (with_command (with_command delta_top
     (codes "run") command.Run) (codes "eval") command.Eval) (codes "check") command.Check) (codes "print") command.Print) (codes "text")
     command.Text) (codes "gen") command.Gen) (codes "bound") command.Bound)
-    (codes "derive") command.Derive) (codes "feed") command.Feed
+    (codes "derive") command.Derive) (codes "feed") command.Feed)
+    (codes "save") command.Save) (codes "resume") command.Resume

@@ -11,7 +11,8 @@ use Rattle.delta_words.specs.Commands.{command_of, takes_of}
 use Rattle.delta_words.specs.CommandLine.{WrittenLine, line_of}
 
 -- a file's name, a budget and the version of what is written; a file's name; the version; the first item and how many; a file's name; two
--- files' names; a file's name, the numbers of a schedule, the tables' names and a budget
+-- files' names; a file's name, the numbers of a schedule, the tables' names and a budget; a file's name, a state's name, a budget and the
+-- version, twice
 pub data CommandTask : Type 0 where
   run : List ℕ → ℕ → Version → CommandTask
   eval : List ℕ → ℕ → Version → CommandTask
@@ -23,6 +24,8 @@ pub data CommandTask : Type 0 where
   bound : List ℕ → CommandTask
   derive : List ℕ → List ℕ → CommandTask
   feed : List ℕ → List ℕ → List (List ℕ) → ℕ → CommandTask
+  save : List ℕ → List ℕ → ℕ → Version → CommandTask
+  resume : List ℕ → List ℕ → ℕ → Version → CommandTask
 
 -- what a task of the code stands for
 abbrev pub asked : Task → CommandTask
@@ -36,6 +39,8 @@ asked (rust.Gen start items) = gen start items
 asked (rust.Bound file) = bound (string_bytes file)
 asked (rust.Derive file proof) = derive (string_bytes file) (string_bytes proof)
 asked (rust.Feed file schedule tables budget) = feed (string_bytes file) schedule.items (map string_bytes tables.items) budget
+asked (rust.Save file state budget version) = save (string_bytes file) (string_bytes state) budget version
+asked (rust.Resume file state budget version) = resume (string_bytes file) (string_bytes state) budget version
 
 -- version 2 where `--v2` stands
 abbrev pub version_of : Bool → Version
@@ -72,6 +77,14 @@ abbrev pub two_files : List (List ℕ) → Option CommandTask
 two_files (file ∷ proof ∷ []) = Some (derive file proof)
 two_files _ = None
 
+-- FILE, STATE and a budget, as `run` has it
+abbrev pub state_with : (List ℕ → List ℕ → ℕ → Version → CommandTask) → Bool → List (List ℕ) → Option ℕ → Option CommandTask
+state_with make v2 (file ∷ state ∷ []) (Some budget) = Some (make file state budget (version_of v2))
+state_with make v2 operands budget = None
+
+abbrev pub state_and_budget : (List ℕ → List ℕ → ℕ → Version → CommandTask) → WrittenLine → Option CommandTask
+state_and_budget make line = state_with make line.v2 line.operands (budget_of 1000000 1000000 line.budget)
+
 -- FILE, SCHEDULE and the tables, whose number is above each digit of SCHEDULE
 abbrev pub feed_of : List (List ℕ) → Option ℕ → Option CommandTask
 feed_of (file ∷ schedule ∷ tables) (Some budget) = option_map (λ numbers. feed file numbers tables budget) (schedule_of (length tables) schedule)
@@ -88,6 +101,8 @@ task_of_line command.Gen line = start_and_items line.operands
 task_of_line command.Bound line = option_map bound (file_of line.operands)
 task_of_line command.Derive line = two_files line.operands
 task_of_line command.Feed line = feed_of line.operands (budget_of 1000000 1000000 line.budget)
+task_of_line command.Save line = state_and_budget save line
+task_of_line command.Resume line = state_and_budget resume line
 
 -- what a command and the words behind it ask for
 abbrev pub task_of_command : List (List ℕ) → Command → Option CommandTask

@@ -2,7 +2,7 @@
 use Rattle.std.specs.Prelude.{ℕ, List, true, false, codes, Option, Some, None, if◌then◌else◌}
 use Rattle.std.specs.Str.{bytes_eq}
 use Rattle.delta_words.specs.declared.command.Command.{Command}
-use Rattle.delta_words.specs.declared.command.Command.TheVariants.{Run, Eval, Check, Print, Text, Gen, Bound, Derive, Feed}
+use Rattle.delta_words.specs.declared.command.Command.TheVariants.{Run, Eval, Check, Print, Text, Gen, Bound, Derive, Feed, Save, Resume}
 use Rattle.delta_words.specs.declared.command.Takes.{Takes}
 
 -- the command of a name, written whole
@@ -17,7 +17,9 @@ command_of word =
     else (if bytes_eq word (codes "bound") then Some Bound
     else (if bytes_eq word (codes "derive") then Some Derive
     else (if bytes_eq word (codes "feed") then Some Feed
-    else None))))))))
+    else (if bytes_eq word (codes "save") then Some Save
+    else (if bytes_eq word (codes "resume") then Some Resume
+    else None))))))))))
 
 -- how many operands must stand behind a command and how many may, and which options
 abbrev pub takes_of : Command → Takes
@@ -30,3 +32,5 @@ takes_of Gen = record { operands = 2; most = 2; budget = false; v2 = false; fram
 takes_of Bound = record { operands = 1; most = 1; budget = false; v2 = false; frames = false }
 takes_of Derive = record { operands = 2; most = 2; budget = false; v2 = false; frames = false }
 takes_of Feed = record { operands = 3; most = 10; budget = true; v2 = false; frames = false }
+takes_of Save = record { operands = 2; most = 2; budget = true; v2 = true; frames = false }
+takes_of Resume = record { operands = 2; most = 2; budget = true; v2 = true; frames = false }

@@ -12,6 +12,8 @@ pub enum Command {
     Bound,
     Derive,
     Feed,
+    Save,
+    Resume,
 }
 
 /// What a command takes: how many operands must stand there and how many may, and which options, each at most once.
@@ -42,6 +44,8 @@ impl Command {
             "bound" => Some(Command::Bound),
             "derive" => Some(Command::Derive),
             "feed" => Some(Command::Feed),
+            "save" => Some(Command::Save),
+            "resume" => Some(Command::Resume),
             _ => None,
         }
     }
@@ -84,6 +88,13 @@ impl Command {
                 most: 10,
                 budget: true,
                 v2: false,
+                frames: false,
+            },
+            Command::Save | Command::Resume => Takes {
+                operands: 2,
+                most: 2,
+                budget: true,
+                v2: true,
                 frames: false,
             },
         }

@@ -112,7 +112,9 @@ fn delta_command<'a>(alloc: Global) -> Result<Parser<'a>, AllocError>
     let load = with_command(alloc, text, "gen", Command::Gen)?;
     let bound = with_command(alloc, load, "bound", Command::Bound)?;
     let derive = with_command(alloc, bound, "derive", Command::Derive)?;
-    with_command(alloc, derive, "feed", Command::Feed)
+    let feed = with_command(alloc, derive, "feed", Command::Feed)?;
+    let save = with_command(alloc, feed, "save", Command::Save)?;
+    with_command(alloc, save, "resume", Command::Resume)
 }
 
 /// What clap finds in the words.

@@ -2,7 +2,7 @@
 
 ghost use Rattle.std.specs.Prelude.{◌≡◌, ◌<◌, ◌^◌, Some, map, option_map, string_bytes};
 ghost use Rattle.delta_words.specs.Gives.{Gives};
-ghost use Rattle.delta_words.specs.CommandTask.{asked, run, eval, version_of, budget_of, file_of, file_and_budget, text_or_frames, start_and_items, two_files, feed_of, task_of_line, task_of};
+ghost use Rattle.delta_words.specs.CommandTask.{asked, run, eval, version_of, budget_of, file_of, file_and_budget, text_or_frames, start_and_items, two_files, save, resume, state_and_budget, feed_of, task_of_line, task_of};
 ghost use Rattle.delta_words.specs.Line.{written};
 
 use crate::command::Command;
@@ -41,6 +41,10 @@ pub enum Task {
     Bound(String),
     /// Check the derivation of a file's program that another file is.
     Derive(String, String),
+    /// Run a file's program over the input and leave its state in another file, with a budget and a version.
+    Save(String, String, u64, Version),
+    /// Go on from the state that a file's program left in another file, with a budget and a version.
+    Resume(String, String, u64, Version),
     /// Feed the tables of files to a file's program, with a budget: in what order their events come, as numbers of
     /// tables, and which files they are.
     Feed(String, Vec<u32>, Vec<String>, u64),
@@ -137,6 +141,36 @@ fn eval_task(alloc: Global, line: &Line<'_>) -> Result<Task, WordsFault>
     }
 }
 
+// FILE, STATE and a budget.
+fn save_task(alloc: Global, line: &Line<'_>) -> Result<Task, WordsFault>
+    ensures { Gives asked result (state_and_budget save (written line.now)) }
+{
+    let [file, state] = line.operands.as_slice() else {
+        return Err(WordsFault::Usage);
+    };
+    let Some(budget) = budget(line.budget, 1_000_000, 1_000_000) else {
+        return Err(WordsFault::Usage);
+    };
+    let file = String::from_str(alloc, file)?;
+    let state = String::from_str(alloc, state)?;
+    Ok(Task::Save(file, state, budget, chosen_version(line.v2)))
+}
+
+// FILE, STATE and a budget.
+fn resume_task(alloc: Global, line: &Line<'_>) -> Result<Task, WordsFault>
+    ensures { Gives asked result (state_and_budget resume (written line.now)) }
+{
+    let [file, state] = line.operands.as_slice() else {
+        return Err(WordsFault::Usage);
+    };
+    let Some(budget) = budget(line.budget, 1_000_000, 1_000_000) else {
+        return Err(WordsFault::Usage);
+    };
+    let file = String::from_str(alloc, file)?;
+    let state = String::from_str(alloc, state)?;
+    Ok(Task::Resume(file, state, budget, chosen_version(line.v2)))
+}
+
 // Names, each as a text of its own.
 fn owned(alloc: Global, names: &[&str]) -> Result<Vec<String>, WordsFault>
     ensures { Gives (λ owned. map string_bytes owned.items) result (Some (map (λ name. name.now) names.now)) }
@@ -181,6 +215,8 @@ fn line_task(alloc: Global, command: Command, line: &Line<'_>) -> Result<Task, W
         Command::Bound => Ok(Task::Bound(file(alloc, line)?)),
         Command::Derive => derive_task(alloc, line),
         Command::Feed => feed_task(alloc, line),
+        Command::Save => save_task(alloc, line),
+        Command::Resume => resume_task(alloc, line),
     }
 }
 

@@ -2,7 +2,7 @@
 use Rattle.std.proofs.Common.{◌∙◌, ap, codes}
 use Rattle.std.proofs.lemmas.Result.{IfOk-weaker}
 use Rattle.clap.specs.Words.{App}
-use Rattle.delta_words.specs.declared.command.Command.TheVariants.{Run, Eval, Check, Print, Text, Gen, Bound, Derive, Feed}
+use Rattle.delta_words.specs.declared.command.Command.TheVariants.{Run, Eval, Check, Print, Text, Gen, Bound, Derive, Feed, Save, Resume}
 use Rattle.delta_words.specs.ClapCommand.{with_command}
 use Rattle.delta_words.proofs.parser.delta_command.Goals as goal
 
@@ -16,4 +16,6 @@ returns c =
     let load = c.in_ok-load.ensures ∙ ap (λ (a : App). with_command a (codes "gen") Gen) text in
     let bound = c.in_ok-bound.ensures ∙ ap (λ (a : App). with_command a (codes "bound") Bound) load in
     let derive = c.in_ok-derive.ensures ∙ ap (λ (a : App). with_command a (codes "derive") Derive) bound in
-    IfOk-weaker c.with_command-9.result _ _ (λ r h. h ∙ ap (λ (a : App). with_command a (codes "feed") Feed) derive) c.with_command-9.ensures
+    let feed = c.in_ok-feed.ensures ∙ ap (λ (a : App). with_command a (codes "feed") Feed) derive in
+    let save = c.in_ok-save.ensures ∙ ap (λ (a : App). with_command a (codes "save") Save) feed in
+    IfOk-weaker c.with_command-11.result _ _ (λ r h. h ∙ ap (λ (a : App). with_command a (codes "resume") Resume) save) c.with_command-11.ensures
