@@ -8,10 +8,14 @@ use Rattle.delta_keep.specs.declared.kept.Kept.{Kept}
 use Rattle.kept_check.specs.declared.fault.KeepFault.{KeepFault}
 use Rattle.kept_check.specs.declared.fault.KeepFault.TheVariants as fault
 use Rattle.kept_check.specs.Loading.{TellsKeepFault}
+use Rattle.delta_end.specs.declared.objection.Objection.TheVariants.{Derivation, Bound, Table, State}
 use Rattle.delta_end.specs.declared.end.End.{End}
 use Rattle.delta_end.specs.declared.end.End.TheVariants.{Done, Usage, Refused, Input, Budget, Deep, Open, FileFailed, ReadFailed, WriteFailed, Memory, Long, Objected}
 use Rattle.checked_program.specs.Acceptance.{IsWritable}
 use Rattle.delta_loop.specs.History.{IsUntouched}
+use Rattle.delta_loop.specs.Answer.{Adds, ReadsWell}
+use Rattle.delta_loop.proofs.Returning.{adds_none, ran_reads, unread}
+use Rattle.kept_runner.specs.KeptOneShot.{meaning_since}
 use Rattle.command_resume.specs.Resuming.{end_of, IsSmallFault, GoesOn, Resumes, OfState, ResumesFile}
 use Rattle.command_resume.specs.Texts.{ResumesIts, ResumesText}
 use Rattle.command_resume.proofs.Places.{form_within}
@@ -46,6 +50,46 @@ module _ (c : CoreProgram) (budget : ℕ) (v : Version) (bytes : List ℕ) (old 
   goes_on Memory on = inr on
   goes_on Long on = on
   goes_on (Objected what) on = absurd on.ran.at.may
+
+module _ (c : CoreProgram) (budget : ℕ) (v : Version) (bytes : List ℕ) (old new : Option (List Move)) (left0 left1 : Option (List ℕ)) where
+  reads_of : (end : End) → GoesOn c budget v bytes old new left0 left1 end → Adds old new (ReadsWell end)
+  reads_of end on = ran_reads (meaning_since v budget c on.kept) old new left0 left1 end on.ran
+
+  -- it doesn't read after the end of the input, nor more than it may
+  pub resumes_reads : (end : End) → Resumes c budget v bytes old new left0 left1 end → Adds old new (ReadsWell end)
+  resumes_reads (Objected (State name at)) told = adds_none old new (ReadsWell (Objected (State name at))) told.1.0 (unread (Objected (State name at)))
+  resumes_reads Memory (inl untouched) = adds_none old new (ReadsWell Memory) untouched.0 (unread Memory)
+  resumes_reads Memory (inr on) = reads_of Memory on
+  resumes_reads (Objected (Derivation name at)) on = reads_of (Objected (Derivation name at)) on
+  resumes_reads (Objected (Bound name at)) on = reads_of (Objected (Bound name at)) on
+  resumes_reads (Objected (Table name file row)) on = reads_of (Objected (Table name file row)) on
+  resumes_reads Done on = reads_of Done on
+  resumes_reads Usage on = reads_of Usage on
+  resumes_reads (Refused why) on = reads_of (Refused why) on
+  resumes_reads (Input fault) on = reads_of (Input fault) on
+  resumes_reads (Budget at) on = reads_of (Budget at) on
+  resumes_reads (Deep at) on = reads_of (Deep at) on
+  resumes_reads Open on = reads_of Open on
+  resumes_reads FileFailed on = reads_of FileFailed on
+  resumes_reads ReadFailed on = reads_of ReadFailed on
+  resumes_reads WriteFailed on = reads_of WriteFailed on
+  resumes_reads Long on = reads_of Long on
+
+  -- it isn't usage
+  pub resumes_usage : (end : End) → Resumes c budget v bytes old new left0 left1 end → end ≡ Usage → ⊥
+  resumes_usage Usage on same = on.ran.at.may
+  resumes_usage (Objected what) on same = cc
+  resumes_usage Done on same = cc
+  resumes_usage (Refused why) on same = cc
+  resumes_usage (Input fault) on same = cc
+  resumes_usage (Budget at) on same = cc
+  resumes_usage (Deep at) on same = cc
+  resumes_usage Open on same = cc
+  resumes_usage FileFailed on same = cc
+  resumes_usage ReadFailed on same = cc
+  resumes_usage WriteFailed on same = cc
+  resumes_usage Memory on same = cc
+  resumes_usage Long on same = cc
 
 module _ (c : CoreProgram) (budget : ℕ) (v : Version) (files : Option (List ℕ → List ℕ)) (name : List ℕ) (old new : Option (List Move)) (left0 left1 : Option (List ℕ)) (bytes : List ℕ)
     (held : (told : List ℕ → List ℕ) → files ≡ Some told → bytes ≡ take 1048577 (told name)) where

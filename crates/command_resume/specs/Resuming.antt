@@ -3,7 +3,7 @@
 -- Choices that are not obvious:
 -- - Whose bytes they are isn't asked. Where they are those of some typed state of the program, the run means to the loop
 --   what that state does, and else it is told what is wrong first, and nothing is read or written.
-use Rattle.std.specs.Prelude.{◌≡◌, ◌⊎◌, ◌≤◌, ℕ, ⊤, List, Option, Some, take}
+use Rattle.std.specs.Prelude.{◌≡◌, ◌⊎◌, ◌≤◌, ℕ, ⊤, List, Option, Some, None, take}
 use Rattle.port.specs.declared.link.Move.{Move}
 use Rattle.event_frame.specs.declared.version.Version.{Version}
 use Rattle.core_term.specs.CoreTerm.{CoreProgram}
@@ -42,11 +42,12 @@ IsWrong c bytes state.Version n = form_fault bytes ≡ Some (bad_version n)
 IsWrong c bytes state.Untyped n = TellsUntyped c bytes n
 IsWrong c bytes state.Large n = ⊥
 
--- the bytes are those of a typed state of the program, and the run that goes on from it ended so
+-- the bytes have no fault of form and are those of a typed state of the program, and the run that goes on from it ended so
 pub record GoesOn (c : CoreProgram) (budget : ℕ) (v : Version) (bytes : List ℕ) (old new : Option (List Move)) (left0 left1 : Option (List ℕ))
     (end : End) : Type 0 where
   pub kept : KeptTree
   pub places : List ℕ
+  pub has_form : form_fault bytes ≡ None
   pub has_bytes : bytes ≡ kept_bytes kept places
   pub typed : IsTypedKept c kept
   pub ran : Ran (meaning_since v budget c kept) old new left0 left1 end

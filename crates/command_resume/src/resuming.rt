@@ -1,10 +1,12 @@
 //! Goes on from a state's bytes, and from those in a file.
 
-ghost use Rattle.std.specs.Prelude.{◌≡◌, ◌≤◌, ℕ, IsTrue};
+ghost use Rattle.std.specs.Prelude.{◌≡◌, ◌≢◌, ◌≤◌, ℕ, IsTrue};
 ghost use Rattle.stream_type.specs.StreamType.{reach_of};
 ghost use Rattle.event_frame.specs.Frames.{longest};
 ghost use Rattle.core_term.specs.CoreTerm.{core_of, fits_of};
+ghost use Rattle.delta_end.specs.declared.end.End.{End};
 ghost use Rattle.delta_end.specs.End.{FileCause, ReadCause, WriteCause};
+ghost use Rattle.delta_loop.specs.Answer.{Adds, ReadsWell};
 ghost use Rattle.command_resume.specs.Resuming.{Resumes, ResumesFile};
 
 use crate::refusing::fault_end;
@@ -30,6 +32,8 @@ fn resume_bytes<M: Keeping, L: Link>(
     requires budget { budget ≤ 1000000 }
     requires short { reach_of (core_of c.now).main.result ≤ longest version }
     ensures resumed { Resumes (core_of c.now) budget version bytes.now (L.log link.old) (L.log link.new) (L.left link.old) (L.left link.new) result }
+    ensures reads { Adds (L.log link.old) (L.log link.new) (ReadsWell result) }
+    ensures resumes { result ≢ End.Usage }
     ensures file { (count : ℕ) → FileCause result count count }
     ensures read { ReadCause result (L.read_faults link.old) (L.read_faults link.new) }
     ensures write { WriteCause result (L.write_faults link.old) (L.write_faults link.new) }
@@ -59,6 +63,8 @@ pub fn resume_checked<M: Keeping, L: Link, S: Shelf>(
     requires budget { budget ≤ 1000000 }
     requires short { reach_of (core_of c.now).main.result ≤ longest version }
     ensures resumed { ResumesFile (core_of c.now) budget version (S.holds shelf.old) name.now (L.log link.old) (L.log link.new) (L.left link.old) (L.left link.new) result }
+    ensures reads { Adds (L.log link.old) (L.log link.new) (ReadsWell result) }
+    ensures resumes { result ≢ End.Usage }
     ensures held { S.holds shelf.new ≡ S.holds shelf.old }
     ensures file { FileCause result (S.faults shelf.old) (S.faults shelf.new) }
     ensures read { ReadCause result (L.read_faults link.old) (L.read_faults link.new) }

@@ -1,7 +1,9 @@
 //! Goes on with the program of a text from the state that a file is.
 
-ghost use Rattle.std.specs.Prelude.{◌≡◌, ◌≤◌};
+ghost use Rattle.std.specs.Prelude.{◌≡◌, ◌≢◌, ◌≤◌};
+ghost use Rattle.delta_end.specs.declared.end.End.{End};
 ghost use Rattle.delta_end.specs.End.{FileCause, ReadCause, WriteCause};
+ghost use Rattle.delta_loop.specs.Answer.{Adds, ReadsWell};
 ghost use Rattle.command_resume.specs.Texts.{ResumesText};
 
 use crate::resuming::resume_checked;
@@ -17,7 +19,8 @@ use std::alloc::Global;
 /// calls at each event: a stream with a header of its own is read, and frames of the version are written behind those
 /// that were written before, without a header. Nobody has to trust the file: where its bytes aren't those of a typed
 /// state of the program it is told what is wrong first, with nothing read or written. The text is judged before the
-/// file is read. `ResumesText` of `specs/Texts.antt` says what stands behind each end.
+/// file is read. `ResumesText` of `specs/Texts.antt` says what stands behind each end. Whatever the file is, nothing is
+/// read after the end of the input, and no more than may be.
 pub fn resume_source<M: Keeping, L: Link, S: Shelf>(
     alloc: Global,
     text: &[u8],
@@ -29,6 +32,8 @@ pub fn resume_source<M: Keeping, L: Link, S: Shelf>(
 ) -> End
     requires { budget ≤ 1000000 }
     ensures resumed { ResumesText text.now budget version (S.holds shelf.old) name.now (L.log link.old) (L.log link.new) (L.left link.old) (L.left link.new) result }
+    ensures reads { Adds (L.log link.old) (L.log link.new) (ReadsWell result) }
+    ensures resumes { result ≢ End.Usage }
     ensures held { S.holds shelf.new ≡ S.holds shelf.old }
     ensures file { FileCause result (S.faults shelf.old) (S.faults shelf.new) }
     ensures read { ReadCause result (L.read_faults link.old) (L.read_faults link.new) }

@@ -27,5 +27,5 @@ fn main(rt: HostRuntime) -> ExitCode {
     let mut link = StdLink::new(rt.stdin(), rt.stdout());
     let mut notes = StdSink::new(rt.stderr());
     let mut shelf = DirShelf::new(alloc, rt);
-    ExitCode::from(delta::<Coded, _, _, _>(alloc, &words, &mut shelf, &mut link, &mut notes))
+    ExitCode::from(delta::<Coded, Coded, _, _, _>(alloc, &words, &mut shelf, &mut link, &mut notes))
 }

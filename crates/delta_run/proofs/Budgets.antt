@@ -5,18 +5,20 @@ use Rattle.std.specs.Str.Parse.{digits_value}
 use Rattle.std.proofs.lemmas.Bool.{leb-true}
 use Rattle.delta_words.specs.declared.task.Version.{Version}
 use Rattle.delta_words.specs.declared.command.Command.{Command}
-use Rattle.delta_words.specs.declared.command.Command.TheVariants.{Run, Eval, Check, Print, Text, Gen, Bound, Derive, Feed}
+use Rattle.delta_words.specs.declared.command.Command.TheVariants.{Run, Eval, Check, Print, Text, Gen, Bound, Derive, Feed, Save, Resume}
 use Rattle.delta_words.specs.Numbers.{has_digits, number_within, schedule_of}
 use Rattle.delta_words.specs.Commands.{command_of, takes_of}
 use Rattle.delta_words.specs.CommandLine.{WrittenLine, line_of}
-use Rattle.delta_words.specs.CommandTask.{CommandTask, run, eval, check, print, text, frames, gen, bound, derive, feed, budget_of, file_of, version_of, file_and_budget, start_and_items, two_files, feed_of, task_of_line, task_of_command, task_of}
+use Rattle.delta_words.specs.CommandTask.{CommandTask, run, eval, check, print, text, frames, gen, bound, derive, feed, save, resume, budget_of, file_of, version_of, file_and_budget, start_and_items, two_files, state_with, state_and_budget, feed_of, task_of_line, task_of_command, task_of}
 
--- a run and a feeding of tables have a budget of at most 1,000,000, an evaluation one of at most 10,000; a load begins at 999,999 at most, and has at most
+-- a run, one that is saved or resumed too, and a feeding of tables have a budget of at most 1,000,000, an evaluation one of at most 10,000; a load begins at 999,999 at most, and has at most
 -- 10,000,000 items
 abbrev IsSmall : Option CommandTask → Type 0
 IsSmall (Some (eval file budget v)) = budget ≤ 10000
 IsSmall (Some (run file budget v)) = budget ≤ 1000000
 IsSmall (Some (feed file schedule names budget)) = budget ≤ 1000000
+IsSmall (Some (save file state budget v)) = budget ≤ 1000000
+IsSmall (Some (resume file state budget v)) = budget ≤ 1000000
 IsSmall (Some (gen start items)) = (start ≤ 999999) × (items ≤ 10000000)
 IsSmall o = Unit {0}
 
@@ -98,6 +100,18 @@ feeds (file ∷ schedule ∷ tables) (Some budget) h = go (schedule_of (length t
     go None = tt
     go (Some numbers) = h
 
+with_state : (make : List ℕ → List ℕ → ℕ → Version → CommandTask) → ((file state : List ℕ) (n : ℕ) (v : Version) → n ≤ 1000000 → IsSmall (Some (make file state n v)))
+    → (v2 : Bool) (operands : List (List ℕ)) (o : Option ℕ) → IfSome o (λ n. n ≤ 1000000) → IsSmall (state_with make v2 operands o)
+with_state make small v2 [] o h = tt
+with_state make small v2 (file ∷ []) o h = tt
+with_state make small v2 (file ∷ state ∷ []) None h = tt
+with_state make small v2 (file ∷ state ∷ []) (Some budget) h = small file state budget (version_of v2) h
+with_state make small v2 (file ∷ state ∷ other ∷ more) o h = tt
+
+states : (make : List ℕ → List ℕ → ℕ → Version → CommandTask) → ((file state : List ℕ) (n : ℕ) (v : Version) → n ≤ 1000000 → IsSmall (Some (make file state n v)))
+    → (line : WrittenLine) → IsSmall (state_and_budget make line)
+states make small line = with_state make small line.v2 line.operands (budget_of 1000000 1000000 line.budget) (budget_is_small 1000000 1000000 (omega arith) line.budget)
+
 of_line : (c : Command) (line : WrittenLine) → IsSmall (task_of_line c line)
 of_line Run line = runs line
 of_line Eval line = evals line
@@ -108,6 +122,8 @@ of_line Gen line = gens line.operands
 of_line Bound line = bounds (file_of line.operands)
 of_line Derive line = derivations line.operands
 of_line Feed line = feeds line.operands (budget_of 1000000 1000000 line.budget) (budget_is_small 1000000 1000000 (omega arith) line.budget)
+of_line Save line = states save (λ file state n v h. h) line
+of_line Resume line = states resume (λ file state n v h. h) line
 
 of_command : (words : List (List ℕ)) (c : Command) → IsSmall (task_of_command words c)
 of_command words c = go (line_of (takes_of c) words)
@@ -133,6 +149,12 @@ run_is_small words file budget v e = subst IsSmall e (of_words words)
 
 pub feed_is_small : (words : List (List ℕ)) (file schedule : List ℕ) (names : List (List ℕ)) (budget : ℕ) → task_of words ≡ Some (feed file schedule names budget) → budget ≤ 1000000
 feed_is_small words file schedule names budget e = subst IsSmall e (of_words words)
+
+pub save_is_small : (words : List (List ℕ)) (file state : List ℕ) (budget : ℕ) (v : Version) → task_of words ≡ Some (save file state budget v) → budget ≤ 1000000
+save_is_small words file state budget v e = subst IsSmall e (of_words words)
+
+pub resume_is_small : (words : List (List ℕ)) (file state : List ℕ) (budget : ℕ) (v : Version) → task_of words ≡ Some (resume file state budget v) → budget ≤ 1000000
+resume_is_small words file state budget v e = subst IsSmall e (of_words words)
 
 pub load_is_small : (words : List (List ℕ)) (start items : ℕ) → task_of words ≡ Some (gen start items) → (start ≤ 999999) × (items ≤ 10000000)
 load_is_small words start items e = subst IsSmall e (of_words words)

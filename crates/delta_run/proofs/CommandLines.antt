@@ -1,7 +1,7 @@
 -- A command line asks for one thing.
 use Rattle.std.proofs.Common.{◌≡◌, ◌∙◌, ℕ, List, Option, Some, None, sym}
 use Rattle.delta_words.specs.declared.task.Version.{Version}
-use Rattle.delta_words.specs.CommandTask.{CommandTask, run, eval, check, print, gen, bound, derive, feed}
+use Rattle.delta_words.specs.CommandTask.{CommandTask, run, eval, check, print, gen, bound, derive, feed, save, resume}
 
 -- two runs that it asks for are of one file, with one budget and in one version
 pub same_run : (f g : List ℕ) (b c : ℕ) (v w : Version) → Some (run f b v) ≡ Some (run g c w) → (f ≡ g) × (b ≡ c) × (v ≡ w)
@@ -34,6 +34,14 @@ same_derive f g p q e = (cc, cc)
 -- and one program that is fed one list of tables in one order, with one budget
 pub same_feed : (f g s r : List ℕ) (n m : List (List ℕ)) (b c : ℕ) → Some (feed f s n b) ≡ Some (feed g r m c) → (f ≡ g) × (s ≡ r) × (n ≡ m) × (b ≡ c)
 same_feed f g s r n m b c e = (cc, cc, cc, cc)
+
+-- and one program whose state is left in one file, with one budget and in one version
+pub same_save : (f g s t : List ℕ) (b c : ℕ) (v w : Version) → Some (save f s b v) ≡ Some (save g t c w) → (f ≡ g) × (s ≡ t) × (b ≡ c) × (v ≡ w)
+same_save f g s t b c v w e = (cc, cc, cc, cc)
+
+-- and one that goes on from the state in one file, likewise
+pub same_resume : (f g s t : List ℕ) (b c : ℕ) (v w : Version) → Some (resume f s b v) ≡ Some (resume g t c w) → (f ≡ g) × (s ≡ t) × (b ≡ c) × (v ≡ w)
+same_resume f g s t b c v w e = (cc, cc, cc, cc)
 
 -- words that ask for something are a command line
 pub asks_something : {o : Option CommandTask} {task : CommandTask} → o ≡ None → o ≡ Some task → ⊥

@@ -13,5 +13,7 @@ pub mod Checked
 pub mod Bounded
 pub mod Derived
 pub mod Fed
+pub mod SavedTexts
+pub mod ResumedTexts
 pub mod Evaluated
 pub mod Owing

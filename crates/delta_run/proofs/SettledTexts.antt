@@ -23,7 +23,7 @@ module _ (text : List ℕ) (budget : ℕ) (v : Version) (old new : Option (List 
   its_settled end ran is p c accepted all tells other =
       let same : ran.1.program ≡ p = (accepted_is_one text ran.1.program p ran.1.core c ran.1.accepted.accepted accepted.accepted).0 in
       let of_this = subst (λ (P : Meaning). Ran P old new left0 left1 end) (ran.1.means ∙ ap (λ (q : ProgramTree). meaning_of v budget (one_shot_of q)) same) ran.2 in
-      any_budget v budget other (one_shot_of p) all old new status (run_settles (meaning_of v budget (one_shot_of p)) old new left0 left1 all tells end of_this status is)
+      any_budget (meaning_of v budget (one_shot_of p)) other all old new status (run_settles (meaning_of v budget (one_shot_of p)) old new left0 left1 all tells end of_this status is)
 
   refused_not_settled : status ≡ 3 → IsOverInput status → ⊥
   refused_not_settled is over = none_other 3 (λ e. omega (arith, e)) (λ e. omega (arith, e)) (λ e. omega (arith, e)) (λ e. omega (arith, e)) (subst IsOverInput is over)

@@ -29,7 +29,6 @@ use Rattle.delta_loop.specs.Loop.{Ran}
 use Rattle.delta_loop.specs.Answer.{Adds}
 use Rattle.delta_loop.proofs.Findings.{finding_all}
 use Rattle.delta_loop.proofs.Limits.{few_read}
-use Rattle.delta_output.specs.OneShot.{OneShot, meaning_of}
 use Rattle.delta_run.specs.Settled.{IsOverInput, counted, ends_there, status_by, status_after, status_over, IsSettled}
 
 -- fewer than four bytes hold no event
@@ -224,34 +223,35 @@ over_by_end end status note0 note1 (inr (inr eight)) over =
     absurd (none_other 8 (λ e. omega (arith, e)) (λ e. omega (arith, e)) (λ e. omega (arith, e)) (λ e. omega (arith, e)) (subst IsOverInput eight.1 over))
 
 -- neither what is found in an input nor what is accepted, answered or due hangs on the budget
-module _ (v : Version) (b c : ℕ) (S : OneShot) where
-  same_found : (bytes : List ℕ) (before word : List StreamEvent) (behind : Option InputFault) → event_finding (meaning_of v b S) bytes before word behind ≡ event_finding (meaning_of v c S) bytes before word behind
+module _ (P : Meaning) (c : ℕ) where
+  abbrev with_budget : Meaning
+  with_budget = record P { budget = c }
+
+  same_found : (bytes : List ℕ) (before word : List StreamEvent) (behind : Option InputFault) → event_finding P bytes before word behind ≡ event_finding with_budget bytes before word behind
   same_found bytes before [] behind = refl
-  same_found bytes before (x ∷ word) behind =
-      ap (λ (o : Option InputFault). fault_or ((meaning_of v c S).fault before x) (place_in bytes before) o) (same_found bytes (before ++ x ∷ []) word behind)
+  same_found bytes before (x ∷ word) behind = ap (λ (o : Option InputFault). fault_or (P.fault before x) (place_in bytes before) o) (same_found bytes (before ++ x ∷ []) word behind)
 
-  same_accepted : (before word : List StreamEvent) → accepted_after (meaning_of v b S) before word ≡ accepted_after (meaning_of v c S) before word
+  same_accepted : (before word : List StreamEvent) → accepted_after P before word ≡ accepted_after with_budget before word
   same_accepted before [] = refl
-  same_accepted before (x ∷ word) = ap (λ (w : List StreamEvent). up_to_fault ((meaning_of v c S).fault before x) x w) (same_accepted (before ++ x ∷ []) word)
+  same_accepted before (x ∷ word) = ap (λ (w : List StreamEvent). up_to_fault (P.fault before x) x w) (same_accepted (before ++ x ∷ []) word)
 
-  same_answers : (before word : List StreamEvent) → answers_after (meaning_of v b S) before word ≡ answers_after (meaning_of v c S) before word
+  same_answers : (before word : List StreamEvent) → answers_after P before word ≡ answers_after with_budget before word
   same_answers before [] = refl
-  same_answers before (x ∷ word) = ap (λ (bytes : List ℕ). (meaning_of v c S).answer before x ++ bytes) (same_answers (before ++ x ∷ []) word)
+  same_answers before (x ∷ word) = ap (λ (bytes : List ℕ). P.answer before x ++ bytes) (same_answers (before ++ x ∷ []) word)
 
-  same_due : (all : List ℕ) → due (meaning_of v b S) all ≡ due (meaning_of v c S) all
+  same_due : (all : List ℕ) → due P all ≡ due with_budget all
   same_due all =
-      ap (λ (bytes : List ℕ). (opening (meaning_of v c S).version ++ (meaning_of v c S).first) ++ bytes) (same_answers [] (accepted (meaning_of v b S) (whole all)))
-      ∙ ap (output (meaning_of v c S)) (same_accepted [] (whole all))
+      ap (λ (bytes : List ℕ). (opening P.version ++ P.first) ++ bytes) (same_answers [] (accepted P (whole all))) ∙ ap (output with_budget) (same_accepted [] (whole all))
 
-  same_status : (all : List ℕ) → status_over (meaning_of v b S) all ≡ status_over (meaning_of v c S) all
+  same_status : (all : List ℕ) → status_over P all ≡ status_over with_budget all
   same_status all =
       let bytes = counted all in
       let ends = ends_there all in
-      ap (λ (o : Option InputFault). status_by o ends ((meaning_of v c S).finishes (accepted (meaning_of v b S) (whole bytes)))) (same_found bytes [] (whole bytes) (byte_finding (ending bytes) ends (length bytes)))
-      ∙ ap (λ (w : List StreamEvent). status_by (finding (meaning_of v c S) bytes ends) ends ((meaning_of v c S).finishes w)) (same_accepted [] (whole bytes))
+      ap (λ (o : Option InputFault). status_by o ends (P.finishes (accepted P (whole bytes)))) (same_found bytes [] (whole bytes) (byte_finding (ending bytes) ends (length bytes)))
+      ∙ ap (λ (w : List StreamEvent). status_by (finding with_budget bytes ends) ends (P.finishes w)) (same_accepted [] (whole bytes))
 
   -- so a run settles with any budget
-  pub any_budget : (all : List ℕ) (old new : Option (List Move)) (status : ℕ) → IsSettled (meaning_of v b S) all old new status → IsSettled (meaning_of v c S) all old new status
+  pub any_budget : (all : List ℕ) (old new : Option (List Move)) (status : ℕ) → IsSettled P all old new status → IsSettled with_budget all old new status
   any_budget all old new status settles over =
       let settled = settles over in (
         settled.0 ∙ same_status all,

@@ -11,6 +11,8 @@ pub mod Checked
 pub mod Bounded
 pub mod Derived
 pub mod Fed
+pub mod Saved
+pub mod Resumed
 pub mod Evaluated
 pub mod Outside
 pub mod Ends
@@ -22,5 +24,7 @@ pub mod Gens
 pub mod Bounds
 pub mod Derivations
 pub mod Feeds
+pub mod Saves
+pub mod Resumes
 pub mod Lines
 pub mod Owes

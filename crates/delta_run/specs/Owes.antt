@@ -1,6 +1,6 @@
 -- What is owed to a command line, by what it asks for.
 use Rattle.std.specs.Prelude.{ℕ}
-use Rattle.delta_words.specs.CommandTask.{CommandTask, run, eval, check, print, text, frames, gen, bound, derive, feed}
+use Rattle.delta_words.specs.CommandTask.{CommandTask, run, eval, check, print, text, frames, gen, bound, derive, feed, save, resume}
 use Rattle.delta_end.specs.declared.end.End.{End}
 use Rattle.delta_run.specs.CommandLine.{frames_of}
 use Rattle.delta_run.specs.Outside.{Outside}
@@ -12,6 +12,8 @@ use Rattle.delta_run.specs.Gens.{Gens}
 use Rattle.delta_run.specs.Bounds.{Bounds}
 use Rattle.delta_run.specs.Derivations.{Derivations}
 use Rattle.delta_run.specs.Feeds.{Feeds}
+use Rattle.delta_run.specs.Saves.{Saves}
+use Rattle.delta_run.specs.Resumes.{Resumes}
 use Rattle.delta_run.specs.Lines.{WritesFrames, WritesLines}
 
 abbrev pub Owes : CommandTask → Outside → Outside → End → ℕ → Type 0
@@ -25,3 +27,5 @@ Owes (gen start items) before after end status = Gens start items before after e
 Owes (bound file) before after end status = Bounds file before after end status
 Owes (derive file proof) before after end status = Derivations file proof before after end status
 Owes (feed file schedule names budget) before after end status = Feeds file schedule names budget before after end status
+Owes (save file state budget v) before after end status = Saves file state budget (frames_of v) before after end status
+Owes (resume file state budget v) before after end status = Resumes file state budget (frames_of v) before after end status

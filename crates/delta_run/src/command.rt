@@ -3,7 +3,7 @@
 ghost use Rattle.std.specs.Prelude.{◌≡◌, ◌≢◌, ◌⊎◌, ◌<◌, ◌≤◌, ◌^◌, [], List, ℕ, Some, None, true, length, map, string_bytes};
 ghost use Rattle.delta_end.specs.declared.end.End.{End};
 ghost use Rattle.delta_words.specs.declared.task.Version.{Version as WrittenVersion};
-ghost use Rattle.delta_words.specs.CommandTask.{run, eval, check, print, text, frames, gen, bound, derive, feed};
+ghost use Rattle.delta_words.specs.CommandTask.{run, eval, check, print, text, frames, gen, bound, derive, feed, save, resume};
 ghost use Rattle.command_text.specs.Conversion.{frames_of_lines, Ran as Converted};
 ghost use Rattle.command_text.specs.Lines.{lines_of_frames};
 ghost use Rattle.delta_loop.specs.Loop.{Ran as Lined};
@@ -14,12 +14,15 @@ ghost use Rattle.delta_run.specs.Bounded.{BoundedText};
 ghost use Rattle.delta_run.specs.Derived.{DerivesText};
 ghost use Rattle.delta_run.specs.Fed.{FedText};
 ghost use Rattle.delta_run.specs.Evaluated.{EvaluatedText};
-ghost use Rattle.delta_run.specs.CommandLine.{Asks, AskNothing, frames_of};
+ghost use Rattle.delta_run.specs.Saved.{SavedText, ChangesState};
+ghost use Rattle.delta_run.specs.Resumed.{ResumedText};
+ghost use Rattle.delta_run.specs.CommandLine.{Asks, AskNothing, AskForNoState, frames_of};
 ghost use Rattle.delta_end.specs.End.{FileCause, ReadCause, WriteCause};
 ghost use Rattle.delta_loop.specs.Answer.{Adds, ReadsWell};
 ghost use Rattle.delta_loop.specs.History.{IsUntouched};
 ghost use Rattle.delta_run.specs.Text.{OfFile, RanText};
 
+use crate::kept::{resume_file, save_file};
 use command_bound::bound_source;
 use command_check::check_source;
 use command_derive::{core_of_text, derive_core};
@@ -33,6 +36,7 @@ use delta_end::End;
 use delta_state::Machine;
 use delta_words::{Task, WordsFault, read_words};
 use event_frame::Version;
+use machine_kept::Keeping;
 use port::{IoFault, Link, Shelf};
 use std::alloc::Global;
 
@@ -201,7 +205,7 @@ fn frame_version(version: delta_words::Version) -> Version
 }
 
 /// Does what the words ask for, up to its end.
-pub fn run_command<M: Machine, S: Shelf, L: Link>(
+pub fn run_command<M: Machine, K: Keeping, S: Shelf, L: Link>(
     alloc: Global,
     words: &[String],
     shelf: &mut S,
@@ -233,7 +237,13 @@ pub fn run_command<M: Machine, S: Shelf, L: Link>(
         → OfFile (S.holds shelf.old) file (λ text. FedText (S.holds shelf.old) text schedule names budget (L.log link.old) (L.log link.new) result) }
     ensures feeding { (file schedule : List ℕ) (names : List (List ℕ)) (budget : ℕ) → Asks words.now (feed file schedule names budget) → L.left link.new ≡ L.left link.old }
     ensures generating { (start items : ℕ) → Asks words.now (gen start items) → L.left link.new ≡ L.left link.old }
-    ensures held { S.holds shelf.new ≡ S.holds shelf.old }
+    ensures saved { (file state : List ℕ) (budget : ℕ) (v : WrittenVersion) → Asks words.now (save file state budget v) → OfFile (S.holds shelf.old) file
+        (λ text. SavedText text budget (frames_of v) state (L.log link.old) (L.log link.new) (L.left link.old) (L.left link.new) (S.holds shelf.old) (S.holds shelf.new) result) }
+    ensures resumed { (file state : List ℕ) (budget : ℕ) (v : WrittenVersion) → Asks words.now (resume file state budget v) → OfFile (S.holds shelf.old) file
+        (λ text. ResumedText text budget (frames_of v) (S.holds shelf.old) state (L.log link.old) (L.log link.new) (L.left link.old) (L.left link.new) result) }
+    ensures changes { (file state : List ℕ) (budget : ℕ) (v : WrittenVersion) → Asks words.now (save file state budget v)
+        → ChangesState result (S.holds shelf.old) (S.holds shelf.new) state }
+    ensures held { AskForNoState words.now → S.holds shelf.new ≡ S.holds shelf.old }
     ensures file { FileCause result (S.faults shelf.old) (S.faults shelf.new) }
     ensures read { ReadCause result (L.read_faults link.old) (L.read_faults link.new) }
     ensures write { WriteCause result (L.write_faults link.old) (L.write_faults link.new) }
@@ -255,6 +265,21 @@ pub fn run_command<M: Machine, S: Shelf, L: Link>(
             feed_file::<M, S, L>(alloc, &file, &schedule, &tables, budget, shelf, link)
         }
         Ok(Task::Gen(start, items)) => gen_load::<M, L>(alloc, start, items, link),
+        Ok(Task::Save(file, state, budget, version)) => {
+            save_file::<K, S, L>(
+                alloc,
+                &file,
+                &state,
+                budget,
+                frame_version(version),
+                shelf,
+                link,
+            )
+        }
+        Ok(Task::Resume(file, state, budget, version)) => {
+            let version = frame_version(version);
+            resume_file::<K, S, L>(alloc, &file, &state, budget, version, shelf, link)
+        }
         Err(WordsFault::Usage) => End::Usage,
         Err(WordsFault::Memory) => End::Memory,
     }

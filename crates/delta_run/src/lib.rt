@@ -2,6 +2,7 @@
 #![tactic(auto)]
 
 mod command;
+mod kept;
 mod run;
 
 pub use delta_end::{End, InputFault};

@@ -18,6 +18,8 @@ mod outside;
 #[cfg(test)]
 mod runs;
 #[cfg(test)]
+mod saves;
+#[cfg(test)]
 mod sources;
 #[cfg(test)]
 mod tour;

@@ -69,7 +69,7 @@ pub fn outcome(
     outcome_on::<Coded>(alloc, words, shelf, link, notes)
 }
 
-/// The status of a command line, with programs run on a machine.
+/// The status of a command line, with programs run on a machine, and states left and gone on from as the command does.
 pub fn outcome_on<M: Machine>(
     alloc: Global,
     words: &[String],
@@ -77,7 +77,7 @@ pub fn outcome_on<M: Machine>(
     link: &mut MemLink,
     notes: &mut MemSink,
 ) -> u8 {
-    delta::<M, _, _, _>(alloc, words, shelf, link, notes)
+    delta::<M, Coded, _, _, _>(alloc, words, shelf, link, notes)
 }
 
 /// Runs words over the file `program`, and answers the status and what was written.

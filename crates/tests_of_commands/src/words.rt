@@ -155,6 +155,12 @@ gen 1
 gen 1 000000001
 gen 1 x
 gen 1 2 3
+save a
+save a b c
+save a b --frames
+save a b --budget 1000001
+resume a
+resume a b c
 help
 --help
 run a --help

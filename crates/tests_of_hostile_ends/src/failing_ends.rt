@@ -2,8 +2,8 @@
 
 use crate::outside::{Answer, Given, breaks_off, holds};
 use crate::tables::{
-    BOUND, CHECK, COMMANDS, Command, DERIVE, GEN, GIVEN, LINES, ONE_EVENT, PRINT, PRINTED, SIX,
-    SUMMARY, THREE,
+    BOUND, CHECK, COMMANDS, Command, DERIVE, FOUR, GEN, GIVEN, LINES, ONE_EVENT, PRINT, PRINTED,
+    RESUME, SIX, SUMMARY, THREE,
 };
 use std::alloc::Global;
 use std::test::Fail;
@@ -78,6 +78,7 @@ fn writes_fail_in_turn(rt: HostRuntime) -> Result<(), Fail> {
     assert!(rt; answers_failing_writes(rt.alloc(), &PRINT, PRINTED)?);
     assert!(rt; answers_failing_writes(rt.alloc(), &GEN, SUMMARY)?);
     assert!(rt; answers_failing_writes(rt.alloc(), &BOUND, ONE_EVENT)?);
+    assert!(rt; answers_failing_writes(rt.alloc(), &RESUME, FOUR)?);
     Ok(())
 }
 
@@ -142,6 +143,63 @@ const CALLS: &[Row] = &[
             ..GIVEN
         },
         NO_FILE,
+    ),
+    (
+        Given {
+            words: "save program proof",
+            ..WITHOUT_FILES
+        },
+        NO_FILE,
+    ),
+    // All is written before the state is.
+    (
+        Given {
+            words: "save program proof",
+            fail_calls: &[1],
+            ..GIVEN
+        },
+        (SIX, 7, "delta: outside fault: file\n"),
+    ),
+    (
+        Given {
+            fail_calls: &[0],
+            ..RESUME
+        },
+        NO_FILE,
+    ),
+    (
+        Given {
+            fail_calls: &[1],
+            ..RESUME
+        },
+        NO_FILE,
+    ),
+    (
+        Given {
+            words: "resume program gone",
+            ..RESUME
+        },
+        NO_FILE,
+    ),
+    (RESUME, (FOUR, 0, "")),
+    // The state for what is no program isn't read.
+    (
+        Given {
+            text: b"\xff",
+            fail_calls: &[1],
+            ..RESUME
+        },
+        (b"", 3, "delta: program refused: BadUtf8 at 0\n"),
+    ),
+    // A state that is refused is told with nothing read.
+    (
+        Given {
+            proof: b"DST\x02",
+            fail_reads: &[0],
+            fail_writes: &[0],
+            ..RESUME
+        },
+        (b"", 10, "delta: state refused: Version at 2\n"),
     ),
     // The derivation of what is no program isn't read.
     (
@@ -347,6 +405,29 @@ const SILENCED: &[Row] = &[
         },
         (b"", 7, ""),
     ),
+    (
+        Given {
+            words: "save program proof",
+            input: b"DEV1",
+            ..SILENT
+        },
+        (b"DEV1", 7, ""),
+    ),
+    (
+        Given {
+            words: "resume program proof",
+            ..SILENT
+        },
+        (b"", 10, ""),
+    ),
+    (
+        Given {
+            input: b"DEV1",
+            fail_notes: &[0],
+            ..RESUME
+        },
+        (b"", 7, ""),
+    ),
 ];
 
 #[test]
@@ -421,6 +502,13 @@ const NOTED: &[Row] = &[
             ..DERIVE
         },
         (b"", 11, "delta: derivation refused: Short at 0\n"),
+    ),
+    (
+        Given {
+            proof: b"",
+            ..RESUME
+        },
+        (b"", 10, "delta: state refused: Form at 0\n"),
     ),
 ];
 

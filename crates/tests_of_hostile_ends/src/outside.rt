@@ -14,7 +14,7 @@ type Running = Coded;
 pub struct Given<'a> {
     /// The words, parted by spaces.
     pub words: &'a str,
-    /// The texts of the files `program` and `proof`.
+    /// The texts of the files `program` and `proof`, which is a derivation or a state.
     pub text: &'a [u8],
     pub proof: &'a [u8],
     /// The input, and the size of its pieces.
@@ -81,7 +81,7 @@ fn outcome(
 ) -> Result<(u8, MemSink), Fail> {
     let words = words(alloc, given.words)?;
     let mut notes = MemSink::new(alloc, given.fail_notes.to_vec(alloc)?);
-    let status = delta::<Running, _, _, _>(alloc, &words, shelf, link, &mut notes);
+    let status = delta::<Running, Running, _, _, _>(alloc, &words, shelf, link, &mut notes);
     Ok((status, notes))
 }
 

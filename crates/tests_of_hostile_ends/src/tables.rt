@@ -390,8 +390,17 @@ const FRAMES: Command = Command {
     ],
 };
 
+// It writes what `run` writes, and leaves its state in the file `proof`.
+const SAVE: Command = Command {
+    given: Given {
+        words: "save program proof",
+        ..GIVEN
+    },
+    ..RUN
+};
+
 /// The commands that read the feed.
-pub const COMMANDS: &[Command] = &[RUN, EVAL, TEXT, FRAMES];
+pub const COMMANDS: &[Command] = &[RUN, EVAL, TEXT, FRAMES, SAVE];
 
 /// `print`, which reads no input.
 pub const PRINT: Given<'static> = Given {
@@ -419,6 +428,20 @@ pub const DERIVE: Given<'static> = Given {
     words: "derive program proof",
     ..GIVEN
 };
+
+/// `resume` of a program of one number, from its state before any event: its types, and its name as its state.
+pub const RESUME: Given<'static> = Given {
+    words: "resume program proof",
+    text: b"main(x : Int) : Int = x",
+    proof: &[
+        68, 83, 84, 1, 0, 0, 0, 0, 0, 0, 0, 0, 0, 0, 0, 1, 2, 0, 0, 0, 0, 2, 1, 0, 0, 0, 0,
+    ],
+    input: b"DEV1\0\x11\0\0\0\0\0\0\0\x04",
+    ..GIVEN
+};
+
+/// What it writes.
+pub const FOUR: &[u8] = b"\0\x11\0\0\0\0\0\0\0\x04";
 
 /// `gen` over three items, which reads neither a file nor an input.
 pub const GEN: Given<'static> = Given {

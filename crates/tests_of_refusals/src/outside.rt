@@ -39,6 +39,6 @@ pub fn tells(
     pieces.push(input.to_vec(alloc)?)?;
     let mut link = MemLink::new(alloc, pieces, Vec::new(alloc), Vec::new(alloc), 4096);
     let mut notes = MemSink::new(alloc, Vec::new(alloc));
-    let _status = delta::<Coded, _, _, _>(alloc, &given, &mut shelf, &mut link, &mut notes);
+    let _status = delta::<Coded, Coded, _, _, _>(alloc, &given, &mut shelf, &mut link, &mut notes);
     Ok(notes.bytes() == note)
 }

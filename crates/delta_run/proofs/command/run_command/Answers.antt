@@ -9,15 +9,17 @@ use Rattle.delta_run.specs.Checked.{ChecksText}
 use Rattle.delta_run.specs.Bounded.{BoundedText}
 use Rattle.delta_run.specs.Derived.{DerivesText}
 use Rattle.delta_run.specs.Fed.{FedText}
+use Rattle.delta_run.specs.Saved.{SavedText, ChangesState}
+use Rattle.delta_run.specs.Resumed.{ResumedText}
 use Rattle.delta_run.specs.Evaluated.{EvaluatedText}
 use Rattle.delta_end.specs.declared.end.End.TheVariants.{Usage, Memory}
 use Rattle.delta_loop.specs.Answer.{ReadsWell}
 use Rattle.delta_loop.proofs.Returning.{adds_none, ran_reads, unread}
 use Rattle.command_text.specs.Lines.{lines_of_frames}
-use Rattle.delta_run.proofs.Budgets.{run_is_small, eval_is_small, feed_is_small, load_is_small}
+use Rattle.delta_run.proofs.Budgets.{run_is_small, eval_is_small, feed_is_small, load_is_small, save_is_small, resume_is_small}
 use Rattle.delta_run.proofs.Conversions.{converted_reads}
 use Rattle.delta_run.proofs.Printed.{written_reads}
-use Rattle.delta_run.proofs.CommandLines.{same_run, same_check, same_eval, same_print, same_gen, same_bound, same_derive, same_feed, asks_something}
+use Rattle.delta_run.proofs.CommandLines.{same_run, same_check, same_eval, same_print, same_gen, same_bound, same_derive, same_feed, same_save, same_resume, asks_something}
 use Rattle.delta_run.proofs.command.run_command.Goals as goal
 
 pub returns-in-Ok-Run-clause-command : goal.returns-in-Ok-Run-clause-command
@@ -170,3 +172,56 @@ returns-in-Ok-Feed-clause-fed g c file schedule names budget is =
     let with_names = subst (λ (m : List (List ℕ)). Q f s m budget) (ap (map string_bytes) c.deref-in-Ok-Feed-3.ensures.value ∙ same.2) with_budget in
     let with_schedule = subst (λ (r : List ℕ). Q f r names budget) (c.deref-in-Ok-Feed-2.ensures.value ∙ same.1) with_names in
     subst (λ (name : List ℕ). Q name schedule names budget) (c.deref-in-Ok-Feed.ensures ∙ same.0) with_schedule
+
+pub returns-in-Ok-Save-clause-command : goal.returns-in-Ok-Save-clause-command
+returns-in-Ok-Save-clause-command g c nothing = absurd (asks_something nothing (c.in-Ok-Save.ensures.ok ∙ ap (λ t. Some (asked t)) c.in-Ok-Save.field-0-is))
+
+pub returns-in-Ok-Save-clause-reads : goal.returns-in-Ok-Save-clause-reads
+returns-in-Ok-Save-clause-reads g c = c.save_file.ensures.reads
+
+pub save_file-requires : goal.save_file-requires
+save_file-requires g c = save_is_small (map string_bytes c.args.words.now) _ _ _ _ (c.in-Ok-Save.ensures.ok ∙ ap (λ t. Some (asked t)) c.in-Ok-Save.field-0-is)
+
+pub returns-in-Ok-Save-clause-saved : goal.returns-in-Ok-Save-clause-saved
+returns-in-Ok-Save-clause-saved g c file state budget v is =
+    let same = same_save _ _ _ _ _ _ _ _ (sym (c.in-Ok-Save.ensures.ok ∙ ap (λ t. Some (asked t)) c.in-Ok-Save.field-0-is) ∙ is) in
+    let Q : List ℕ → List ℕ → ℕ → Version → Type 0 = λ f s b w. OfFile (g.S.Shelf.holds c.args.shelf.now) f
+    (λ text. SavedText text b w s (g.L.Link.log c.args.link.now) (g.L.Link.log c.save_file.new.link) (g.L.Link.left c.args.link.now) (g.L.Link.left c.save_file.new.link)
+    (g.S.Shelf.holds c.args.shelf.now) (g.S.Shelf.holds c.save_file.new.shelf) c.save_file.result) in
+    let f = c.deref-in-Ok-Save.result.now in
+    let s = c.deref-in-Ok-Save-2.result.now in
+    let in_version = subst (λ (w : Version). Q f s c.in-Ok-Save.budget w) (c.frame_version-in-Ok-Save.ensures ∙ ap frames_of same.3) c.save_file.ensures.saved in
+    let with_budget = subst (λ (b : ℕ). Q f s b (frames_of v)) same.2 in_version in
+    let with_state = subst (λ (name : List ℕ). Q f name budget (frames_of v)) (c.deref-in-Ok-Save-2.ensures ∙ same.1) with_budget in
+    subst (λ (name : List ℕ). Q name state budget (frames_of v)) (c.deref-in-Ok-Save.ensures ∙ same.0) with_state
+
+pub returns-in-Ok-Save-clause-changes : goal.returns-in-Ok-Save-clause-changes
+returns-in-Ok-Save-clause-changes g c file state budget v is =
+    let same = same_save _ _ _ _ _ _ _ _ (sym (c.in-Ok-Save.ensures.ok ∙ ap (λ t. Some (asked t)) c.in-Ok-Save.field-0-is) ∙ is) in
+    subst (λ (name : List ℕ). ChangesState c.save_file.result (g.S.Shelf.holds c.args.shelf.now) (g.S.Shelf.holds c.save_file.new.shelf) name)
+    (c.deref-in-Ok-Save-2.ensures ∙ same.1) c.save_file.ensures.changes
+
+pub returns-in-Ok-Save-clause-held : goal.returns-in-Ok-Save-clause-held
+returns-in-Ok-Save-clause-held g c never = absurd (never _ _ _ _ (c.in-Ok-Save.ensures.ok ∙ ap (λ t. Some (asked t)) c.in-Ok-Save.field-0-is))
+
+pub returns-in-Ok-Resume-clause-command : goal.returns-in-Ok-Resume-clause-command
+returns-in-Ok-Resume-clause-command g c nothing = absurd (asks_something nothing (c.in-Ok-Resume.ensures.ok ∙ ap (λ t. Some (asked t)) c.in-Ok-Resume.field-0-is))
+
+pub returns-in-Ok-Resume-clause-reads : goal.returns-in-Ok-Resume-clause-reads
+returns-in-Ok-Resume-clause-reads g c = c.resume_file.ensures.reads
+
+pub resume_file-requires : goal.resume_file-requires
+resume_file-requires g c = resume_is_small (map string_bytes c.args.words.now) _ _ _ _ (c.in-Ok-Resume.ensures.ok ∙ ap (λ t. Some (asked t)) c.in-Ok-Resume.field-0-is)
+
+pub returns-in-Ok-Resume-clause-resumed : goal.returns-in-Ok-Resume-clause-resumed
+returns-in-Ok-Resume-clause-resumed g c file state budget v is =
+    let same = same_resume _ _ _ _ _ _ _ _ (sym (c.in-Ok-Resume.ensures.ok ∙ ap (λ t. Some (asked t)) c.in-Ok-Resume.field-0-is) ∙ is) in
+    let Q : List ℕ → List ℕ → ℕ → Version → Type 0 = λ f s b w. OfFile (g.S.Shelf.holds c.args.shelf.now) f
+    (λ text. ResumedText text b w (g.S.Shelf.holds c.args.shelf.now) s (g.L.Link.log c.args.link.now) (g.L.Link.log c.resume_file.new.link) (g.L.Link.left c.args.link.now)
+    (g.L.Link.left c.resume_file.new.link) c.resume_file.result) in
+    let f = c.deref-in-Ok-Resume.result.now in
+    let s = c.deref-in-Ok-Resume-2.result.now in
+    let in_version = subst (λ (w : Version). Q f s c.in-Ok-Resume.budget w) (c.frame_version-in-Ok-Resume.ensures ∙ ap frames_of same.3) c.resume_file.ensures.resumed in
+    let with_budget = subst (λ (b : ℕ). Q f s b (frames_of v)) same.2 in_version in
+    let with_state = subst (λ (name : List ℕ). Q f name budget (frames_of v)) (c.deref-in-Ok-Resume-2.ensures ∙ same.1) with_budget in
+    subst (λ (name : List ℕ). Q name state budget (frames_of v)) (c.deref-in-Ok-Resume.ensures ∙ same.0) with_state

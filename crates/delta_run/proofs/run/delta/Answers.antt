@@ -10,6 +10,8 @@ use Rattle.delta_run.proofs.Generated.{generates, generates_well}
 use Rattle.delta_run.proofs.Bounded.{tells_bound, bounded_well, unbounded_well, judged_well, refused_text}
 use Rattle.delta_run.proofs.Derived.{passes_derived, refuses_underived, refuses_unelaborated}
 use Rattle.delta_run.proofs.Fed.{tells_tables, fed_well, untaken_well, refused_feeding}
+use Rattle.delta_run.proofs.SavedTexts.{saved_prompt, saved_return, saved_state, saved_complete, saved_refused, saved_settled, changes_only}
+use Rattle.delta_run.proofs.ResumedTexts.{resumed_prompt, resumed_return, resumed_complete, resumed_untyped, resumed_refused, resumed_settled}
 use Rattle.delta_run.proofs.Checked.{passes_accepted, refuses_unaccepted}
 use Rattle.delta_run.proofs.Evaluated.{evals_text, evals_well, stops_well, refuses_unwritable}
 use Rattle.delta_run.proofs.Owing.{owes_by}
@@ -129,6 +131,41 @@ returns-clause-owed g c = (
             refused_feeding _ _ schedule names budget _ _ more again _ _ _ _ _ _ file_still write note _ _ c.note-said.ensures.cause c.run_command-end.result
             (c.run_command-end.ensures.fed file schedule names budget is files tells) c.run_command-end.ensures.file c.run_command-end.ensures.write c.answer.ensures;
       })
+      (λ file state budget v is. record {
+        prompt = λ files tells. saved_prompt _ budget (frames_of v) state _ _ _ _ _ _ c.run_command-end.result (c.run_command-end.ensures.saved file state budget v is files tells);
+        reads = c.run_command-end.ensures.reads;
+        ends = λ files tells. saved_return _ budget (frames_of v) state _ _ _ _ _ _ c.run_command-end.result (c.run_command-end.ensures.saved file state budget v is files tells);
+        leaves = λ files tells. saved_state _ budget (frames_of v) state _ _ _ _ _ _ c.run_command-end.result (c.run_command-end.ensures.saved file state budget v is files tells);
+        changes = c.run_command-end.ensures.changes file state budget v is;
+        complete = λ files tells file_still read write note.
+            saved_complete _ budget (frames_of v) state _ _ _ _ _ _ _ _ _ _ file_still note _ _ c.note-said.ensures.cause _ _ _ _ read write c.run_command-end.result
+            (c.run_command-end.ensures.saved file state budget v is files tells) c.run_command-end.ensures.file c.run_command-end.ensures.read c.run_command-end.ensures.write c.answer.ensures;
+        refused = λ files tells file_still note.
+            saved_refused _ budget (frames_of v) state _ _ _ _ _ _ _ _ _ _ file_still note _ _ c.note-said.ensures.cause c.run_command-end.result
+            (c.run_command-end.ensures.saved file state budget v is files tells) c.run_command-end.ensures.file c.answer.ensures;
+        settled = λ files tells.
+            saved_settled _ budget (frames_of v) state _ _ _ _ _ _ _ _ _ c.run_command-end.result (c.run_command-end.ensures.saved file state budget v is files tells)
+            (status_is _ _ _ _ _ c.answer.ensures c.note-said.ensures.cause);
+      })
+      (λ file state budget v is. record {
+        prompt = λ files tells more again.
+            resumed_prompt _ budget (frames_of v) _ state _ _ _ _ more again c.run_command-end.result (c.run_command-end.ensures.resumed file state budget v is files tells);
+        reads = c.run_command-end.ensures.reads;
+        ends = λ files tells more again.
+            resumed_return _ budget (frames_of v) _ state _ _ _ _ more again c.run_command-end.result (c.run_command-end.ensures.resumed file state budget v is files tells);
+        complete = λ files tells more again file_still read write note.
+            resumed_complete _ budget (frames_of v) _ state _ _ _ _ more again _ _ _ _ file_still note _ _ c.note-said.ensures.cause _ _ _ _ read write c.run_command-end.result
+            (c.run_command-end.ensures.resumed file state budget v is files tells) c.run_command-end.ensures.file c.run_command-end.ensures.read c.run_command-end.ensures.write c.answer.ensures;
+        untyped = λ files tells more again file_still note.
+            resumed_untyped _ budget (frames_of v) _ state _ _ _ _ more again _ _ _ _ file_still note _ _ c.note-said.ensures.cause c.run_command-end.result
+            (c.run_command-end.ensures.resumed file state budget v is files tells) c.run_command-end.ensures.file c.answer.ensures;
+        refused = λ files tells file_still note.
+            resumed_refused _ budget (frames_of v) _ state _ _ _ _ _ _ _ _ file_still note _ _ c.note-said.ensures.cause c.run_command-end.result
+            (c.run_command-end.ensures.resumed file state budget v is files tells) c.run_command-end.ensures.file c.answer.ensures;
+        settled = λ files tells more again.
+            resumed_settled _ budget (frames_of v) _ state _ _ _ _ more again _ _ _ c.run_command-end.result (c.run_command-end.ensures.resumed file state budget v is files tells)
+            (status_is _ _ _ _ _ c.answer.ensures c.note-said.ensures.cause);
+      })
       (λ is. record {
         ends = lined _ _ _ _ c.run_command-end.result (c.run_command-end.ensures.lined is);
         complete = λ read write note.
@@ -150,3 +187,6 @@ returns-clause-outside g c seven =
 pub returns-clause-still : goal.returns-clause-still
 returns-clause-still g c =
     status_still _ _ _ _ _ _ _ _ _ _ (status_is _ _ _ _ _ c.answer.ensures c.note-said.ensures.cause) c.run_command-end.ensures.file c.run_command-end.ensures.read c.run_command-end.ensures.write
+
+pub returns-clause-changes : goal.returns-clause-changes
+returns-clause-changes g c file state budget v is = changes_only c.run_command-end.result _ _ state (c.run_command-end.ensures.changes file state budget v is)

@@ -1,0 +1,71 @@
+//! Runs that leave the state of a file's program, and runs that go on from it.
+
+ghost use Rattle.std.specs.Prelude.{◌≡◌, ◌≢◌, ◌≤◌};
+ghost use Rattle.delta_end.specs.declared.end.End.{End};
+ghost use Rattle.delta_end.specs.End.{FileCause, ReadCause, WriteCause};
+ghost use Rattle.delta_loop.specs.Answer.{Adds, ReadsWell};
+ghost use Rattle.delta_run.specs.Text.{OfFile};
+ghost use Rattle.delta_run.specs.Saved.{SavedText, ChangesState};
+ghost use Rattle.delta_run.specs.Resumed.{ResumedText};
+
+use command_resume::resume_source;
+use command_save::save_source;
+use delta_end::End;
+use event_frame::Version;
+use machine_kept::Keeping;
+use port::{IoFault, Link, Shelf};
+use std::alloc::Global;
+
+/// Runs the program of a file over a link, and leaves its state in another file where the input ends well.
+pub fn save_file<K: Keeping, S: Shelf, L: Link>(
+    alloc: Global,
+    file: &str,
+    state: &str,
+    budget: u64,
+    version: Version,
+    shelf: &mut S,
+    link: &mut L,
+) -> End
+    requires { budget ≤ 1000000 }
+    ensures saved { OfFile (S.holds shelf.old) file.now
+        (λ text. SavedText text budget version state.now (L.log link.old) (L.log link.new) (L.left link.old) (L.left link.new) (S.holds shelf.old) (S.holds shelf.new) result) }
+    ensures reads { Adds (L.log link.old) (L.log link.new) (ReadsWell result) }
+    ensures saves { result ≢ End.Usage }
+    ensures changes { ChangesState result (S.holds shelf.old) (S.holds shelf.new) state.now }
+    ensures file { FileCause result (S.faults shelf.old) (S.faults shelf.new) }
+    ensures read { ReadCause result (L.read_faults link.old) (L.read_faults link.new) }
+    ensures write { WriteCause result (L.write_faults link.old) (L.write_faults link.new) }
+{
+    match shelf.read(file) {
+        Ok(text) => save_source::<K, L, S>(alloc, &text, budget, version, state, link, shelf),
+        Err(IoFault::Memory) => End::Memory,
+        Err(IoFault::Failed) => End::FileFailed,
+    }
+}
+
+/// Goes on over a link with the program of a file, from the state that a run of it left in another file.
+pub fn resume_file<K: Keeping, S: Shelf, L: Link>(
+    alloc: Global,
+    file: &str,
+    state: &str,
+    budget: u64,
+    version: Version,
+    shelf: &mut S,
+    link: &mut L,
+) -> End
+    requires { budget ≤ 1000000 }
+    ensures resumed { OfFile (S.holds shelf.old) file.now
+        (λ text. ResumedText text budget version (S.holds shelf.old) state.now (L.log link.old) (L.log link.new) (L.left link.old) (L.left link.new) result) }
+    ensures reads { Adds (L.log link.old) (L.log link.new) (ReadsWell result) }
+    ensures resumes { result ≢ End.Usage }
+    ensures held { S.holds shelf.new ≡ S.holds shelf.old }
+    ensures file { FileCause result (S.faults shelf.old) (S.faults shelf.new) }
+    ensures read { ReadCause result (L.read_faults link.old) (L.read_faults link.new) }
+    ensures write { WriteCause result (L.write_faults link.old) (L.write_faults link.new) }
+{
+    match shelf.read(file) {
+        Ok(text) => resume_source::<K, L, S>(alloc, &text, budget, version, state, link, shelf),
+        Err(IoFault::Memory) => End::Memory,
+        Err(IoFault::Failed) => End::FileFailed,
+    }
+}

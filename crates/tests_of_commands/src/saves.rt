@@ -1,0 +1,215 @@
+//! Runs that leave their state, and runs that go on from it, by the commands `save` and `resume`.
+
+use crate::outside::{link, outcome, words, written};
+use port::{MemShelf, MemSink, Shelf};
+use std::alloc::Global;
+use std::test::Fail;
+
+// A program that doubles each number of a feed.
+const DOUBLE: &[u8] =
+    b"fun twice(xs : Int*) : Int* = case xs of { nil => nil | y :: ys => wait y in ({y * 2} :: twice(ys)) }
+main(xs : Int*) : Int* = twice(xs)
+";
+
+// The frames of `item`, `F int 3`, `cut`, `item`, `F int 4`, `cut` and `end`, and where each of them ends.
+const FEED: &[u8] =
+    b"DEV1\0\x15\x01\x03\x11\0\0\0\0\0\0\0\x03\0\x14\0\x15\x01\x03\x11\0\0\0\0\0\0\0\x04\0\x14\0\x16";
+
+const ENDS: &[usize] = &[4, 6, 17, 19, 21, 32, 34];
+
+// What is said of the whole feed.
+const DOUBLED: &[u8] =
+    b"DEV1\0\x15\x01\x03\x11\0\0\0\0\0\0\0\x06\0\x14\0\x15\x01\x03\x11\0\0\0\0\0\0\0\x08\0\x14\0\x16";
+
+// One number, as it comes.
+const SAME: &[u8] = b"main(x : Int) : Int = x";
+
+// What is kept of it before any event: its types, and its name as its state.
+const FRESH: &[u8] = &[
+    68, 83, 84, 1, 0, 0, 0, 0, 0, 0, 0, 0, 0, 0, 0, 1, 2, 0, 0, 0, 0, 2, 1, 0, 0, 0, 0,
+];
+
+// The frame of the number 4.
+const FOUR: &[u8] = b"DEV1\0\x11\0\0\0\0\0\0\0\x04";
+
+// A shelf that holds these texts as the files `program`, `state` and `other`.
+fn shelf_of(alloc: Global, text: &[u8], state: &[u8]) -> Result<MemShelf, Fail> {
+    let mut files = Vec::new(alloc);
+    for (name, bytes) in [("program", text), ("state", state), ("other", b"other")] {
+        files.push((String::from_str(alloc, name)?, bytes.to_vec(alloc)?))?;
+    }
+    Ok(MemShelf::new(alloc, files, Vec::new(alloc)))
+}
+
+// What a command line over the shelf answers: its status, what it wrote, and its note.
+struct Answer {
+    status: u8,
+    bytes: Vec<u8>,
+    note: Vec<u8>,
+}
+
+// Runs the words over the shelf and an input.
+fn answer(alloc: Global, line: &str, shelf: &mut MemShelf, input: &[u8]) -> Result<Answer, Fail> {
+    let given = words(alloc, line)?;
+    let mut link = link(alloc, input, 4096, 4096)?;
+    let mut notes = MemSink::new(alloc, Vec::new(alloc));
+    let status = outcome(alloc, &given, shelf, &mut link, &mut notes);
+    let bytes = written(alloc, &link)?;
+    let note = notes.bytes().to_vec(alloc)?;
+    Ok(Answer {
+        status,
+        bytes,
+        note,
+    })
+}
+
+// A header, and the rest of the feed from a place on.
+fn rest_of(alloc: Global, place: usize) -> Result<Vec<u8>, Fail> {
+    let mut bytes = FEED[..4].to_vec(alloc)?;
+    bytes.extend_from_slice(&FEED[place..])?;
+    Ok(bytes)
+}
+
+// Whether a file holds these bytes.
+fn holds(shelf: &mut MemShelf, name: &str, bytes: &[u8]) -> bool {
+    match shelf.read(name) {
+        Ok(held) => held.as_slice() == bytes,
+        Err(_) => false,
+    }
+}
+
+// Whether a run over the feed up to a place, and one that goes on from what it leaves, write together what one run
+// writes, and change no other file.
+fn join(alloc: Global, place: usize) -> Result<bool, Fail> {
+    let mut shelf = shelf_of(alloc, DOUBLE, b"")?;
+    let mut first = answer(alloc, "save program state", &mut shelf, &FEED[..place])?;
+    let rest = rest_of(alloc, place)?;
+    let second = answer(alloc, "resume program state", &mut shelf, &rest)?;
+    first.bytes.extend_from_slice(&second.bytes)?;
+    let ended = first.status == 6 && second.status == 0 && second.note.is_empty();
+    let others = holds(&mut shelf, "other", b"other") && holds(&mut shelf, "program", DOUBLE);
+    Ok(ended && others && first.bytes.as_slice() == DOUBLED)
+}
+
+#[test]
+fn a_feed_is_cut_anywhere(rt: HostRuntime) -> Result<(), Fail> {
+    for place in ENDS {
+        assert!(rt; join(rt.alloc(), *place)?, "{place}");
+    }
+    Ok(())
+}
+
+// A state of the program of one number, the input of a run that goes on from it, and what that must answer.
+struct Row {
+    words: &'static str,
+    state: &'static [u8],
+    input: &'static [u8],
+    output: &'static [u8],
+    status: u8,
+    note: &'static [u8],
+}
+
+const RESUMED: Row = Row {
+    words: "resume program state",
+    state: FRESH,
+    input: FOUR,
+    output: b"\0\x11\0\0\0\0\0\0\0\x04",
+    status: 0,
+    note: b"",
+};
+
+const REFUSED: Row = Row {
+    output: b"",
+    status: 10,
+    ..RESUMED
+};
+
+const ROWS: &[Row] = &[
+    RESUMED,
+    Row {
+        input: b"DEV1",
+        output: b"",
+        status: 6,
+        note: b"delta: input open\n",
+        ..RESUMED
+    },
+    Row {
+        input: b"DEV1\0\x14",
+        output: b"",
+        status: 4,
+        note: b"delta: input refused: NoCut at 4\n",
+        ..RESUMED
+    },
+    // The type of the output is another.
+    Row {
+        state: &[
+            68, 83, 84, 1, 0, 0, 0, 0, 0, 0, 0, 0, 0, 0, 0, 1, 2, 0, 0, 0, 0, 1, 1, 0, 0, 0, 0,
+        ],
+        note: b"delta: state refused: Untyped at 0\n",
+        ..REFUSED
+    },
+    Row {
+        state: &[68, 83, 84, 2],
+        note: b"delta: state refused: Version at 2\n",
+        ..REFUSED
+    },
+    // The last byte is missing.
+    Row {
+        state: &[
+            68, 83, 84, 1, 0, 0, 0, 0, 0, 0, 0, 0, 0, 0, 0, 1, 2, 0, 0, 0, 0, 2, 1, 0, 0, 0,
+        ],
+        note: b"delta: state refused: Form at 26\n",
+        ..REFUSED
+    },
+    Row {
+        state: b"",
+        note: b"delta: state refused: Form at 0\n",
+        ..REFUSED
+    },
+    Row {
+        words: "resume program gone",
+        status: 7,
+        note: b"delta: outside fault: file\n",
+        ..REFUSED
+    },
+    Row {
+        words: "resume program state --budget 1000001",
+        status: 2,
+        note: b"delta: usage\n",
+        ..REFUSED
+    },
+];
+
+// Whether the words answer as the row says, and leave the files as they are.
+fn answers(alloc: Global, row: &Row) -> Result<bool, Fail> {
+    let mut shelf = shelf_of(alloc, SAME, row.state)?;
+    let answer = answer(alloc, row.words, &mut shelf, row.input)?;
+    let told = answer.status == row.status && answer.note.as_slice() == row.note;
+    let stays = holds(&mut shelf, "state", row.state) && holds(&mut shelf, "other", b"other");
+    Ok(told && stays && answer.bytes.as_slice() == row.output)
+}
+
+#[test]
+fn a_state_is_judged(rt: HostRuntime) -> Result<(), Fail> {
+    for row in ROWS {
+        assert!(rt; answers(rt.alloc(), row)?, "{}", row.words);
+    }
+    Ok(())
+}
+
+// Whether a run that doesn't end well leaves the file of the state as it is.
+fn leaves_nothing(alloc: Global, line: &str, input: &[u8], status: u8) -> Result<bool, Fail> {
+    let mut shelf = shelf_of(alloc, DOUBLE, b"before")?;
+    let answer = answer(alloc, line, &mut shelf, input)?;
+    Ok(answer.status == status && holds(&mut shelf, "state", b"before"))
+}
+
+#[test]
+fn a_run_that_stops_leaves_nothing(rt: HostRuntime) -> Result<(), Fail> {
+    let alloc = rt.alloc();
+    assert!(rt; leaves_nothing(alloc, "save program state", b"DEV1\0\x14", 4)?);
+    assert!(rt; leaves_nothing(alloc, "save program state --budget 0", FEED, 5)?);
+    assert!(rt; leaves_nothing(alloc, "save other state", FEED, 3)?);
+    assert!(rt; leaves_nothing(alloc, "save program state state", FEED, 2)?);
+    Ok(())
+}
