@@ -42,6 +42,7 @@ fn shelf_of(alloc: Global, text: &[u8], state: &[u8]) -> Result<MemShelf, Fail> 
 }
 
 // What a command line over the shelf answers: its status, what it wrote, and its note.
+#[derive(Drop)]
 struct Answer {
     status: u8,
     bytes: Vec<u8>,
@@ -137,7 +138,7 @@ const ROWS: &[Row] = &[
         input: b"DEV1\0\x14",
         output: b"",
         status: 4,
-        note: b"delta: input refused: NoCut at 4\n",
+        note: b"delta: input refused: WrongLeaf at 4\n",
         ..RESUMED
     },
     // The type of the output is another.
