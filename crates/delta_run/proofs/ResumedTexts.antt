@@ -22,7 +22,7 @@ use Rattle.delta_loop.specs.Answer.{Adds, IsComplete}
 use Rattle.delta_loop.proofs.Returning.{adds_none, ran_prompt, returned}
 use Rattle.delta_loop.proofs.Completeness.{good_end, good_status}
 use Rattle.kept_runner.specs.KeptOneShot.{meaning_since}
-use Rattle.command_resume.specs.Resuming.{GoesOn, Resumes}
+use Rattle.command_resume.specs.Resuming.{GoesOn, OfState}
 use Rattle.command_resume.specs.Texts.{ResumesIts, ResumesText}
 use Rattle.delta_run.specs.Settled.{IsOverInput}
 use Rattle.delta_run.specs.Evaluated.{RefusesUnwritable}
@@ -51,7 +51,7 @@ module _ (text : List ℕ) (budget : ℕ) (v : Version) (files : Option (List �
     bytes = take 1048577 (told name)
 
     -- the program of the text went on from the state in the bytes, and ended so
-    WentOn : End → Type 0
+    abbrev WentOn : End → Type 0
     WentOn end = (P : Meaning) × IsMeantSince text bytes budget v P × Ran P old new left0 left1 end
 
     -- how the run ended: no file was read, or the text or the state is refused, or memory ran out, or the program went on
@@ -83,7 +83,7 @@ module _ (text : List ℕ) (budget : ℕ) (v : Version) (files : Option (List �
     went Memory (inl untouched) = no_memory untouched
     went Memory (inr its) = by_state its.resumes
       where
-        by_state : _ → Went Memory
+        by_state : IsUntouched old new left0 left1 ⊎ OfState files name (λ bs. GoesOn its.core budget v bs old new left0 left1 Memory) → Went Memory
         by_state (inl untouched) = no_memory untouched
         by_state (inr on) = goes Memory tt its (on told files_are)
     went Usage its = let on = its.resumes told files_are in absurd on.ran.at.may
@@ -108,13 +108,13 @@ module _ (text : List ℕ) (budget : ℕ) (v : Version) (files : Option (List �
         by_way _ (no_text why r untouched) = adds_none old new (ResumesPromptly text bytes budget v) untouched.0 (inl refl)
         by_way _ (no_state what at r untouched) = adds_none old new (ResumesPromptly text bytes budget v) untouched.0 (inl refl)
         by_way _ (no_memory untouched) = adds_none old new (ResumesPromptly text bytes budget v) untouched.0 (inl refl)
-        by_way _ (went_on end loop on) log is = let adds = ran_prompt on.0 old new left0 left1 end on.2 log is in (adds.0, adds.1, inr (on.0, on.1, adds.2))
+        by_way _ (went_on end loop on) = λ log is. let adds = ran_prompt on.0 old new left0 left1 end on.2 log is in (adds.0, adds.1, inr (on.0, on.1, adds.2))
 
     goes_so : (end : End) → IsOfLoop end → WentOn end → Adds old new (GoesOnSo text bytes budget v end)
     goes_so end loop on log is = (on.2.at.history.moves, on.2.at.history.logged log is, (on.0, on.1, on.2.at.history.prompt, returned on.0 old new left0 left1 end loop on.2))
 
     went_return : (end : End) → IsOfLoop end → WentOn end → Adds old new (ResumesMoves text bytes budget v end)
-    went_return Memory loop on log is = let adds = goes_so Memory tt on log is in (adds.0, adds.1, inr adds.2)
+    went_return Memory loop on = λ log is. let adds = goes_so Memory tt on log is in (adds.0, adds.1, inr adds.2)
     went_return Done loop on = goes_so Done tt on
     went_return (Input fault) loop on = goes_so (Input fault) tt on
     went_return (Budget at) loop on = goes_so (Budget at) tt on
@@ -209,10 +209,10 @@ module _ (text : List ℕ) (budget : ℕ) (v : Version) (files : Option (List �
         resumed_complete end resumes file read write is = by_way end (went end resumes) file read write is
           where
             by_way : (end : End) → Went end → FileCause end file0 file1 → ReadCause end read0 read1 → WriteCause end write0 write1 → AnswerOf end said status → ResumesWell text bytes budget v left0 old new status
-            by_way _ (no_file untouched) file read write is p c accepted = absurd (not_rose file0 file1 file file_still)
-            by_way _ (no_text why r untouched) file read write is p c accepted = absurd (writing_is_judged.not_refused text v p c why accepted r)
+            by_way _ (no_file untouched) file read write is = λ p c accepted. absurd (not_rose file0 file1 file file_still)
+            by_way _ (no_text why r untouched) file read write is = λ p c accepted. absurd (writing_is_judged.not_refused text v p c why accepted r)
             by_way _ (no_state what at r untouched) file read write is = refused_so (answered (Objected (State what at)) said status note0 note1 is cause note_still)
-            by_way _ (no_memory untouched) file read write is p c accepted = inl (wanting is)
+            by_way _ (no_memory untouched) file read write is = λ p c accepted. inl (wanting is)
             by_way _ (went_on end loop on) file read write is = went_well end loop on read write is
 
   module _ (file0 file1 note0 note1 : ℕ) (file_still : IsStill file0 file1) (note_still : IsStill note0 note1) (said : Result (Unit {0}) IoFault) (status : ℕ) (cause : HasCause said note0 note1) where

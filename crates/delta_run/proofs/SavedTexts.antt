@@ -32,7 +32,6 @@ use Rattle.delta_loop.proofs.Completeness.{wrote_all}
 use Rattle.delta_output.specs.OneShot.{meaning_of}
 use Rattle.output_laws.specs.TreeOneShot.{one_shot_of}
 use Rattle.command_run.specs.Running.{RanIts}
-use Rattle.command_save.specs.Leaving.{Ended, EndedWell, Way, Leaves}
 use Rattle.command_save.specs.Saving.{SavesIts, SavesText}
 use Rattle.delta_run.specs.Text.{RanText, RunsPromptly}
 use Rattle.delta_run.specs.Settled.{IsOverInput, SettlesWell}
@@ -159,7 +158,8 @@ module _ (text : List ℕ) (budget : ℕ) (v : Version) (name : List ℕ) (old n
   behind Memory (inl same) = record { ran_end = Memory; is = inl refl; ran = inl same.0 }
   behind Memory (inr saves) = by_run saves.saves.0
     where
-      by_run : Ended _ Memory ⊎ EndedWell _ → Behind Memory
+      by_run : Ran (meaning_of v budget (one_shot_of saves.program)) old new left0 left1 Memory
+          ⊎ ((ran : End) × IsWellEnded ran × Ran (meaning_of v budget (one_shot_of saves.program)) old new left0 left1 ran) → Behind Memory
       by_run (inl so) = record { ran_end = Memory; is = inl refl; ran = inr (its_run Memory Memory saves so) }
       by_run (inr well) = record { ran_end = well.0; is = inr well.1; ran = well_ran well.0 well.1 (its_run Memory well.0 saves well.2) }
   behind (Refused None) saves = absurd saves
@@ -304,23 +304,23 @@ module _ (text : List ℕ) (budget : ℕ) (v : Version) (name : List ℕ) (old n
   tells_run Memory saves = wanting
   tells_run FileFailed saves = failed
   tells_run (Objected (State Large at)) saves = too_large at saves
-  tells_run Done saves = its_own Done (behind Done saves).ran
-  tells_run Open saves = its_own Open (behind Open saves).ran
+  tells_run Done saves = its_own Done (its_run Done Done saves saves.saves.0.leaves.ran)
+  tells_run Open saves = its_own Open (its_run Open Open saves saves.saves.0.leaves.ran)
   tells_run (Refused None) saves = absurd saves
   tells_run (Refused (Some why)) saves = its_own (Refused (Some why)) (saves.0, saves.1)
-  tells_run (Objected (State Form at)) saves = its_own (Objected (State Form at)) (behind (Objected (State Form at)) saves).ran
-  tells_run (Objected (State Untyped at)) saves = its_own (Objected (State Untyped at)) (behind (Objected (State Untyped at)) saves).ran
-  tells_run (Objected (State OtherVersion at)) saves = its_own (Objected (State OtherVersion at)) (behind (Objected (State OtherVersion at)) saves).ran
-  tells_run (Objected (Derivation told at)) saves = its_own (Objected (Derivation told at)) (behind (Objected (Derivation told at)) saves).ran
-  tells_run (Objected (Bound told at)) saves = its_own (Objected (Bound told at)) (behind (Objected (Bound told at)) saves).ran
-  tells_run (Objected (Table told file row)) saves = its_own (Objected (Table told file row)) (behind (Objected (Table told file row)) saves).ran
-  tells_run Usage saves = its_own Usage (behind Usage saves).ran
-  tells_run (Input fault) saves = its_own (Input fault) (behind (Input fault) saves).ran
-  tells_run (Budget at) saves = its_own (Budget at) (behind (Budget at) saves).ran
-  tells_run (Deep at) saves = its_own (Deep at) (behind (Deep at) saves).ran
-  tells_run ReadFailed saves = its_own ReadFailed (behind ReadFailed saves).ran
-  tells_run WriteFailed saves = its_own WriteFailed (behind WriteFailed saves).ran
-  tells_run Long saves = its_own Long (behind Long saves).ran
+  tells_run (Objected (State Form at)) saves = its_own (Objected (State Form at)) (its_run (Objected (State Form at)) (Objected (State Form at)) saves saves.saves.0)
+  tells_run (Objected (State Untyped at)) saves = its_own (Objected (State Untyped at)) (its_run (Objected (State Untyped at)) (Objected (State Untyped at)) saves saves.saves.0)
+  tells_run (Objected (State OtherVersion at)) saves = its_own (Objected (State OtherVersion at)) (its_run (Objected (State OtherVersion at)) (Objected (State OtherVersion at)) saves saves.saves.0)
+  tells_run (Objected (Derivation told at)) saves = its_own (Objected (Derivation told at)) (its_run (Objected (Derivation told at)) (Objected (Derivation told at)) saves saves.saves.0)
+  tells_run (Objected (Bound told at)) saves = its_own (Objected (Bound told at)) (its_run (Objected (Bound told at)) (Objected (Bound told at)) saves saves.saves.0)
+  tells_run (Objected (Table told file row)) saves = its_own (Objected (Table told file row)) (its_run (Objected (Table told file row)) (Objected (Table told file row)) saves saves.saves.0)
+  tells_run Usage saves = its_own Usage (its_run Usage Usage saves saves.saves.0)
+  tells_run (Input fault) saves = its_own (Input fault) (its_run (Input fault) (Input fault) saves saves.saves.0)
+  tells_run (Budget at) saves = its_own (Budget at) (its_run (Budget at) (Budget at) saves saves.saves.0)
+  tells_run (Deep at) saves = its_own (Deep at) (its_run (Deep at) (Deep at) saves saves.saves.0)
+  tells_run ReadFailed saves = its_own ReadFailed (its_run ReadFailed ReadFailed saves saves.saves.0)
+  tells_run WriteFailed saves = its_own WriteFailed (its_run WriteFailed WriteFailed saves saves.saves.0)
+  tells_run Long saves = its_own Long (its_run Long Long saves saves.saves.0)
 
   -- a run that ended with 0, 4, 6 or 9 is settled by its whole input
   pub saved_settled : (status note0 note1 : ℕ) (end : End) → SavedText text budget v name old new left0 left1 files0 files1 end → IsStatus end status note0 note1 → SettlesWell text v left0 old new status
@@ -331,11 +331,11 @@ module _ (text : List ℕ) (budget : ℕ) (v : Version) (name : List ℕ) (old n
 
       by_run : (end : End) → TellsRun end → IsStatus end status note0 note1 → SettlesWell text v left0 old new status
       by_run _ (its_own end ran) is = text_settled text budget v old new left0 left1 status note0 note1 end ran is
-      by_run _ (too_large at saves) is p c accepted all tells other over =
+      by_run _ (too_large at saves) is = λ p c accepted all tells other over.
           absurd (not_over (Objected (State Large at)) is (none_other 10 (λ e. omega (arith, e)) (λ e. omega (arith, e)) (λ e. omega (arith, e)) (λ e. omega (arith, e))) over)
-      by_run _ wanting is p c accepted all tells other over =
+      by_run _ wanting is = λ p c accepted all tells other over.
           absurd (not_over Memory is (none_other 8 (λ e. omega (arith, e)) (λ e. omega (arith, e)) (λ e. omega (arith, e)) (λ e. omega (arith, e))) over)
-      by_run _ failed is p c accepted all tells other over =
+      by_run _ failed is = λ p c accepted all tells other over.
           absurd (not_over FileFailed is (none_other 7 (λ e. omega (arith, e)) (λ e. omega (arith, e)) (λ e. omega (arith, e)) (λ e. omega (arith, e))) over)
 
   module _ (file0 file1 note0 note1 : ℕ) (file_still : IsStill file0 file1) (note_still : IsStill note0 note1) (said : Result (Unit {0}) IoFault) (status : ℕ) (cause : HasCause said note0 note1) where
@@ -345,16 +345,16 @@ module _ (text : List ℕ) (budget : ℕ) (v : Version) (name : List ℕ) (old n
       where
         by_run : (end : End) → TellsRun end → FileCause end file0 file1 → AnswerOf end said status → RefusesUnwritable text v status
         by_run _ (its_own end ran) file is = text_refused text budget v old new left0 left1 file0 file1 note0 note1 file_still note_still said status cause end ran file is
-        by_run _ (too_large at saves) file is why r = absurd (writing_is_judged.not_refused text v saves.program saves.core why saves.accepted r)
-        by_run _ wanting file is why r = inl (answered_eight said status note0 note1 is cause note_still)
-        by_run _ failed file is why r = absurd (not_rose file0 file1 file file_still)
+        by_run _ (too_large at saves) file is = λ why r. absurd (writing_is_judged.not_refused text v saves.program saves.core why saves.accepted r)
+        by_run _ wanting file is = λ why r. inl (answered_eight said status note0 note1 is cause note_still)
+        by_run _ failed file is = λ why r. absurd (not_rose file0 file1 file file_still)
 
     module _ (read0 read1 write0 write1 : ℕ) (read_still : IsStill read0 read1) (write_still : IsStill write0 write1) where
       -- with one status more
       wider : {Q : Type 0} → (status ≡ 8) ⊎ (((status ≡ 0) ⊎ (status ≡ 6)) × Q) → (status ≡ 8) ⊎ (((status ≡ 0) ⊎ (status ≡ 6) ⊎ (status ≡ 10)) × Q)
       wider (inl eight) = inl eight
       wider (inr (inl done, q)) = inr (inl done, q)
-      wider (inr (inr open, q)) = inr (inr (inl open), q)
+      wider (inr (inr awaits, q)) = inr (inr (inl awaits), q)
 
       late : {Q : Type 0} → Q → (status ≡ 8) ⊎ (status ≡ 10) → (status ≡ 8) ⊎ (((status ≡ 0) ⊎ (status ≡ 6) ⊎ (status ≡ 10)) × Q)
       late q (inl eight) = inl eight

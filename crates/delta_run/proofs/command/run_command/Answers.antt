@@ -221,7 +221,7 @@ returns-in-Ok-Resume-clause-resumed g c file state budget v is =
     (g.L.Link.left c.resume_file.new.link) c.resume_file.result) in
     let f = c.deref-in-Ok-Resume.result.now in
     let s = c.deref-in-Ok-Resume-2.result.now in
-    let in_version = subst (λ (w : Version). Q f s c.in-Ok-Resume.budget w) (c.frame_version-in-Ok-Resume.ensures ∙ ap frames_of same.3) c.resume_file.ensures.resumed in
+    let in_version = subst (λ (w : Version). Q f s c.in-Ok-Resume.budget w) (c.frame_version-version.ensures ∙ ap frames_of same.3) c.resume_file.ensures.resumed in
     let with_budget = subst (λ (b : ℕ). Q f s b (frames_of v)) same.2 in_version in
     let with_state = subst (λ (name : List ℕ). Q f name budget (frames_of v)) (c.deref-in-Ok-Resume-2.ensures ∙ same.1) with_budget in
     subst (λ (name : List ℕ). Q name state budget (frames_of v)) (c.deref-in-Ok-Resume.ensures ∙ same.0) with_state

@@ -1,5 +1,5 @@
 -- A run of the file's text that leaves its state is one of the text that the shelf told, and of the files as they were.
-use Rattle.std.proofs.Common.{List, ℕ, Option, ◌∙◌, refl, subst}
+use Rattle.std.proofs.Common.{List, ℕ, Option, ◌∙◌, refl, subst, take}
 use Rattle.delta_end.specs.declared.end.End.TheVariants.{Memory, FileFailed}
 use Rattle.delta_loop.specs.Answer.{ReadsWell}
 use Rattle.delta_loop.proofs.Returning.{adds_none, unread}
@@ -11,11 +11,11 @@ pub returns-in-Ok-clause-saved : goal.returns-in-Ok-clause-saved
 returns-in-Ok-clause-saved g c files tells =
     let of_file = saved_text c.deref.result.now c.args.budget c.args.version c.args.state.now _ _ _ _ _ _ c.save_source.result c.save_source.ensures.saved in
     let of_text = subst (λ (text : List ℕ). SavedText text c.args.budget c.args.version c.args.state.now (g.L.Link.log c.args.link.now) (g.L.Link.log c.save_source.new.link)
-    (g.L.Link.left c.args.link.now) (g.L.Link.left c.save_source.new.link) (g.S.Shelf.holds c.in-Ok.new.shelf) (g.S.Shelf.holds c.save_source.new.shelf) c.save_source.result)
+    (g.L.Link.left c.args.link.now) (g.L.Link.left c.save_source.new.link) (g.S.Shelf.holds c.read.new.self) (g.S.Shelf.holds c.save_source.new.shelf) c.save_source.result)
     (c.deref.ensures.value ∙ c.in-Ok.ensures.bytes files tells) of_file in
-    subst (λ (before : Option (List ℕ → List ℕ)). SavedText _ c.args.budget c.args.version c.args.state.now (g.L.Link.log c.args.link.now) (g.L.Link.log c.save_source.new.link)
+    subst (λ (before : Option (List ℕ → List ℕ)). SavedText (take 1048577 (files c.args.file.now)) c.args.budget c.args.version c.args.state.now (g.L.Link.log c.args.link.now) (g.L.Link.log c.save_source.new.link)
     (g.L.Link.left c.args.link.now) (g.L.Link.left c.save_source.new.link) before (g.S.Shelf.holds c.save_source.new.shelf) c.save_source.result)
-    c.in-Ok.ensures.held of_text
+    c.in-Ok.ensures.same of_text
 
 pub returns-in-Ok-clause-reads : goal.returns-in-Ok-clause-reads
 returns-in-Ok-clause-reads g c =
@@ -29,7 +29,7 @@ returns-in-Ok-clause-saves g c =
 
 pub returns-in-Ok-clause-changes : goal.returns-in-Ok-clause-changes
 returns-in-Ok-clause-changes g c =
-    subst (λ (before : Option (List ℕ → List ℕ)). ChangesState c.save_source.result before (g.S.Shelf.holds c.save_source.new.shelf) c.args.state.now) c.in-Ok.ensures.held
+    subst (λ (before : Option (List ℕ → List ℕ)). ChangesState c.save_source.result before (g.S.Shelf.holds c.save_source.new.shelf) c.args.state.now) c.in-Ok.ensures.same
     (saved_changes c.deref.result.now c.args.budget c.args.version c.args.state.now _ _ _ _ _ _ c.save_source.result
     (saved_text c.deref.result.now c.args.budget c.args.version c.args.state.now _ _ _ _ _ _ c.save_source.result c.save_source.ensures.saved))
 
@@ -40,7 +40,7 @@ pub returns-in-Err-Failed-clause-reads : goal.returns-in-Err-Failed-clause-reads
 returns-in-Err-Failed-clause-reads g c = adds_none _ _ (ReadsWell FileFailed) refl (unread FileFailed)
 
 pub returns-in-Err-Memory-clause-changes : goal.returns-in-Err-Memory-clause-changes
-returns-in-Err-Memory-clause-changes g c = same_files _ _ c.args.state.now c.read.ensures.held
+returns-in-Err-Memory-clause-changes g c = same_files _ _ c.args.state.now c.read.ensures.same
 
 pub returns-in-Err-Failed-clause-changes : goal.returns-in-Err-Failed-clause-changes
-returns-in-Err-Failed-clause-changes g c = same_files _ _ c.args.state.now c.read.ensures.held
+returns-in-Err-Failed-clause-changes g c = same_files _ _ c.args.state.now c.read.ensures.same
