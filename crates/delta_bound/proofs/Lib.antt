@@ -1,10 +1,15 @@
 -- The lemmas.
 pub mod Totals
+pub mod RoomSums
 pub mod ListPlaces
+pub mod Tables
 pub mod Calls
 pub mod MarkedRounds
 pub mod Bodies
 pub mod FirstNodes
+pub mod LargeTerms
+pub mod LargeBodies
+pub mod Measures
 pub mod ReachedCalls
 pub mod CallsThere
 pub mod SizedTerms

@@ -11,11 +11,12 @@ ghost use Rattle.delta_bound.specs.Unsized.{program_unsized};
 ghost use Rattle.delta_bound.specs.Counted.{IsCounted, IsNumber, RefusesCount, RefusesNumber, TellsCycle};
 ghost use Rattle.delta_bound.specs.Refusals.{HasBound, Refuses};
 
+use crate::body_bounds::body_bound;
 use crate::differing::first_other;
 use crate::programs::program_unsized;
 use crate::reach::reached;
 use crate::refusal::BoundRefusal;
-use crate::rounds::{body_bound, next_of, numbers};
+use crate::rounds::{next_of, numbers};
 use crate::sizes::LIMIT;
 use core_term::{Checked, Core};
 use delta_check::inert_funs;
