@@ -1,5 +1,5 @@
 -- A body that counts a name without a size has no bound.
-use Rattle.std.proofs.Common.{◌≡◌, ℕ, List, refl, subst}
+use Rattle.std.proofs.Common.{ℕ, List, refl, subst}
 use Rattle.core_term.specs.declared.program.Body.{Body}
 use Rattle.core_term.specs.CoreTerm.{CoreBody, core_body_of, fun_at}
 use Rattle.core_term.specs.Inert.{is_inert_fun}

@@ -9,7 +9,7 @@ use Rattle.core_term.specs.FreeNames.{free_names, without, once}
 use Rattle.core_term.specs.TypeFaults.{first_some}
 use Rattle.core_term.specs.Typing.{Context, types_of}
 use Rattle.state_bounds.specs.Bounds.{Bound, both, greater, total}
-use Rattle.state_bounds.specs.TermBounds.{room_of, case_room, wait_room}
+use Rattle.state_bounds.specs.TermBounds.{room_of}
 use Rattle.state_bounds.specs.ProgramBound.{or_large, first_large}
 use Rattle.delta_bound.specs.BoundIn.{bound_in, bounds_in}
 use Rattle.delta_bound.specs.Unsized.{placed, case_unsized, wait_unsized, unsized_at, unsized_row}

@@ -1,6 +1,6 @@
 -- Measures put together.
 use Rattle.std.proofs.Common.{◌≡◌, ◌∙◌, ℕ, ap, ap₂, sym, subst}
-use Rattle.std.specs.Prelude.{Result, Ok, Err, IfOk, Option, option_map, Some, None}
+use Rattle.std.specs.Prelude.{Result, Ok, Err, IfOk, Option, option_map, None}
 use Rattle.bunch.specs.declared.name.Name.{Name}
 use Rattle.core_term.specs.TypeFaults.{first_some}
 use Rattle.state_bounds.specs.Bounds.{Bound, both, greater}

@@ -1,12 +1,12 @@
 -- What names can hold together, and the first of them without a size, one name more.
 use Rattle.std.proofs.Common.{◌≡◌, ◌∙◌, ◌<◌, ◌+◌, ℕ, zero, suc, Bool, true, false, add-one, take, drop, List, [], ◌∷◌, length, if◌then◌else◌, eqb, ap, refl, sym, arith}
-use Rattle.std.specs.Prelude.{Result, Ok, Err, Option, Some, None, slice_index_or}
+use Rattle.std.specs.Prelude.{Ok, Err, Option, Some, None, slice_index_or}
 use Rattle.bunch.specs.declared.name.Name.{Name}
 use Rattle.bunch.specs.Names.{numbers_of}
 use Rattle.core_term.specs.FreeNames.{without}
 use Rattle.state_bounds.specs.Bounds.{Bound, both, total}
 use Rattle.state_bounds.specs.ProgramBound.{or_large, first_large}
-use Rattle.delta_bound.specs.Measured.{Sums, with_room, with_name}
+use Rattle.delta_bound.specs.Measured.{with_room, with_name}
 use Rattle.delta_bound.proofs.Totals.{total-next, total-other, total-same}
 
 drop-suc : {A : Type 0} (xs : List A) (i : ℕ) (d : A) → i < length xs → drop i xs ≡ slice_index_or xs i d ∷ drop (suc i) xs

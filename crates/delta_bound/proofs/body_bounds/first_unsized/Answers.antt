@@ -1,5 +1,5 @@
 -- The name at which the measure stops.
-use Rattle.core_term.specs.CoreTerm.{core_of, core_body_of, fun_at}
+use Rattle.core_term.specs.CoreTerm.{core_of}
 use Rattle.core_term.specs.Inert.{is_inert_fun}
 use Rattle.delta_bound.specs.Unsized.{unsized_in}
 use Rattle.delta_bound.proofs.Measures.{found_is}
