@@ -19,7 +19,7 @@ pub fn in_turn(
     }
 }
 
-/// What two parts can hold that run at a time.
+/// What a pair can hold: its parts run at a time.
 pub fn together(parts: Result<(Option<u64>, Option<u64>), Stop>) -> Result<Option<u64>, Stop>
     ensures { result ≡ together parts }
 {
@@ -29,7 +29,17 @@ pub fn together(parts: Result<(Option<u64>, Option<u64>), Stop>) -> Result<Optio
     }
 }
 
-/// What two parts can hold of which one runs at a time.
+/// What a let can hold: what it binds, and its body, which run at a time.
+pub fn of_let(parts: Result<(Option<u64>, Option<u64>), Stop>) -> Result<Option<u64>, Stop>
+    ensures { result ≡ together parts }
+{
+    match parts {
+        Ok((bound, body)) => Ok(both(bound, body)),
+        Err(stop) => Err(stop),
+    }
+}
+
+/// What a sequence or a case can hold: one of its parts runs at a time.
 pub fn either(parts: Result<(Option<u64>, Option<u64>), Stop>) -> Result<Option<u64>, Stop>
     ensures { result ≡ either parts }
 {

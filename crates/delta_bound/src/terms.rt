@@ -16,7 +16,7 @@ ghost use Rattle.delta_bound.specs.BoundIn.{bound_in, bounds_in};
 ghost use Rattle.delta_bound.specs.Measured.{Measures, MeasuresTwo};
 ghost use Rattle.delta_bound.specs.Unsized.{placed, case_unsized, wait_unsized, unsized_of, unsized_among};
 
-use crate::measured::{beside, either, in_turn, together, with_number};
+use crate::measured::{beside, either, in_turn, of_let, together, with_number};
 use crate::placing::{let_placed, number_of};
 use crate::rooms::{room_of_case, room_of_wait, type_or};
 use crate::sizes::both;
@@ -53,7 +53,7 @@ pub fn term_bound<'a>(
         Term::Inl(a) => term_bound(alloc, a, scope, c, marks, numbers),
         Term::Inr(a) => term_bound(alloc, a, scope, c, marks, numbers),
         Term::Let(x, s, a, b) => {
-            together(let_bounds(alloc, *x, s, a, b, scope, c, marks, numbers))
+            of_let(let_bounds(alloc, *x, s, a, b, scope, c, marks, numbers))
         }
         Term::LetPar(x, y, z, a) => pair_bound(alloc, *x, *y, *z, a, scope, c, marks, numbers),
         Term::LetCat(x, y, z, a) => {

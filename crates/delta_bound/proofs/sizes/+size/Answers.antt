@@ -1,11 +1,11 @@
 -- The size of each form from those of its parts.
-use Rattle.std.proofs.Common.{◌∙◌, ap, ap₂, refl}
+use Rattle.std.proofs.Common.{rules, ◌∙◌, ap, ap₂, refl}
 use Rattle.std.specs.Prelude.{Some}
 use Rattle.state_bounds.specs.Bounds.{both, greater}
 use Rattle.delta_bound.proofs.sizes.+size.Goals as goal
 
 pub returns-in-Par : goal.returns-in-Par
-returns-in-Par t c = rw c.in-Par.is (c.both.ensures ∙ ap₂ both (rw c.deref.ensures at c.size.ensures) (rw c.deref-in-Par.ensures at c.size-in-Par.ensures))
+returns-in-Par t c = search rules
 
 pub returns-in-Cat : goal.returns-in-Cat
 returns-in-Cat t c =
