@@ -16,4 +16,5 @@ pub mod SizedTerms
 pub mod SizedPrograms
 pub mod HeldAtMost
 pub mod Others
+pub mod FirstBodies
 pub mod Answered
