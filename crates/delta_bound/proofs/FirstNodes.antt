@@ -14,7 +14,7 @@ use Rattle.core_term.specs.CoreTerm.{CoreBody}
 use Rattle.core_term.specs.Inert.{is_inert_fun}
 use Rattle.core_term.specs.TypeFaults.{first_some}
 use Rattle.core_term.specs.Typing.{Context}
-use Rattle.delta_bound.specs.declared.searching.Unsized.{Unsized}
+use Rattle.delta_bound.specs.declared.stop.Unsized.{Unsized}
 use Rattle.delta_bound.specs.Unsized.{told, unsized_at, unsized_row, unsized_of, unsized_among, unsized_in}
 use Rattle.delta_bound.proofs.ListPlaces.{drop-next}
 

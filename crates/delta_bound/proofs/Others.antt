@@ -24,7 +24,7 @@ past_end xs i None h e = h.3
 past_end xs i (Some x) h e = absurd (cc e)
 
 -- past one end they don't differ
-drop-end : {A : Type 0} (xs : List A) (i : ℕ) → length xs ≤ i → drop i xs ≡ []
+pub drop-end : {A : Type 0} (xs : List A) (i : ℕ) → length xs ≤ i → drop i xs ≡ []
 drop-end [] zero h = refl
 drop-end [] (suc i) h = refl
 drop-end (x ∷ xs) zero h = absurd (omega (arith, h))

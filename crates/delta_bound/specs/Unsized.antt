@@ -20,7 +20,7 @@ use Rattle.core_term.specs.TypeFaults.{first_some}
 use Rattle.core_term.specs.Typing.{Context, type_at, types_of, context_of, with_name_like, with_fact, with_parts, with_let}
 use Rattle.state_bounds.specs.TermBounds.{room_of}
 use Rattle.state_bounds.specs.ProgramBound.{first_large, is_marked, reached_marks}
-use Rattle.delta_bound.specs.declared.searching.Unsized.{Unsized}
+use Rattle.delta_bound.specs.declared.stop.Unsized.{Unsized}
 
 -- of a case on z with these free names the first that it counts without a size,
 abbrev pub case_unsized : Context → ℕ → List ℕ → Option ℕ
@@ -34,7 +34,7 @@ wait_unsized c z free = first_large (room_of (types_of c) c.order z) (once free)
 abbrev pub placed : ℕ → Option ℕ → Option (ℕ × ℕ)
 placed at x = option_map (λ y. (y, at)) x
 
--- the name and the place that the search tells
+-- the name and the place that the measure tells
 abbrev pub told : Unsized → ℕ × ℕ
 told u = (u.name.0, u.at)
 

@@ -1,21 +1,23 @@
 //! The bound of a program, or why it has none.
 
-ghost use Rattle.std.specs.Prelude.{◌≡◌, ◌<◌, ◌^◌, ℕ, length, Some, None, IfOk, IfErr};
+ghost use Rattle.std.specs.Prelude.{◌≡◌, ◌<◌, ◌^◌, ℕ, length, nat_lt, Some, None, IfOk, IfErr};
 ghost use Rattle.core_term.specs.CoreTerm.{core_of};
 ghost use Rattle.core_term.specs.FreeNames.{HasFewNodes};
 ghost use Rattle.core_term.specs.Inert.{is_inert_fun};
 ghost use Rattle.core_term.specs.Typing.{IsTypedCore};
 ghost use Rattle.delta_check.specs.Counting.{counts_in};
+ghost use Rattle.state_bounds.specs.Bounds.{limit};
 ghost use Rattle.state_bounds.specs.ProgramBound.{number_at, main_bound, reached_marks, program_numbers, first_cycle};
 ghost use Rattle.delta_bound.specs.Unsized.{program_unsized};
 ghost use Rattle.delta_bound.specs.Counted.{IsCounted, IsNumber, RefusesCount, RefusesNumber, TellsCycle};
 ghost use Rattle.delta_bound.specs.Refusals.{HasBound, Refuses};
 
+use crate::body_bounds::body_bound;
 use crate::differing::first_other;
 use crate::programs::program_unsized;
 use crate::reach::reached;
 use crate::refusal::BoundRefusal;
-use crate::rounds::{body_bound, next_of, numbers};
+use crate::rounds::{next_of, numbers};
 use crate::sizes::LIMIT;
 use core_term::{Checked, Core};
 use delta_check::inert_funs;
@@ -141,11 +143,18 @@ fn below(n: u64) -> Result<u64, BoundRefusal>
     ensures bound { IfOk result (λ m. IsNumber (Some n) m) }
     ensures large { IfErr result (λ e. RefusesNumber e (Some n)) }
 {
-    if n < LIMIT {
+    if is_below(n) {
         Ok(n)
     } else {
         Err(BoundRefusal::Large)
     }
+}
+
+// Whether it is.
+fn is_below(n: u64) -> bool
+    ensures { result ≡ nat_lt n limit }
+{
+    n < LIMIT
 }
 
 // A cycle at this function, with the place of its body.

@@ -7,10 +7,10 @@ ghost use Rattle.delta_check.specs.Counting.{counts_in};
 ghost use Rattle.state_bounds.specs.ProgramBound.{reached_marks};
 ghost use Rattle.delta_bound.specs.Unsized.{told, unsized_in, unsized_from, program_unsized};
 
+use crate::body_bounds::first_unsized;
 use crate::reach::marked;
-use crate::searching::{Unsized, first_unsized};
+use crate::stop::Unsized;
 use core_term::{Body, Core};
-use delta_check::Scope;
 use std::alloc::Global;
 use stream_type::Memory;
 
@@ -29,7 +29,7 @@ pub fn program_unsized(
 {
     match of_funs(alloc, c, inert, reached)? {
         Some(found) => Ok(Some(found)),
-        None => of_body(alloc, &c.main, c, inert),
+        None => first_unsized(alloc, &c.main, c, inert),
     }
 }
 
@@ -63,16 +63,8 @@ fn of_fun(
     ensures { IfOk result (λ o. option_map told o ≡ (if mark then unsized_in (core_of c.now).funs (is_inert_fun (core_of c.now).funs) b.now else None)) }
 {
     if mark {
-        of_body(alloc, b, c, inert)
+        first_unsized(alloc, b, c, inert)
     } else {
         Ok(None)
     }
-}
-
-// In the body.
-fn of_body(alloc: Global, b: &Body, c: &Core, inert: &[bool]) -> Result<Option<Unsized>, Memory>
-    requires { (f : ℕ) → counts_in (core_of c.now).funs inert.now f ≡ is_inert_fun (core_of c.now).funs f }
-    ensures { IfOk result (λ o. option_map told o ≡ unsized_in (core_of c.now).funs (is_inert_fun (core_of c.now).funs) b.now) }
-{
-    first_unsized(alloc, &b.body, &Scope::Params(b), c, inert)
 }
