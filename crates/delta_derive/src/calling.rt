@@ -66,8 +66,7 @@ fn is_called(
     if !are_pasts(alloc, &aim.known, past, &b.past)? {
         return Ok(false);
     }
-    let still = is_still(alloc, c, marks, b, arguments)?;
-    Ok(still)
+    is_still(alloc, c, marks, b, arguments)
 }
 
 // Whether the result is of the wanted type and there are as many historical arguments as parameters.

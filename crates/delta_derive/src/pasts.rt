@@ -27,7 +27,10 @@ pub fn is_past(alloc: Global, known: &[(Name, HTy)], m: &Expr, r: &Ty) -> Result
             Ok(true)
         }
         Err(HistFault::Memory) => Err(Memory),
-        Err(_) => Ok(false),
+        Err(fault) => {
+            drop(fault);
+            Ok(false)
+        }
     }
 }
 

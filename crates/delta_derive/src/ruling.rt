@@ -19,7 +19,7 @@ use crate::line::Turn;
 use crate::open::{OpenTerm, add, add_hidden, add_hidden_two, add_in, add_part, add_two, learned};
 use crate::pasts::is_past;
 use crate::path::{part_at, put_at, stays_first};
-use crate::trees::{copied, pair, sequence, single, single_beside};
+use crate::trees::{boxed, copied, pair, sequence, single, single_beside};
 use crate::types::{is_same, is_star};
 use bunch::{Bunch, Name};
 use core_term::{Core, Node, Term};
@@ -483,7 +483,7 @@ fn add_wait<'a>(
 fn without(alloc: Global, g: &Bunch, x: Name) -> Result<Box<Bunch>, Memory>
     ensures { IfOk result (λ h. tree_of h.value ≡ with_leaf x.0 empty (tree_of g.now)) }
 {
-    let nothing = Box::new(alloc, Bunch::Empty)?;
+    let nothing = boxed(alloc, Bunch::Empty)?;
     with_leaf(alloc, g, x, nothing)
 }
 

@@ -8,6 +8,7 @@ ghost use Rattle.delta_derive.specs.LineText.{turn_of, step_of};
 ghost use Rattle.delta_derive.specs.Rearranged.{stepped, rearranged, commas_left, semis_left, commas_right, semis_right, is_empty, only_side};
 
 use crate::line::{Step, Turn};
+use crate::trees::{boxed, comma, semi};
 use bunch::Bunch;
 use std::alloc::Global;
 use std::mem;
@@ -118,7 +119,7 @@ fn commas_left(alloc: Global, b: Box<Bunch>, c: Box<Bunch>) -> Result<Option<Bun
     ensures { IfOk result (λ o. option_map tree_of o ≡ commas_left (tree_of b.value) (tree_of c.value)) }
 {
     match Box::into_inner(c) {
-        Bunch::Comma(c, d) => Ok(Some(Bunch::Comma(Box::new(alloc, Bunch::Comma(b, c))?, d))),
+        Bunch::Comma(c, d) => Ok(Some(Bunch::Comma(comma(alloc, b, c)?, d))),
         other => {
             drop(other);
             Ok(None)
@@ -130,7 +131,7 @@ fn semis_left(alloc: Global, b: Box<Bunch>, c: Box<Bunch>) -> Result<Option<Bunc
     ensures { IfOk result (λ o. option_map tree_of o ≡ semis_left (tree_of b.value) (tree_of c.value)) }
 {
     match Box::into_inner(c) {
-        Bunch::Semi(c, d) => Ok(Some(Bunch::Semi(Box::new(alloc, Bunch::Semi(b, c))?, d))),
+        Bunch::Semi(c, d) => Ok(Some(Bunch::Semi(semi(alloc, b, c)?, d))),
         other => {
             drop(other);
             Ok(None)
@@ -156,7 +157,7 @@ fn commas_right(alloc: Global, b: Box<Bunch>, d: Box<Bunch>) -> Result<Option<Bu
     ensures { IfOk result (λ o. option_map tree_of o ≡ commas_right (tree_of b.value) (tree_of d.value)) }
 {
     match Box::into_inner(b) {
-        Bunch::Comma(b, c) => Ok(Some(Bunch::Comma(b, Box::new(alloc, Bunch::Comma(c, d))?))),
+        Bunch::Comma(b, c) => Ok(Some(Bunch::Comma(b, comma(alloc, c, d)?))),
         other => {
             drop(other);
             Ok(None)
@@ -168,7 +169,7 @@ fn semis_right(alloc: Global, b: Box<Bunch>, d: Box<Bunch>) -> Result<Option<Bun
     ensures { IfOk result (λ o. option_map tree_of o ≡ semis_right (tree_of b.value) (tree_of d.value)) }
 {
     match Box::into_inner(b) {
-        Bunch::Semi(b, c) => Ok(Some(Bunch::Semi(b, Box::new(alloc, Bunch::Semi(c, d))?))),
+        Bunch::Semi(b, c) => Ok(Some(Bunch::Semi(b, semi(alloc, c, d)?))),
         other => {
             drop(other);
             Ok(None)
@@ -215,22 +216,22 @@ fn is_empty(b: &Bunch) -> bool
 fn after_empty(alloc: Global, b: Bunch) -> Result<Option<Bunch>, Memory>
     ensures { IfOk result (λ o. option_map tree_of o ≡ stepped before_step (tree_of b)) }
 {
-    let b = Box::new(alloc, b)?;
-    Ok(Some(Bunch::Semi(Box::new(alloc, Bunch::Empty)?, b)))
+    let b = boxed(alloc, b)?;
+    Ok(Some(Bunch::Semi(boxed(alloc, Bunch::Empty)?, b)))
 }
 
 // after it,
 fn before_empty(alloc: Global, b: Bunch) -> Result<Option<Bunch>, Memory>
     ensures { IfOk result (λ o. option_map tree_of o ≡ stepped after_step (tree_of b)) }
 {
-    let b = Box::new(alloc, b)?;
-    Ok(Some(Bunch::Semi(b, Box::new(alloc, Bunch::Empty)?)))
+    let b = boxed(alloc, b)?;
+    Ok(Some(Bunch::Semi(b, boxed(alloc, Bunch::Empty)?)))
 }
 
 // or beside it.
 fn beside_empty(alloc: Global, b: Bunch) -> Result<Option<Bunch>, Memory>
     ensures { IfOk result (λ o. option_map tree_of o ≡ stepped beside_step (tree_of b)) }
 {
-    let b = Box::new(alloc, b)?;
-    Ok(Some(Bunch::Comma(b, Box::new(alloc, Bunch::Empty)?)))
+    let b = boxed(alloc, b)?;
+    Ok(Some(Bunch::Comma(b, boxed(alloc, Bunch::Empty)?)))
 }

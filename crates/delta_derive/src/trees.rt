@@ -17,11 +17,18 @@ pub fn put(b: &mut Bunch, mut part: Box<Bunch>)
     mem::swap(b, &mut part);
 }
 
+/// A bunch in a box. Its only error is want of memory.
+pub fn boxed(alloc: Global, b: Bunch) -> Result<Box<Bunch>, Memory>
+    ensures { IfOk result (λ c. c.value ≡ b) }
+{
+    Ok(Box::new(alloc, b)?)
+}
+
 /// A bunch like another. Its only error is want of memory.
 pub fn copied(alloc: Global, b: &Bunch) -> Result<Box<Bunch>, Memory>
     ensures { IfOk result (λ c. tree_of c.value ≡ tree_of b.now) }
 {
-    Ok(Box::new(alloc, copy(alloc, b)?)?)
+    boxed(alloc, copy(alloc, b)?)
 }
 
 /// A leaf. Its only error is want of memory.
@@ -29,21 +36,21 @@ pub fn leaf(alloc: Global, x: Name, t: &Ty) -> Result<Box<Bunch>, Memory>
     ensures { IfOk result (λ b. tree_of b.value ≡ leaf x.0 (type_of t.now)) }
 {
     let ty = stream_type::copy(alloc, t)?;
-    Ok(Box::new(alloc, Bunch::Leaf(x, ty))?)
+    boxed(alloc, Bunch::Leaf(x, ty))
 }
 
 /// `a, b`. Its only error is want of memory.
 pub fn comma(alloc: Global, a: Box<Bunch>, b: Box<Bunch>) -> Result<Box<Bunch>, Memory>
     ensures { IfOk result (λ c. tree_of c.value ≡ comma (tree_of a.value) (tree_of b.value)) }
 {
-    Ok(Box::new(alloc, Bunch::Comma(a, b))?)
+    boxed(alloc, Bunch::Comma(a, b))
 }
 
 /// `a; b`. Its only error is want of memory.
 pub fn semi(alloc: Global, a: Box<Bunch>, b: Box<Bunch>) -> Result<Box<Bunch>, Memory>
     ensures { IfOk result (λ c. tree_of c.value ≡ semi (tree_of a.value) (tree_of b.value)) }
 {
-    Ok(Box::new(alloc, Bunch::Semi(a, b))?)
+    boxed(alloc, Bunch::Semi(a, b))
 }
 
 // A part beside `z`.
