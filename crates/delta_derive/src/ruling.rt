@@ -14,18 +14,18 @@ ghost use Rattle.delta_derive.specs.Claims.{rule_parts, rule_parts_by, claim, of
 ghost use Rattle.delta_derive.specs.OpenTerms.{claim_of, Adds};
 
 use crate::calling::call_parts;
+use crate::jumpy::may_stand;
 use crate::leaves::{has_leaf, leaf_type, put_leaf};
 use crate::line::Turn;
 use crate::open::{OpenTerm, add, add_hidden, add_hidden_two, add_in, add_part, add_two, learned};
 use crate::pasts::is_past;
-use crate::path::{part_at, put_at, stays_first};
+use crate::path::{part_at, put_at};
 use crate::trees::{boxed, copied, pair, sequence, single, single_beside};
-use crate::types::{is_same, is_star};
+use crate::types::{is_same, is_star, may_wait};
 use bunch::{Bunch, Name};
 use core_term::{Core, Node, Term};
-use delta_check::inert;
 use std::alloc::Global;
-use stream_type::{Memory, Ty, null};
+use stream_type::{Memory, Ty};
 
 /// Adds what a rule without a path leaves to derive, and says whether it is valid: `rule_parts` in `specs/Claims.antt`.
 /// Its only error is want of memory.
@@ -242,7 +242,7 @@ pub fn add_parts_by<'a>(
     let node: &'a Node = aim.node;
     match &node.term {
         Term::Let(x, s, a, b) => {
-            if inert(c, a, s, marks) || stays_first(&aim.bunch, path) {
+            if may_stand(c, marks, a, s, &aim.bunch, path) {
                 add_let(alloc, aim, path, *x, s, a, b, parts)
             } else {
                 Ok(false)
@@ -470,10 +470,11 @@ fn add_wait<'a>(
 {
     match leaf_type(&aim.bunch, x) {
         Some(t) => {
-            if null(t) || !is_same(r, aim.result) {
-                return Ok(false);
+            if may_wait(t, r, aim.result) {
+                add_known(alloc, aim, x, t, a, parts)
+            } else {
+                Ok(false)
             }
-            add_known(alloc, aim, x, t, a, parts)
         }
         None => Ok(false),
     }
