@@ -67,7 +67,9 @@ pub fn derive_core(alloc: Global, core: Core, proof: &[u8]) -> End
     requires nodes { HasFewNodes (core_of core) }
     ensures { (text : List ℕ) → IsElaboratedAs text (core_of core) → Derives text proof.now result }
 {
-    if proof.len() > 1_048_576 {
+    let is_long = proof.len() > 1_048_576;
+    if is_long {
+        drop(core);
         return too_long();
     }
     match derive(alloc, core, proof) {

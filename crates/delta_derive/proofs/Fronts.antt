@@ -40,10 +40,10 @@ bodies_joined [] cs = refl
 bodies_joined (b ∷ bs) cs = ap (λ l. body_claim (core_body_of b) ∷ l) (bodies_joined bs cs)
 
 -- the claim of one body more
-pub bodies-next : (bs : List Body) (i : ℕ) (b : Body) (os : List OpenTerm) (o : OpenTerm) → i < length bs → b ≡ get_or bs i b → claim_of o ≡ body_claim (core_body_of b) → map claim_of os ≡ body_claims (map core_body_of (take i bs))
-    → map claim_of (os ++ o ∷ []) ≡ body_claims (map core_body_of (take (i + 1) bs))
-bodies-next bs i b os o lt at same h =
-    claims_joined os (o ∷ []) ∙ ap₂ (λ l g. l ++ g ∷ []) h same
+pub bodies-next : (bs : List Body) (i : ℕ) (b : Body) (os ps : List OpenTerm) → i < length bs → b ≡ get_or bs i b → map claim_of ps ≡ map claim_of os ++ body_claim (core_body_of b) ∷ [] → map claim_of os ≡ body_claims (map core_body_of (take i bs))
+    → map claim_of ps ≡ body_claims (map core_body_of (take (i + 1) bs))
+bodies-next bs i b os ps lt at same h =
+    same ∙ ap (λ l. l ++ body_claim (core_body_of b) ∷ []) h
     ∙ sym (ap (λ l. body_claims (map core_body_of l)) (take_more bs i b lt) ∙ bodies_joined (take i bs) (get_or bs i b ∷ []) ∙ ap (λ c. body_claims (map core_body_of (take i bs)) ++ body_claim (core_body_of c) ∷ []) (sym at))
 
 -- the entries of historical parameters, in turn

@@ -8,7 +8,8 @@ ghost use Rattle.hist_value.specs.Environment.{types_of};
 ghost use Rattle.core_term.specs.CoreTerm.{term_of, terms_from, core_of, core_body_of};
 ghost use Rattle.core_term.specs.Parts.{is_same_type};
 ghost use Rattle.delta_check.specs.Counting.{counts_in};
-ghost use Rattle.delta_derive.specs.Claims.{call_parts, is_called, passes, shares, all_shared};
+ghost use Rattle.delta_derive.specs.Rearranged.{then_by};
+ghost use Rattle.delta_derive.specs.Claims.{call_parts, is_called, passes, shares, with_claims, all_shared};
 ghost use Rattle.delta_derive.specs.OpenTerms.{claim_of, Adds, Shared};
 
 use crate::jumpy::is_still;
@@ -65,8 +66,7 @@ fn is_called(
     if !are_pasts(alloc, &aim.known, past, &b.past)? {
         return Ok(false);
     }
-    let still = is_still(alloc, c, marks, b, arguments)?;
-    Ok(still)
+    is_still(alloc, c, marks, b, arguments)
 }
 
 // Whether the result is of the wanted type and there are as many historical arguments as parameters.
@@ -117,6 +117,7 @@ fn share_all<'a>(
 
 // Adds the first of the arguments, each in its part of the bunch, and answers those that are left, or None where
 // the bunch hasn't the shape of the parameters.
+#[cycle(share)]
 fn share<'a>(
     alloc: Global,
     known: &[(Name, HTy)],
@@ -141,18 +142,33 @@ fn share<'a>(
             }
         },
         Bunch::Comma(a, b) => match g {
-            Bunch::Comma(g, h) => match share(alloc, known, a, g, arguments, parts)? {
-                None => Ok(None),
-                Some(rest) => share(alloc, known, b, h, rest, parts),
-            },
+            Bunch::Comma(g, h) => share_both(alloc, known, a, g, b, h, arguments, parts),
             _ => Ok(None),
         },
         Bunch::Semi(a, b) => match g {
-            Bunch::Semi(g, h) => match share(alloc, known, a, g, arguments, parts)? {
-                None => Ok(None),
-                Some(rest) => share(alloc, known, b, h, rest, parts),
-            },
+            Bunch::Semi(g, h) => share_both(alloc, known, a, g, b, h, arguments, parts),
             _ => Ok(None),
         },
+    }
+}
+
+// The same of the two sides of parameters and of a bunch, one after the other.
+#[cycle(share)]
+fn share_both<'a>(
+    alloc: Global,
+    known: &[(Name, HTy)],
+    a: &'a Bunch,
+    g: &Bunch,
+    b: &'a Bunch,
+    h: &Bunch,
+    arguments: &'a [Node],
+    parts: &mut Vec<OpenTerm<'a>>,
+) -> Result<Option<&'a [Node]>, Memory>
+    ensures { IfOk result (λ o. MatchOption o (then_by (shares (types_of known.now) (tree_of a.now) (tree_of g.now) (terms_from (map term_of arguments.now))) (λ r. with_claims r.0 (shares (types_of known.now) (tree_of b.now) (tree_of h.now) r.1)) ≡ None)
+        (λ rest. Shared (then_by (shares (types_of known.now) (tree_of a.now) (tree_of g.now) (terms_from (map term_of arguments.now))) (λ r. with_claims r.0 (shares (types_of known.now) (tree_of b.now) (tree_of h.now) r.1))) parts.old.items parts.new.items rest.now)) }
+{
+    match share(alloc, known, a, g, arguments, parts)? {
+        None => Ok(None),
+        Some(rest) => share(alloc, known, b, h, rest, parts),
     }
 }

@@ -109,7 +109,11 @@ fn take_piece<'a>(
 {
     match read_line(alloc, bytes)? {
         None => Err(DeriveFault::BadLine(number)),
-        Some(line) => take_line(alloc, c, marks, goals, &line, number),
+        Some(line) => {
+            let taken = take_line(alloc, c, marks, goals, &line, number);
+            drop(line);
+            taken
+        }
     }
 }
 

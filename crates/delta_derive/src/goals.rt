@@ -30,11 +30,21 @@ pub fn first_goals<'a>(alloc: Global, c: &'a Core) -> Result<Vec<OpenTerm<'a>>, 
 {
     let mut goals = Vec::new(alloc);
     for body in &c.funs {
-        goals.push(body_goal(alloc, body)?)?;
+        add_body(alloc, body, &mut goals)?;
     }
-    goals.push(body_goal(alloc, &c.main)?)?;
+    add_body(alloc, &c.main, &mut goals)?;
     goals.reverse();
     Ok(goals)
+}
+
+// Adds the body of a function.
+#[tactic(auto, using(crate::proofs::Fronts::fronts))]
+fn add_body<'a>(alloc: Global, b: &'a Body, goals: &mut Vec<OpenTerm<'a>>) -> Result<(), Memory>
+    ensures { OnOk result (map claim_of goals.new.items ≡ map claim_of goals.old.items ++ body_claim (core_body_of b.now) ∷ []) }
+{
+    let goal = body_goal(alloc, b)?;
+    goals.push(goal)?;
+    Ok(())
 }
 
 // The body of a function.
@@ -110,8 +120,16 @@ fn take<'a>(
     ensures { IfOk result (Leaves (after (core_of c.now).funs (counts_in (core_of c.now).funs marks.now) (line_of line.now) (claim_of aim.entry)) goals.old.items goals.new.items) }
 {
     match line {
-        Line::Rule => take_rule(alloc, c, marks, goals, &aim),
-        Line::RuleAt(path) => take_rule_at(alloc, c, marks, goals, &aim, path),
+        Line::Rule => {
+            let valid = take_rule(alloc, c, marks, goals, &aim);
+            drop(aim);
+            valid
+        }
+        Line::RuleAt(path) => {
+            let valid = take_rule_at(alloc, c, marks, goals, &aim, path);
+            drop(aim);
+            valid
+        }
         Line::Step(step, path) => take_step(alloc, goals, aim, *step, path),
     }
 }
@@ -160,9 +178,16 @@ fn take_step<'a>(
 ) -> Result<bool, Memory>
     ensures { IfOk result (Leaves (after [] (λ _. false) (step_at (step_of step) (map turn_of path.now)) (claim_of aim.entry)) goals.old.items goals.new.items) }
 {
-    let valid = rearrange(alloc, &mut aim.bunch, path, step)?;
-    goals.push(aim)?;
-    Ok(valid)
+    match rearrange(alloc, &mut aim.bunch, path, step) {
+        Ok(valid) => {
+            goals.push(aim)?;
+            Ok(valid)
+        }
+        Err(memory) => {
+            drop(aim);
+            Err(memory)
+        }
+    }
 }
 
 // Puts terms in front of those that are to be derived, so that the first of them is next.

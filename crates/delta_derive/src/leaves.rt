@@ -5,6 +5,7 @@ ghost use Rattle.stream_type.specs.StreamType.{type_of};
 ghost use Rattle.bunch.specs.BunchTree.{tree_of};
 ghost use Rattle.delta_derive.specs.Rearranged.{has_leaf, leaf_type, with_leaf};
 
+use crate::trees::put;
 use crate::types::is_same;
 use bunch::{Bunch, Name};
 use stream_type::Ty;
@@ -35,14 +36,14 @@ pub fn leaf_type(b: &Bunch, z: Name) -> Option<&Ty>
 }
 
 /// Puts a part into the place of the leaf of `z`: `with_leaf` in `specs/Rearranged.antt`.
-pub fn put_leaf(b: &mut Bunch, z: Name, part: Bunch)
-    ensures { tree_of b.new ≡ with_leaf z.0 (tree_of part) (tree_of b.old) }
+pub fn put_leaf(b: &mut Bunch, z: Name, part: Box<Bunch>)
+    ensures { tree_of b.new ≡ with_leaf z.0 (tree_of part.value) (tree_of b.old) }
 {
     match b {
         Bunch::Empty => {}
         Bunch::Leaf(x, _) => {
             if z.0 == x.0 {
-                *b = part;
+                put(b, part);
             }
         }
         Bunch::Comma(left, right) => {

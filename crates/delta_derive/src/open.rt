@@ -6,10 +6,11 @@ ghost use Rattle.bunch.specs.BunchTree.{tree_of};
 ghost use Rattle.hist_value.specs.Environment.{types_of, typed_entries_of};
 ghost use Rattle.core_term.specs.CoreTerm.{term_of};
 ghost use Rattle.bunch_rules.specs.Derivation.{hidden, learned};
-ghost use Rattle.delta_derive.specs.Claims.{claim};
-ghost use Rattle.delta_derive.specs.OpenTerms.{claim_of};
+ghost use Rattle.delta_derive.specs.Claims.{claim, two};
+ghost use Rattle.delta_derive.specs.OpenTerms.{claim_of, Adds};
 
-use bunch::{Bunch, Name, copy};
+use crate::trees::copied;
+use bunch::{Bunch, Name};
 use core_term::Node;
 use hist_value::{HTy, copy_type, past};
 use std::alloc::Global;
@@ -28,9 +29,9 @@ pub struct OpenTerm<'a> {
     pub result: &'a Ty,
 }
 
-/// The same historical names. Its only error is want of memory.
+// The same historical names. Its only error is want of memory.
 #[tactic(auto, using(crate::proofs::KnownNames::known_names))]
-pub fn copy_known(alloc: Global, known: &[(Name, HTy)]) -> Result<Vec<(Name, HTy)>, Memory>
+fn copy_known(alloc: Global, known: &[(Name, HTy)]) -> Result<Vec<(Name, HTy)>, Memory>
     ensures { IfOk result (λ v. typed_entries_of v.items ≡ typed_entries_of known.now) }
 {
     let mut copies = Vec::new(alloc);
@@ -40,9 +41,9 @@ pub fn copy_known(alloc: Global, known: &[(Name, HTy)]) -> Result<Vec<(Name, HTy
     Ok(copies)
 }
 
-/// The historical names where `x` hides what stood there. Its only error is want of memory.
+// The historical names where `x` hides what stood there. Its only error is want of memory.
 #[tactic(auto, using(crate::proofs::KnownNames::known_names))]
-pub fn hidden(alloc: Global, x: Name, known: &[(Name, HTy)]) -> Result<Vec<(Name, HTy)>, Memory>
+fn hidden(alloc: Global, x: Name, known: &[(Name, HTy)]) -> Result<Vec<(Name, HTy)>, Memory>
     ensures { IfOk result (λ v. types_of v.items ≡ hidden x.0 (types_of known.now)) }
 {
     let mut kept = Vec::new(alloc);
@@ -52,6 +53,19 @@ pub fn hidden(alloc: Global, x: Name, known: &[(Name, HTy)]) -> Result<Vec<(Name
         }
     }
     Ok(kept)
+}
+
+// The same with two names.
+fn hidden_two(
+    alloc: Global,
+    x: Name,
+    y: Name,
+    known: &[(Name, HTy)],
+) -> Result<Vec<(Name, HTy)>, Memory>
+    ensures { IfOk result (λ v. types_of v.items ≡ hidden y.0 (hidden x.0 (types_of known.now))) }
+{
+    let kept = hidden(alloc, x, known)?;
+    hidden(alloc, y, &kept)
 }
 
 /// The historical names with `x`, whose stream is of type `t`. Its only error is want of memory.
@@ -72,16 +86,16 @@ pub fn learned(
 /// Adds a term to those that are to be derived. Its only error is want of memory.
 pub fn add<'a>(
     known: Vec<(Name, HTy)>,
-    bunch: Bunch,
+    bunch: Box<Bunch>,
     node: &'a Node,
     ty: &'a Ty,
     parts: &mut Vec<OpenTerm<'a>>,
 ) -> Result<(), Memory>
-    ensures { OnOk result (map claim_of parts.new.items ≡ map claim_of parts.old.items ++ claim (types_of known.items) (tree_of bunch) (term_of node.now) (type_of ty.now) ∷ []) }
+    ensures { OnOk result (map claim_of parts.new.items ≡ map claim_of parts.old.items ++ claim (types_of known.items) (tree_of bunch.value) (term_of node.now) (type_of ty.now) ∷ []) }
 {
     parts.push(OpenTerm {
         known,
-        bunch,
+        bunch: Box::into_inner(bunch),
         node,
         result: ty,
     })?;
@@ -100,13 +114,28 @@ pub fn add_in<'a>(
     ensures { OnOk result (map claim_of parts.new.items ≡ map claim_of parts.old.items ++ claim (types_of known.now) (tree_of bunch.now) (term_of node.now) (type_of ty.now) ∷ []) }
 {
     let known = copy_known(alloc, known)?;
-    add(known, copy(alloc, bunch)?, node, ty, parts)
+    add(known, copied(alloc, bunch)?, node, ty, parts)
 }
 
-/// The same of two terms.
+/// Adds a part of a term whose rule is valid, with the names and the bunch of the whole, and answers true. Its only
+/// error is want of memory.
+pub fn add_part<'a>(
+    alloc: Global,
+    aim: &OpenTerm<'a>,
+    node: &'a Node,
+    ty: &'a Ty,
+    parts: &mut Vec<OpenTerm<'a>>,
+) -> Result<bool, Memory>
+    ensures { IfOk result (Adds (Some (claim (types_of aim.now.known.items) (tree_of aim.now.bunch) (term_of node.now) (type_of ty.now) ∷ [])) parts.old.items parts.new.items) }
+{
+    add_in(alloc, &aim.known, &aim.bunch, node, ty, parts)?;
+    Ok(true)
+}
+
+/// The same of two parts, each with a bunch of its own.
 pub fn add_two<'a>(
     alloc: Global,
-    known: &[(Name, HTy)],
+    aim: &OpenTerm<'a>,
     g: &Bunch,
     a: &'a Node,
     s: &'a Ty,
@@ -114,26 +143,41 @@ pub fn add_two<'a>(
     b: &'a Node,
     t: &'a Ty,
     parts: &mut Vec<OpenTerm<'a>>,
-) -> Result<(), Memory>
-    ensures { OnOk result (map claim_of parts.new.items ≡ map claim_of parts.old.items ++ claim (types_of known.now) (tree_of g.now) (term_of a.now) (type_of s.now) ∷ claim (types_of known.now) (tree_of h.now) (term_of b.now) (type_of t.now) ∷ []) }
+) -> Result<bool, Memory>
+    ensures { IfOk result (Adds (Some (two (types_of aim.now.known.items) (tree_of g.now) (tree_of h.now) (term_of a.now) (term_of b.now) (type_of s.now) (type_of t.now))) parts.old.items parts.new.items) }
 {
-    add_in(alloc, known, g, a, s, parts)?;
-    add_in(alloc, known, h, b, t, parts)?;
-    Ok(())
+    add_in(alloc, &aim.known, g, a, s, parts)?;
+    add_in(alloc, &aim.known, h, b, t, parts)?;
+    Ok(true)
 }
 
-/// Adds a term with historical names of which `x` is hidden. Its only error is want of memory.
+/// Adds a part with the type of the whole, of whose names `x` is hidden. Its only error is want of memory.
 pub fn add_hidden<'a>(
     alloc: Global,
-    known: &[(Name, HTy)],
+    aim: &OpenTerm<'a>,
     x: Name,
-    bunch: Bunch,
+    bunch: Box<Bunch>,
     node: &'a Node,
-    ty: &'a Ty,
     parts: &mut Vec<OpenTerm<'a>>,
 ) -> Result<(), Memory>
-    ensures { OnOk result (map claim_of parts.new.items ≡ map claim_of parts.old.items ++ claim (hidden x.0 (types_of known.now)) (tree_of bunch) (term_of node.now) (type_of ty.now) ∷ []) }
+    ensures { OnOk result (map claim_of parts.new.items ≡ map claim_of parts.old.items ++ claim (hidden x.0 (types_of aim.now.known.items)) (tree_of bunch.value) (term_of node.now) (type_of aim.now.result.now) ∷ []) }
 {
-    add(hidden(alloc, x, known)?, bunch, node, ty, parts)?;
-    Ok(())
+    let known = hidden(alloc, x, &aim.known)?;
+    add(known, bunch, node, aim.result, parts)
+}
+
+/// The same of two names.
+pub fn add_hidden_two<'a>(
+    alloc: Global,
+    aim: &OpenTerm<'a>,
+    x: Name,
+    y: Name,
+    bunch: Box<Bunch>,
+    node: &'a Node,
+    parts: &mut Vec<OpenTerm<'a>>,
+) -> Result<(), Memory>
+    ensures { OnOk result (map claim_of parts.new.items ≡ map claim_of parts.old.items ++ claim (hidden y.0 (hidden x.0 (types_of aim.now.known.items))) (tree_of bunch.value) (term_of node.now) (type_of aim.now.result.now) ∷ []) }
+{
+    let known = hidden_two(alloc, x, y, &aim.known)?;
+    add(known, bunch, node, aim.result, parts)
 }

@@ -19,10 +19,18 @@ pub fn is_past(alloc: Global, known: &[(Name, HTy)], m: &Expr, r: &Ty) -> Result
     ensures { IfOk result (λ good. good ≡ not (is_some (expr_refusal (types_of known.now) (expr_of m.now) (past (type_of r.now))))) }
 {
     let wanted = past(alloc, r)?;
-    match type_of(alloc, m, known, Some(&wanted)) {
-        Ok(_) => Ok(true),
+    let found = type_of(alloc, m, known, Some(&wanted));
+    drop(wanted);
+    match found {
+        Ok(found) => {
+            drop(found);
+            Ok(true)
+        }
         Err(HistFault::Memory) => Err(Memory),
-        Err(_) => Ok(false),
+        Err(fault) => {
+            drop(fault);
+            Ok(false)
+        }
     }
 }
 

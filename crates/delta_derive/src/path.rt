@@ -7,6 +7,7 @@ ghost use Rattle.delta_derive.specs.LineText.{turn_of};
 ghost use Rattle.delta_derive.specs.Rearranged.{part_at, put_at};
 
 use crate::line::Turn;
+use crate::trees::put;
 use bunch::Bunch;
 
 /// The part at the end of a path, or None where it leads to none: `part_at` in `specs/Rearranged.antt`.
@@ -26,11 +27,11 @@ pub fn part_at<'a>(b: &'a Bunch, path: &[Turn]) -> Option<&'a Bunch>
 }
 
 /// Puts a part to the end of a path: `put_at` in `specs/Rearranged.antt`.
-pub fn put_at(b: &mut Bunch, path: &[Turn], part: Bunch)
-    ensures { tree_of b.new ≡ put_at (map turn_of path.now) (tree_of part) (tree_of b.old) }
+pub fn put_at(b: &mut Bunch, path: &[Turn], part: Box<Bunch>)
+    ensures { tree_of b.new ≡ put_at (map turn_of path.now) (tree_of part.value) (tree_of b.old) }
 {
     match path.split_first() {
-        None => *b = part,
+        None => put(b, part),
         Some((turn, rest)) => match b {
             Bunch::Empty | Bunch::Leaf(_, _) => {}
             Bunch::Comma(left, right) => match turn {

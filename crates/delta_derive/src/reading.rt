@@ -1,6 +1,7 @@
 //! Lines read from the bytes of a text.
 
 ghost use Rattle.std.specs.Prelude.{◌≡◌, map, option_map, IfOk, ◌==◌, position};
+ghost use Rattle.std.specs.Str.{bytes_eq};
 ghost use Rattle.delta_derive.specs.LineText.{turn_of, turn_at, turns_in, path_in, step_of, step_in, line_of, bare_line, line_of_word, line_with_path, line_in};
 
 use crate::line::{Line, Step, Turn};
@@ -25,11 +26,18 @@ fn first_space(bytes: &[u8]) -> Option<usize>
     bytes.iter().position(|byte| *byte == b' ')
 }
 
+// Whether the bytes are those of a name.
+fn is_word(word: &[u8], name: &str) -> bool
+    ensures { result ≡ bytes_eq word.now name.now }
+{
+    word == name.as_bytes()
+}
+
 // The line of one word.
 fn bare_line(word: &[u8]) -> Option<Line>
     ensures { option_map line_of result ≡ bare_line word.now }
 {
-    if word == b"rule".as_slice() {
+    if is_word(word, "rule") {
         Some(Line::Rule)
     } else {
         None
@@ -50,7 +58,7 @@ fn line_with_path(alloc: Global, word: &[u8], bytes: &[u8]) -> Result<Option<Lin
 fn line_of_word(word: &[u8], path: Vec<Turn>) -> Option<Line>
     ensures { option_map line_of result ≡ line_of_word word.now (map turn_of path.items) }
 {
-    if word == b"rule".as_slice() {
+    if is_word(word, "rule") {
         return Some(Line::RuleAt(path));
     }
     match step_in(word) {
@@ -63,23 +71,23 @@ fn line_of_word(word: &[u8], path: Vec<Turn>) -> Option<Line>
 fn step_in(word: &[u8]) -> Option<Step>
     ensures { option_map step_of result ≡ step_in word.now }
 {
-    if word == b"drop".as_slice() {
+    if is_word(word, "drop") {
         Some(Step::Drop)
-    } else if word == b"swap".as_slice() {
+    } else if is_word(word, "swap") {
         Some(Step::Swap)
-    } else if word == b"left".as_slice() {
+    } else if is_word(word, "left") {
         Some(Step::Left)
-    } else if word == b"right".as_slice() {
+    } else if is_word(word, "right") {
         Some(Step::Right)
-    } else if word == b"loosen".as_slice() {
+    } else if is_word(word, "loosen") {
         Some(Step::Loosen)
-    } else if word == b"unit".as_slice() {
+    } else if is_word(word, "unit") {
         Some(Step::Unit)
-    } else if word == b"before".as_slice() {
+    } else if is_word(word, "before") {
         Some(Step::Before)
-    } else if word == b"after".as_slice() {
+    } else if is_word(word, "after") {
         Some(Step::After)
-    } else if word == b"beside".as_slice() {
+    } else if is_word(word, "beside") {
         Some(Step::Beside)
     } else {
         None
@@ -93,7 +101,7 @@ fn path_in(alloc: Global, bytes: &[u8]) -> Result<Option<Vec<Turn>>, Memory>
     if bytes.is_empty() {
         return Ok(None);
     }
-    if bytes == b".".as_slice() {
+    if is_word(bytes, ".") {
         return Ok(Some(Vec::new(alloc)));
     }
     turns_in(alloc, bytes)

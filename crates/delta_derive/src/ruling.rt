@@ -10,22 +10,22 @@ ghost use Rattle.delta_check.specs.Counting.{counts_in};
 ghost use Rattle.bunch_rules.specs.Derivation.{hidden, learned};
 ghost use Rattle.delta_derive.specs.LineText.{turn_of};
 ghost use Rattle.delta_derive.specs.Rearranged.{then_by, part_at, put_at, with_leaf};
-ghost use Rattle.delta_derive.specs.Claims.{rule_parts, rule_parts_by, claim, of_semi, below_one, below_two};
+ghost use Rattle.delta_derive.specs.Claims.{rule_parts, rule_parts_by, claim, of_semi, let_claims, below_one, below_two};
 ghost use Rattle.delta_derive.specs.OpenTerms.{claim_of, Adds};
 
 use crate::calling::call_parts;
+use crate::jumpy::may_stand;
 use crate::leaves::{has_leaf, leaf_type, put_leaf};
 use crate::line::Turn;
-use crate::open::{OpenTerm, add, add_hidden, add_in, add_two, hidden, learned};
+use crate::open::{OpenTerm, add, add_hidden, add_hidden_two, add_in, add_part, add_two, learned};
 use crate::pasts::is_past;
-use crate::path::{part_at, put_at, stays_first};
-use crate::trees::{comma, leaf, pair, sequence, single};
-use crate::types::{is_same, is_star};
-use bunch::{Bunch, Name, copy};
+use crate::path::{part_at, put_at};
+use crate::trees::{boxed, copied, pair, sequence, single, single_beside};
+use crate::types::{is_same, is_star, may_wait};
+use bunch::{Bunch, Name};
 use core_term::{Core, Node, Term};
-use delta_check::inert;
 use std::alloc::Global;
-use stream_type::{Memory, Ty, null};
+use stream_type::{Memory, Ty};
 
 /// Adds what a rule without a path leaves to derive, and says whether it is valid: `rule_parts` in `specs/Claims.antt`.
 /// Its only error is want of memory.
@@ -75,8 +75,7 @@ fn add_sides<'a>(
     match aim.result {
         Ty::Par(s, t) => {
             let g = &aim.bunch;
-            add_two(alloc, &aim.known, g, a, s, g, b, t, parts)?;
-            Ok(true)
+            add_two(alloc, aim, g, a, s, g, b, t, parts)
         }
         _ => Ok(false),
     }
@@ -127,10 +126,7 @@ fn add_semi<'a>(
     ensures { IfOk result (Adds (of_semi (tree_of aim.now.bunch) (λ h k. Some (claim (types_of aim.now.known.items) h (term_of a.now) (type_of s.now) ∷ claim (types_of aim.now.known.items) k (term_of b.now) (type_of t.now) ∷ []))) parts.old.items parts.new.items) }
 {
     match &aim.bunch {
-        Bunch::Semi(g, h) => {
-            add_two(alloc, &aim.known, g, a, s, h, b, t, parts)?;
-            Ok(true)
-        }
+        Bunch::Semi(g, h) => add_two(alloc, aim, g, a, s, h, b, t, parts),
         _ => Ok(false),
     }
 }
@@ -145,10 +141,7 @@ fn add_left<'a>(
     ensures { IfOk result (Adds (rule_parts [] (λ _. false) (types_of aim.now.known.items) (tree_of aim.now.bunch) (inl_term (term_of a.now)) (type_of aim.now.result.now)) parts.old.items parts.new.items) }
 {
     match aim.result {
-        Ty::Sum(s, _) => {
-            add_in(alloc, &aim.known, &aim.bunch, a, s, parts)?;
-            Ok(true)
-        }
+        Ty::Sum(s, _) => { add_part(alloc, aim, a, s, parts) }
         _ => Ok(false),
     }
 }
@@ -162,10 +155,7 @@ fn add_right<'a>(
     ensures { IfOk result (Adds (rule_parts [] (λ _. false) (types_of aim.now.known.items) (tree_of aim.now.bunch) (inr_term (term_of a.now)) (type_of aim.now.result.now)) parts.old.items parts.new.items) }
 {
     match aim.result {
-        Ty::Sum(_, t) => {
-            add_in(alloc, &aim.known, &aim.bunch, a, t, parts)?;
-            Ok(true)
-        }
+        Ty::Sum(_, t) => { add_part(alloc, aim, a, t, parts) }
         _ => Ok(false),
     }
 }
@@ -187,14 +177,11 @@ fn add_let<'a>(
 {
     match part_at(&aim.bunch, path) {
         None => Ok(false),
-        Some(d) => {
-            add_bound(alloc, aim, path, d, x, s, a, b, parts)?;
-            Ok(true)
-        }
+        Some(d) => add_bound(alloc, aim, path, d, x, s, a, b, parts),
     }
 }
 
-// Adds what a let binds and its body, where the part d stands at the end of the path.
+// Adds what a let binds and its body, where the part d stands at the end of the path, and answers true.
 fn add_bound<'a>(
     alloc: Global,
     aim: &OpenTerm<'a>,
@@ -205,14 +192,13 @@ fn add_bound<'a>(
     a: &'a Node,
     b: &'a Node,
     parts: &mut Vec<OpenTerm<'a>>,
-) -> Result<(), Memory>
-    ensures { OnOk result (map claim_of parts.new.items ≡ map claim_of parts.old.items ++ claim (types_of aim.now.known.items) (tree_of d.now) (term_of a.now) (type_of s.now)
-        ∷ claim (hidden x.0 (types_of aim.now.known.items)) (put_at (map turn_of path.now) (comma (tree_of d.now) (leaf x.0 (type_of s.now))) (tree_of aim.now.bunch)) (term_of b.now) (type_of aim.now.result.now) ∷ []) }
+) -> Result<bool, Memory>
+    ensures { IfOk result (Adds (Some (let_claims (types_of aim.now.known.items) (map turn_of path.now) (tree_of d.now) (tree_of aim.now.bunch) x.0 (type_of s.now) (term_of a.now) (term_of b.now) (type_of aim.now.result.now))) parts.old.items parts.new.items) }
 {
     add_in(alloc, &aim.known, d, a, s, parts)?;
     let bunch = beside_part(alloc, &aim.bunch, path, d, x, s)?;
-    add_hidden(alloc, &aim.known, x, bunch, b, aim.result, parts)?;
-    Ok(())
+    add_hidden(alloc, aim, x, bunch, b, parts)?;
+    Ok(true)
 }
 
 // The bunch with x beside the part d at the end of the path.
@@ -223,20 +209,20 @@ fn beside_part(
     d: &Bunch,
     x: Name,
     s: &Ty,
-) -> Result<Bunch, Memory>
-    ensures { IfOk result (λ h. tree_of h ≡ put_at (map turn_of path.now) (comma (tree_of d.now) (leaf x.0 (type_of s.now))) (tree_of g.now)) }
+) -> Result<Box<Bunch>, Memory>
+    ensures { IfOk result (λ h. tree_of h.value ≡ put_at (map turn_of path.now) (comma (tree_of d.now) (leaf x.0 (type_of s.now))) (tree_of g.now)) }
 {
-    let part = comma(alloc, copy(alloc, d)?, leaf(alloc, x, s)?)?;
-    let mut bunch = copy(alloc, g)?;
+    let part = single_beside(alloc, d, x, s)?;
+    let mut bunch = copied(alloc, g)?;
     put_at(&mut bunch, path, part);
     Ok(bunch)
 }
 
 // The bunch with a part in the place of the leaf of z.
-fn with_leaf(alloc: Global, g: &Bunch, z: Name, part: Bunch) -> Result<Bunch, Memory>
-    ensures { IfOk result (λ h. tree_of h ≡ with_leaf z.0 (tree_of part) (tree_of g.now)) }
+fn with_leaf(alloc: Global, g: &Bunch, z: Name, part: Box<Bunch>) -> Result<Box<Bunch>, Memory>
+    ensures { IfOk result (λ h. tree_of h.value ≡ with_leaf z.0 (tree_of part.value) (tree_of g.now)) }
 {
-    let mut bunch = copy(alloc, g)?;
+    let mut bunch = copied(alloc, g)?;
     put_leaf(&mut bunch, z, part);
     Ok(bunch)
 }
@@ -256,7 +242,7 @@ pub fn add_parts_by<'a>(
     let node: &'a Node = aim.node;
     match &node.term {
         Term::Let(x, s, a, b) => {
-            if inert(c, a, s, marks) || stays_first(&aim.bunch, path) {
+            if may_stand(c, marks, a, s, &aim.bunch, path) {
                 add_let(alloc, aim, path, *x, s, a, b, parts)
             } else {
                 Ok(false)
@@ -266,42 +252,41 @@ pub fn add_parts_by<'a>(
     }
 }
 
-// Adds a term under two new names, with a part beside the leaf of z.
+// Adds a term under two new names, with a part beside the leaf of z, and answers true.
 fn add_under_two<'a>(
     alloc: Global,
     aim: &OpenTerm<'a>,
     x: Name,
     y: Name,
     z: Name,
-    part: Bunch,
+    part: Box<Bunch>,
     a: &'a Node,
     parts: &mut Vec<OpenTerm<'a>>,
-) -> Result<(), Memory>
-    ensures { OnOk result (map claim_of parts.new.items ≡ map claim_of parts.old.items
-        ++ claim (hidden y.0 (hidden x.0 (types_of aim.now.known.items))) (with_leaf z.0 (tree_of part) (tree_of aim.now.bunch)) (term_of a.now) (type_of aim.now.result.now) ∷ []) }
+) -> Result<bool, Memory>
+    ensures { IfOk result (Adds (Some (claim (hidden y.0 (hidden x.0 (types_of aim.now.known.items))) (with_leaf z.0 (tree_of part.value) (tree_of aim.now.bunch)) (term_of a.now) (type_of aim.now.result.now) ∷ [])) parts.old.items parts.new.items) }
 {
     let bunch = with_leaf(alloc, &aim.bunch, z, part)?;
-    let known = hidden(alloc, x, &aim.known)?;
-    add_hidden(alloc, &known, y, bunch, a, aim.result, parts)?;
-    Ok(())
+    add_hidden_two(alloc, aim, x, y, bunch, a, parts)?;
+    Ok(true)
 }
 
-// Adds a term under one new name.
-fn add_under_one<'a>(
+// Adds the branch of a case on a sum, with the name of its side beside the subject.
+fn add_branch<'a>(
     alloc: Global,
     aim: &OpenTerm<'a>,
-    x: Name,
     z: Name,
-    part: Bunch,
+    whole: &Ty,
+    x: Name,
+    s: &Ty,
     a: &'a Node,
     parts: &mut Vec<OpenTerm<'a>>,
 ) -> Result<(), Memory>
     ensures { OnOk result (map claim_of parts.new.items ≡ map claim_of parts.old.items
-        ++ claim (hidden x.0 (types_of aim.now.known.items)) (with_leaf z.0 (tree_of part) (tree_of aim.now.bunch)) (term_of a.now) (type_of aim.now.result.now) ∷ []) }
+        ++ below_one (types_of aim.now.known.items) x.0 z.0 (type_of whole.now) (leaf x.0 (type_of s.now)) (tree_of aim.now.bunch) (term_of a.now) (type_of aim.now.result.now) ∷ []) }
 {
+    let part = single(alloc, z, whole, x, s)?;
     let bunch = with_leaf(alloc, &aim.bunch, z, part)?;
-    add_hidden(alloc, &aim.known, x, bunch, a, aim.result, parts)?;
-    Ok(())
+    add_hidden(alloc, aim, x, bunch, a, parts)
 }
 
 // The names of both sides of a pair stand beside its name.
@@ -320,8 +305,7 @@ fn add_let_par<'a>(
         Some(whole) => match whole {
             Ty::Par(s, t) => {
                 let part = pair(alloc, z, whole, x, s, y, t)?;
-                add_under_two(alloc, aim, x, y, z, part, a, parts)?;
-                Ok(true)
+                add_under_two(alloc, aim, x, y, z, part, a, parts)
             }
             _ => Ok(false),
         },
@@ -345,8 +329,7 @@ fn add_let_cat<'a>(
         Some(whole) => match whole {
             Ty::Cat(s, t) => {
                 let part = sequence(alloc, z, whole, x, s, y, t)?;
-                add_under_two(alloc, aim, x, y, z, part, a, parts)?;
-                Ok(true)
+                add_under_two(alloc, aim, x, y, z, part, a, parts)
             }
             _ => Ok(false),
         },
@@ -374,8 +357,7 @@ fn add_case_sum<'a>(
                 if !is_same(r, aim.result) {
                     return Ok(false);
                 }
-                add_sum_branches(alloc, aim, z, whole, x, s, a, y, t, b, parts)?;
-                Ok(true)
+                add_sum_branches(alloc, aim, z, whole, x, s, a, y, t, b, parts)
             }
             _ => Ok(false),
         },
@@ -383,7 +365,7 @@ fn add_case_sum<'a>(
     }
 }
 
-// Adds both branches of a case on a sum.
+// Adds both branches of a case on a sum, and answers true.
 fn add_sum_branches<'a>(
     alloc: Global,
     aim: &OpenTerm<'a>,
@@ -396,16 +378,13 @@ fn add_sum_branches<'a>(
     t: &Ty,
     b: &'a Node,
     parts: &mut Vec<OpenTerm<'a>>,
-) -> Result<(), Memory>
-    ensures { OnOk result (map claim_of parts.new.items ≡ map claim_of parts.old.items
-        ++ below_one (types_of aim.now.known.items) x.0 z.0 (type_of whole.now) (leaf x.0 (type_of s.now)) (tree_of aim.now.bunch) (term_of a.now) (type_of aim.now.result.now)
-        ∷ below_one (types_of aim.now.known.items) y.0 z.0 (type_of whole.now) (leaf y.0 (type_of t.now)) (tree_of aim.now.bunch) (term_of b.now) (type_of aim.now.result.now) ∷ []) }
+) -> Result<bool, Memory>
+    ensures { IfOk result (Adds (Some (below_one (types_of aim.now.known.items) x.0 z.0 (type_of whole.now) (leaf x.0 (type_of s.now)) (tree_of aim.now.bunch) (term_of a.now) (type_of aim.now.result.now)
+        ∷ below_one (types_of aim.now.known.items) y.0 z.0 (type_of whole.now) (leaf y.0 (type_of t.now)) (tree_of aim.now.bunch) (term_of b.now) (type_of aim.now.result.now) ∷ [])) parts.old.items parts.new.items) }
 {
-    let part = single(alloc, z, whole, x, s)?;
-    add_under_one(alloc, aim, x, z, part, a, parts)?;
-    let other = single(alloc, z, whole, y, t)?;
-    add_under_one(alloc, aim, y, z, other, b, parts)?;
-    Ok(())
+    add_branch(alloc, aim, z, whole, x, s, a, parts)?;
+    add_branch(alloc, aim, z, whole, y, t, b, parts)?;
+    Ok(true)
 }
 
 // The branch of an item has the names of the item and of the rest in order beside the subject; the other one has
@@ -429,8 +408,7 @@ fn add_case_star<'a>(
                 if !is_same(r, aim.result) {
                     return Ok(false);
                 }
-                add_star_branches(alloc, aim, z, whole, a, y, s, ys, b, parts)?;
-                Ok(true)
+                add_star_branches(alloc, aim, z, whole, a, y, s, ys, b, parts)
             }
             _ => Ok(false),
         },
@@ -438,7 +416,7 @@ fn add_case_star<'a>(
     }
 }
 
-// Adds both branches of a case on a star.
+// Adds both branches of a case on a star, and answers true.
 fn add_star_branches<'a>(
     alloc: Global,
     aim: &OpenTerm<'a>,
@@ -450,15 +428,33 @@ fn add_star_branches<'a>(
     ys: Name,
     b: &'a Node,
     parts: &mut Vec<OpenTerm<'a>>,
-) -> Result<(), Memory>
-    ensures { OnOk result (map claim_of parts.new.items ≡ map claim_of parts.old.items
-        ++ claim (types_of aim.now.known.items) (tree_of aim.now.bunch) (term_of a.now) (type_of aim.now.result.now)
-        ∷ below_two (types_of aim.now.known.items) y.0 ys.0 z.0 (type_of whole.now) (semi (leaf y.0 (type_of s.now)) (leaf ys.0 (type_of whole.now))) (tree_of aim.now.bunch) (term_of b.now) (type_of aim.now.result.now) ∷ []) }
+) -> Result<bool, Memory>
+    ensures { IfOk result (Adds (Some (claim (types_of aim.now.known.items) (tree_of aim.now.bunch) (term_of a.now) (type_of aim.now.result.now)
+        ∷ below_two (types_of aim.now.known.items) y.0 ys.0 z.0 (type_of whole.now) (semi (leaf y.0 (type_of s.now)) (leaf ys.0 (type_of whole.now))) (tree_of aim.now.bunch) (term_of b.now) (type_of aim.now.result.now) ∷ [])) parts.old.items parts.new.items) }
 {
     add_in(alloc, &aim.known, &aim.bunch, a, aim.result, parts)?;
+    add_item_branch(alloc, aim, z, whole, y, s, ys, b, parts)?;
+    Ok(true)
+}
+
+// Adds the branch of an item.
+fn add_item_branch<'a>(
+    alloc: Global,
+    aim: &OpenTerm<'a>,
+    z: Name,
+    whole: &Ty,
+    y: Name,
+    s: &Ty,
+    ys: Name,
+    b: &'a Node,
+    parts: &mut Vec<OpenTerm<'a>>,
+) -> Result<(), Memory>
+    ensures { OnOk result (map claim_of parts.new.items ≡ map claim_of parts.old.items
+        ++ below_two (types_of aim.now.known.items) y.0 ys.0 z.0 (type_of whole.now) (semi (leaf y.0 (type_of s.now)) (leaf ys.0 (type_of whole.now))) (tree_of aim.now.bunch) (term_of b.now) (type_of aim.now.result.now) ∷ []) }
+{
     let part = sequence(alloc, z, whole, y, s, ys, whole)?;
-    add_under_two(alloc, aim, y, ys, z, part, b, parts)?;
-    Ok(())
+    let bunch = with_leaf(alloc, &aim.bunch, z, part)?;
+    add_hidden_two(alloc, aim, y, ys, bunch, b, parts)
 }
 
 // A name that is waited for leaves the bunch and is known.
@@ -474,17 +470,25 @@ fn add_wait<'a>(
 {
     match leaf_type(&aim.bunch, x) {
         Some(t) => {
-            if null(t) || !is_same(r, aim.result) {
-                return Ok(false);
+            if may_wait(t, r, aim.result) {
+                add_known(alloc, aim, x, t, a, parts)
+            } else {
+                Ok(false)
             }
-            add_known(alloc, aim, x, t, a, parts)?;
-            Ok(true)
         }
         None => Ok(false),
     }
 }
 
-// Adds a term where x is known and has left the bunch.
+// The bunch with nothing in the place of the leaf of x.
+fn without(alloc: Global, g: &Bunch, x: Name) -> Result<Box<Bunch>, Memory>
+    ensures { IfOk result (λ h. tree_of h.value ≡ with_leaf x.0 empty (tree_of g.now)) }
+{
+    let nothing = boxed(alloc, Bunch::Empty)?;
+    with_leaf(alloc, g, x, nothing)
+}
+
+// Adds a term where x is known and has left the bunch, and answers true.
 fn add_known<'a>(
     alloc: Global,
     aim: &OpenTerm<'a>,
@@ -492,12 +496,11 @@ fn add_known<'a>(
     t: &Ty,
     a: &'a Node,
     parts: &mut Vec<OpenTerm<'a>>,
-) -> Result<(), Memory>
-    ensures { OnOk result (map claim_of parts.new.items ≡ map claim_of parts.old.items
-        ++ claim (learned x.0 (type_of t.now) (types_of aim.now.known.items)) (with_leaf x.0 empty (tree_of aim.now.bunch)) (term_of a.now) (type_of aim.now.result.now) ∷ []) }
+) -> Result<bool, Memory>
+    ensures { IfOk result (Adds (Some (claim (learned x.0 (type_of t.now) (types_of aim.now.known.items)) (with_leaf x.0 empty (tree_of aim.now.bunch)) (term_of a.now) (type_of aim.now.result.now) ∷ [])) parts.old.items parts.new.items) }
 {
-    let bunch = with_leaf(alloc, &aim.bunch, x, Bunch::Empty)?;
+    let bunch = without(alloc, &aim.bunch, x)?;
     let known = learned(alloc, x, t, &aim.known)?;
     add(known, bunch, a, aim.result, parts)?;
-    Ok(())
+    Ok(true)
 }

@@ -1,13 +1,14 @@
 //! Steps that rearrange a bunch in its place.
 
 ghost use Rattle.std.specs.Prelude.{◌≡◌, map, option_map, IfOk};
-ghost use Rattle.bunch.specs.BunchTree.{tree_of};
+ghost use Rattle.bunch.specs.BunchTree.{tree_of, empty};
 ghost use Rattle.core_term.specs.TypeFaults.{found_where};
 ghost use Rattle.bunch_rules.specs.Rearranging.{left_step, right_step, loosen_step, unit_step, swap_step, before_step, after_step, beside_step};
 ghost use Rattle.delta_derive.specs.LineText.{turn_of, step_of};
 ghost use Rattle.delta_derive.specs.Rearranged.{stepped, rearranged, commas_left, semis_left, commas_right, semis_right, is_empty, only_side};
 
 use crate::line::{Step, Turn};
+use crate::trees::{boxed, comma, semi};
 use bunch::Bunch;
 use std::alloc::Global;
 use std::mem;
@@ -43,7 +44,7 @@ fn take_step(alloc: Global, b: &mut Bunch, step: Step) -> Result<bool, Memory>
     match stepped(alloc, part, step)? {
         None => Ok(false),
         Some(changed) => {
-            *b = changed;
+            drop(mem::replace(b, changed));
             Ok(true)
         }
     }
@@ -54,7 +55,7 @@ fn stepped(alloc: Global, b: Bunch, step: Step) -> Result<Option<Bunch>, Memory>
     ensures { IfOk result (λ o. option_map tree_of o ≡ stepped (step_of step) (tree_of b)) }
 {
     match step {
-        Step::Drop => Ok(Some(Bunch::Empty)),
+        Step::Drop => Ok(Some(emptied(b))),
         Step::Swap => Ok(swapped(b)),
         Step::Left => grouped_left(alloc, b),
         Step::Right => grouped_right(alloc, b),
@@ -66,13 +67,24 @@ fn stepped(alloc: Global, b: Bunch, step: Step) -> Result<Option<Bunch>, Memory>
     }
 }
 
+// Anything is dropped.
+fn emptied(b: Bunch) -> Bunch
+    ensures { tree_of result ≡ empty }
+{
+    drop(b);
+    Bunch::Empty
+}
+
 // The sides of a comma change places.
 fn swapped(b: Bunch) -> Option<Bunch>
     ensures { option_map tree_of result ≡ stepped swap_step (tree_of b) }
 {
     match b {
         Bunch::Comma(b, c) => Some(Bunch::Comma(c, b)),
-        _ => None,
+        other => {
+            drop(other);
+            None
+        }
     }
 }
 
@@ -82,7 +94,10 @@ fn loosened(b: Bunch) -> Option<Bunch>
 {
     match b {
         Bunch::Semi(b, c) => Some(Bunch::Comma(b, c)),
-        _ => None,
+        other => {
+            drop(other);
+            None
+        }
     }
 }
 
@@ -91,27 +106,36 @@ fn grouped_left(alloc: Global, b: Bunch) -> Result<Option<Bunch>, Memory>
     ensures { IfOk result (λ o. option_map tree_of o ≡ stepped left_step (tree_of b)) }
 {
     match b {
-        Bunch::Comma(b, c) => commas_left(alloc, b, Box::into_inner(c)),
-        Bunch::Semi(b, c) => semis_left(alloc, b, Box::into_inner(c)),
-        _ => Ok(None),
+        Bunch::Comma(b, c) => commas_left(alloc, b, c),
+        Bunch::Semi(b, c) => semis_left(alloc, b, c),
+        other => {
+            drop(other);
+            Ok(None)
+        }
     }
 }
 
-fn commas_left(alloc: Global, b: Box<Bunch>, c: Bunch) -> Result<Option<Bunch>, Memory>
-    ensures { IfOk result (λ o. option_map tree_of o ≡ commas_left (tree_of b.value) (tree_of c)) }
+fn commas_left(alloc: Global, b: Box<Bunch>, c: Box<Bunch>) -> Result<Option<Bunch>, Memory>
+    ensures { IfOk result (λ o. option_map tree_of o ≡ commas_left (tree_of b.value) (tree_of c.value)) }
 {
-    match c {
-        Bunch::Comma(c, d) => Ok(Some(Bunch::Comma(Box::new(alloc, Bunch::Comma(b, c))?, d))),
-        _ => Ok(None),
+    match Box::into_inner(c) {
+        Bunch::Comma(c, d) => Ok(Some(Bunch::Comma(comma(alloc, b, c)?, d))),
+        other => {
+            drop(other);
+            Ok(None)
+        }
     }
 }
 
-fn semis_left(alloc: Global, b: Box<Bunch>, c: Bunch) -> Result<Option<Bunch>, Memory>
-    ensures { IfOk result (λ o. option_map tree_of o ≡ semis_left (tree_of b.value) (tree_of c)) }
+fn semis_left(alloc: Global, b: Box<Bunch>, c: Box<Bunch>) -> Result<Option<Bunch>, Memory>
+    ensures { IfOk result (λ o. option_map tree_of o ≡ semis_left (tree_of b.value) (tree_of c.value)) }
 {
-    match c {
-        Bunch::Semi(c, d) => Ok(Some(Bunch::Semi(Box::new(alloc, Bunch::Semi(b, c))?, d))),
-        _ => Ok(None),
+    match Box::into_inner(c) {
+        Bunch::Semi(c, d) => Ok(Some(Bunch::Semi(semi(alloc, b, c)?, d))),
+        other => {
+            drop(other);
+            Ok(None)
+        }
     }
 }
 
@@ -120,27 +144,36 @@ fn grouped_right(alloc: Global, b: Bunch) -> Result<Option<Bunch>, Memory>
     ensures { IfOk result (λ o. option_map tree_of o ≡ stepped right_step (tree_of b)) }
 {
     match b {
-        Bunch::Comma(b, c) => commas_right(alloc, Box::into_inner(b), c),
-        Bunch::Semi(b, c) => semis_right(alloc, Box::into_inner(b), c),
-        _ => Ok(None),
+        Bunch::Comma(b, c) => commas_right(alloc, b, c),
+        Bunch::Semi(b, c) => semis_right(alloc, b, c),
+        other => {
+            drop(other);
+            Ok(None)
+        }
     }
 }
 
-fn commas_right(alloc: Global, b: Bunch, d: Box<Bunch>) -> Result<Option<Bunch>, Memory>
-    ensures { IfOk result (λ o. option_map tree_of o ≡ commas_right (tree_of b) (tree_of d.value)) }
+fn commas_right(alloc: Global, b: Box<Bunch>, d: Box<Bunch>) -> Result<Option<Bunch>, Memory>
+    ensures { IfOk result (λ o. option_map tree_of o ≡ commas_right (tree_of b.value) (tree_of d.value)) }
 {
-    match b {
-        Bunch::Comma(b, c) => Ok(Some(Bunch::Comma(b, Box::new(alloc, Bunch::Comma(c, d))?))),
-        _ => Ok(None),
+    match Box::into_inner(b) {
+        Bunch::Comma(b, c) => Ok(Some(Bunch::Comma(b, comma(alloc, c, d)?))),
+        other => {
+            drop(other);
+            Ok(None)
+        }
     }
 }
 
-fn semis_right(alloc: Global, b: Bunch, d: Box<Bunch>) -> Result<Option<Bunch>, Memory>
-    ensures { IfOk result (λ o. option_map tree_of o ≡ semis_right (tree_of b) (tree_of d.value)) }
+fn semis_right(alloc: Global, b: Box<Bunch>, d: Box<Bunch>) -> Result<Option<Bunch>, Memory>
+    ensures { IfOk result (λ o. option_map tree_of o ≡ semis_right (tree_of b.value) (tree_of d.value)) }
 {
-    match b {
-        Bunch::Semi(b, c) => Ok(Some(Bunch::Semi(b, Box::new(alloc, Bunch::Semi(c, d))?))),
-        _ => Ok(None),
+    match Box::into_inner(b) {
+        Bunch::Semi(b, c) => Ok(Some(Bunch::Semi(b, semi(alloc, c, d)?))),
+        other => {
+            drop(other);
+            Ok(None)
+        }
     }
 }
 
@@ -149,19 +182,22 @@ fn without_unit(b: Bunch) -> Option<Bunch>
     ensures { option_map tree_of result ≡ stepped unit_step (tree_of b) }
 {
     match b {
-        Bunch::Comma(b, c) | Bunch::Semi(b, c) => only_side(Box::into_inner(b), Box::into_inner(c)),
-        _ => None,
+        Bunch::Comma(b, c) | Bunch::Semi(b, c) => only_side(b, c),
+        other => {
+            drop(other);
+            None
+        }
     }
 }
 
 // The side beside an empty one; the right one where both are empty.
-fn only_side(b: Bunch, c: Bunch) -> Option<Bunch>
-    ensures { option_map tree_of result ≡ only_side (tree_of b) (tree_of c) }
+fn only_side(b: Box<Bunch>, c: Box<Bunch>) -> Option<Bunch>
+    ensures { option_map tree_of result ≡ only_side (tree_of b.value) (tree_of c.value) }
 {
     if is_empty(&b) {
-        Some(c)
+        Some(Box::into_inner(c))
     } else if is_empty(&c) {
-        Some(b)
+        Some(Box::into_inner(b))
     } else {
         None
     }
@@ -180,22 +216,22 @@ fn is_empty(b: &Bunch) -> bool
 fn after_empty(alloc: Global, b: Bunch) -> Result<Option<Bunch>, Memory>
     ensures { IfOk result (λ o. option_map tree_of o ≡ stepped before_step (tree_of b)) }
 {
-    let b = Box::new(alloc, b)?;
-    Ok(Some(Bunch::Semi(Box::new(alloc, Bunch::Empty)?, b)))
+    let b = boxed(alloc, b)?;
+    Ok(Some(Bunch::Semi(boxed(alloc, Bunch::Empty)?, b)))
 }
 
 // after it,
 fn before_empty(alloc: Global, b: Bunch) -> Result<Option<Bunch>, Memory>
     ensures { IfOk result (λ o. option_map tree_of o ≡ stepped after_step (tree_of b)) }
 {
-    let b = Box::new(alloc, b)?;
-    Ok(Some(Bunch::Semi(b, Box::new(alloc, Bunch::Empty)?)))
+    let b = boxed(alloc, b)?;
+    Ok(Some(Bunch::Semi(b, boxed(alloc, Bunch::Empty)?)))
 }
 
 // or beside it.
 fn beside_empty(alloc: Global, b: Bunch) -> Result<Option<Bunch>, Memory>
     ensures { IfOk result (λ o. option_map tree_of o ≡ stepped beside_step (tree_of b)) }
 {
-    let b = Box::new(alloc, b)?;
-    Ok(Some(Bunch::Comma(b, Box::new(alloc, Bunch::Empty)?)))
+    let b = boxed(alloc, b)?;
+    Ok(Some(Bunch::Comma(b, boxed(alloc, Bunch::Empty)?)))
 }

@@ -1,10 +1,11 @@
 -- What is said of each text with this core.
+use borrow.Author.Tests.{ltb-true, ltb-false}
 use Rattle.std.proofs.Common.{arith}
 use Rattle.command_derive.proofs.Faults.{too_long}
 use Rattle.command_derive.proofs.derivation.derive_core.Goals as goal
 
-pub returns-then-proof-gt1048576 : goal.returns-then-proof-gt1048576
-returns-then-proof-gt1048576 c text elaborated = c.too_long.ensures _ _ (too_long _ c.args.proof.now (omega arith)) text elaborated
+pub returns-then-is_long : goal.returns-then-is_long
+returns-then-is_long c text elaborated = c.too_long.ensures _ _ (too_long _ c.args.proof.now (omega (arith, ltb-true))) text elaborated
 
 pub returns-in-Err : goal.returns-in-Err
-returns-in-Err c text elaborated = c.end_of.ensures _ _ (omega arith) c.in-Err.ensures.invalid c.in-Err.ensures.first text elaborated
+returns-in-Err c text elaborated = c.end_of.ensures _ _ (omega (arith, ltb-false)) c.in-Err.ensures.invalid c.in-Err.ensures.first text elaborated

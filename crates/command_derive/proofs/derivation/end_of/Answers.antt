@@ -1,10 +1,13 @@
 -- A fault of a derivation is told by its name, at its line.
-use Rattle.std.proofs.Common.{subst}
+use Rattle.std.proofs.Common.{rules, subst}
 use Rattle.delta_derive.specs.declared.fault.DeriveFault.{DeriveFault}
 use Rattle.delta_derive.specs.FirstFault.{first_fault, IsValidText, TellsFirst, Denies}
 use Rattle.delta_end.specs.declared.objection.DerivationName.TheVariants as name
 use Rattle.command_derive.proofs.Faults.{refutes}
 use Rattle.command_derive.proofs.derivation.end_of.Goals as goal
+
+pub returns-in-Memory : goal.returns-in-Memory
+returns-in-Memory c = search rules
 
 pub returns-in-BadLine : goal.returns-in-BadLine
 returns-in-BadLine c core proof short denies first text elaborated =

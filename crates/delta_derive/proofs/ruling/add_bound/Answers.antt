@@ -1,5 +1,6 @@
 -- First what the name is bound to, and then the body.
 use Rattle.std.proofs.Common.{◌∙◌, ◌∷◌, [], ◌++◌, ap, map}
+use Rattle.std.specs.Prelude.{Some}
 use Rattle.stream_type.specs.StreamType.{type_of}
 use Rattle.bunch.specs.BunchTree.{tree_of, comma, leaf}
 use Rattle.hist_value.specs.Environment.{types_of}
@@ -21,7 +22,7 @@ returns c =
     let b = term_of c.args.b.now in
     let r = type_of c.args.aim.now.result.now in
     let middle = map claim_of c.add_in.new.parts.items in
-    two_added (map claim_of c.args.parts.now.items) middle (map claim_of c.add_hidden.new.parts.items)
+    ap Some (two_added (map claim_of c.args.parts.now.items) middle (map claim_of c.add_hidden.new.parts.items)
     (claim known d (term_of c.args.a.now) s) (claim under (put_at (map turn_of c.args.path.now) (comma d (leaf c.args.x.0 s)) (tree_of c.args.aim.now.bunch)) b r)
     (rw c.deref.ensures.value at c.in_ok-add_in.ensures)
-    ((rw c.deref-2.ensures.value at c.in_ok-add_hidden.ensures) ∙ ap (λ g. middle ++ claim under g b r ∷ []) c.in_ok-bunch.ensures)
+    (c.in_ok-add_hidden.ensures ∙ ap (λ g. middle ++ claim under g b r ∷ []) c.in_ok-bunch.ensures))
