@@ -9,6 +9,7 @@ ghost use Rattle.delta_step.specs.Marked.{code_in};
 ghost use Rattle.machine_parts.specs.Entry.{entry_in};
 ghost use Rattle.delta_step.specs.Reached.{run_of, rest_of};
 
+use crate::boxes::state_boxed;
 use crate::copying::copy_code;
 use crate::marked::{Code, Marked};
 use crate::reached::Reached;
@@ -35,7 +36,7 @@ pub fn sum_waits(
     ensures rest { IfOk result (λ a. rest_of a ≡ sum_state z.0 (type_of t.now) (map entry_in held.items) x.0 (code_in one) y.0 (code_in two)) }
 {
     let ty = stream_type::copy(alloc, t)?;
-    let state = Box::new(alloc, Marked::CaseSum(z, ty, held, x, one, y, two))?;
+    let state = state_boxed(alloc, Marked::CaseSum(z, ty, held, x, one, y, two))?;
     waiting(alloc, r, state)
 }
 
@@ -57,7 +58,7 @@ pub fn star_waits(
     ensures rest { IfOk result (λ a. rest_of a ≡ star_state z.0 (type_of t.now) (map entry_in held.items) (code_in one) y.0 ys.0 (code_in two)) }
 {
     let ty = stream_type::copy(alloc, t)?;
-    let state = Box::new(alloc, Marked::CaseStar(z, ty, held, one, y, ys, two))?;
+    let state = state_boxed(alloc, Marked::CaseStar(z, ty, held, one, y, ys, two))?;
     waiting(alloc, r, state)
 }
 
@@ -75,7 +76,7 @@ pub fn subject_waits(
     ensures rest { IfOk result (λ a. rest_of a ≡ wait_state x.0 (type_of t.now) (map entry_in held.items) (code_in code)) }
 {
     let ty = stream_type::copy(alloc, t)?;
-    let state = Box::new(alloc, Marked::Wait(x, ty, held, code))?;
+    let state = state_boxed(alloc, Marked::Wait(x, ty, held, code))?;
     waiting(alloc, r, state)
 }
 
