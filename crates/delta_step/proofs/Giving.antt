@@ -1,6 +1,6 @@
 -- What a form gives, by what its parts gave: one lemma for a form with one part, one for a form with two, and one for
 -- a form whose part stops.
-use Rattle.std.proofs.Common.{ℕ, ◌≡◌, ◌<◌, ◌≤◌, refl, sym, ap, ap₂, subst, ◌∙◌, IfOk, IfErr, Ok, Err, arith}
+use Rattle.std.proofs.Common.{ℕ, ◌≡◌, ◌<◌, ◌≤◌, sym, ap, subst, IfOk, Ok, Err}
 use Rattle.std.specs.Prelude.{Result}
 use Rattle.stream_type.specs.declared.memory.Memory.{Memory as Refused}
 use Rattle.core_term.specs.Run.{Run, Runs}

@@ -1,6 +1,6 @@
 -- What an argument and the others give, and where one of the others stops.
-use Rattle.std.proofs.Common.{ℕ, ◌≡◌, ◌+◌, ◌<◌, ◌≤◌, ◌||◌, Bool, true, false, refl, sym, ap, subst, ◌∙◌, ◌-◌, Err, arith}
-use Rattle.stream_prefix.specs.StreamPrefix.{StreamPrefix, is_maximal, der}
+use Rattle.std.proofs.Common.{subst, arith}
+use Rattle.stream_prefix.specs.StreamPrefix.{der}
 use Rattle.stream_prefix.specs.Tree.{prefix_of}
 use Rattle.stream_type.specs.StreamType.{type_of}
 use Rattle.core_term.specs.Run.{Run, run_before}

@@ -1,5 +1,5 @@
 -- The body is one call more.
-use Rattle.std.proofs.Common.{ℕ, ◌≡◌, ◌+◌, ◌<◌, ◌≤◌, ◌||◌, Bool, true, false, refl, sym, ap, subst, ◌∙◌, ◌-◌, Err, arith}
+use Rattle.std.proofs.Common.{ap, subst, ◌∙◌, arith}
 use Rattle.std.specs.Prelude.{Result}
 use Rattle.core_term.specs.Run.{one_call}
 use Rattle.machine_parts.specs.declared.stop.Stop.{Stop}

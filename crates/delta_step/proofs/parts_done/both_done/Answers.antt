@@ -1,5 +1,5 @@
 -- What both parts give, and where the second stops.
-use Rattle.std.proofs.Common.{ℕ, ◌≡◌, ◌+◌, ◌<◌, ◌≤◌, arith}
+use Rattle.std.proofs.Common.{arith}
 use Rattle.core_term.specs.Run.{par_run}
 use Rattle.delta_state.specs.StateTree.{par_state}
 use Rattle.delta_step.proofs.Giving.{as_many, two_parts, part_stops}

@@ -1,5 +1,5 @@
 -- What the arguments and the body give, and where the body stops.
-use Rattle.std.proofs.Common.{ℕ, ◌≡◌, ◌+◌, ◌<◌, ◌≤◌, ◌||◌, Bool, true, false, refl, sym, ap, subst, ◌∙◌, ◌-◌, Err, arith}
+use Rattle.std.proofs.Common.{◌≡◌, refl, subst, ◌-◌, arith}
 use Rattle.core_term.specs.Run.{Runs, call_run}
 use Rattle.delta_state.specs.StateTree.{frame_state}
 use Rattle.machine_parts.specs.Levels.{below}

@@ -1,6 +1,6 @@
 -- What the head and the body give, and where the body stops.
-use Rattle.std.proofs.Common.{ℕ, ◌≡◌, ◌+◌, ◌<◌, ◌≤◌, ◌||◌, Bool, true, false, refl, sym, ap, subst, ◌∙◌, ◌-◌, Err, arith}
-use Rattle.stream_prefix.specs.StreamPrefix.{StreamPrefix, is_maximal, der}
+use Rattle.std.proofs.Common.{◌≡◌, ◌||◌, refl, subst, ◌-◌, arith}
+use Rattle.stream_prefix.specs.StreamPrefix.{is_maximal, der}
 use Rattle.stream_prefix.specs.Tree.{prefix_of}
 use Rattle.stream_type.specs.StreamType.{type_of}
 use Rattle.core_term.specs.Run.{Run, let_run}

@@ -1,9 +1,7 @@
 -- What both parts give, since the first is whole, and where the second stops.
-use Rattle.std.proofs.Common.{ℕ, ◌≡◌, ◌+◌, ◌<◌, ◌≤◌, ◌||◌, Bool, true, false, refl, sym, ap, subst, ◌∙◌, ◌-◌, Err, arith}
-use Rattle.core_term.specs.Run.{cat_run, cat_run_at}
-use Rattle.delta_state.specs.StateTree.{StateTree}
+use Rattle.std.proofs.Common.{Bool, true, sym, subst, Err, arith}
+use Rattle.core_term.specs.Run.{cat_run_at}
 use Rattle.delta_step.specs.Gives.{Gives}
-use Rattle.stream_prefix.specs.StreamPrefix.{is_maximal}
 use Rattle.delta_step.proofs.Giving.{as_many, two_parts, part_stops}
 use Rattle.delta_step.proofs.parts_done.turn_done.Goals as goal
 

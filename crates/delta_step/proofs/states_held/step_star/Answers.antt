@@ -1,5 +1,5 @@
 -- The branch of the end or of an item runs on what was held and what comes.
-use Rattle.std.proofs.Common.{ℕ, ◌≤◌, arith, rules}
+use Rattle.std.proofs.Common.{arith, rules}
 use Rattle.machine_parts.proofs.HeldAndComing.{held_forms}
 use Rattle.delta_step.proofs.FirstParts.{gives_of, same_gives}
 use Rattle.delta_step.proofs.states_held.step_star.Goals as goal

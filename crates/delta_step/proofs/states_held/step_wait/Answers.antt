@@ -1,8 +1,8 @@
 -- What follows runs on what was held and what comes, once the subject is whole.
-use Rattle.std.proofs.Common.{ℕ, ◌≤◌, arith, rules}
+use Rattle.std.proofs.Common.{arith, rules}
 use Rattle.machine_parts.proofs.HeldAndComing.{held_forms}
 use Rattle.machine_parts.proofs.Runs.{waits}
-use Rattle.delta_step.proofs.FirstParts.{gives_of, same_gives}
+use Rattle.delta_step.proofs.FirstParts.{same_gives}
 use Rattle.delta_step.proofs.states_held.step_wait.Goals as goal
 
 pub returns-then-is_over : goal.returns-then-is_over

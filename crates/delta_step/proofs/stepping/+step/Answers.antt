@@ -1,28 +1,27 @@
 -- What each form gives, by what its parts give.
-use Rattle.std.proofs.Common.{◌≡◌, ◌-◌, ◌+◌, ◌<◌, ◌≤◌, ◌||◌, Bool, true, false, List, map, sym, refl, ap, ap₂, ◌∙◌, subst, arith, rules, Ok, Err}
+use Rattle.std.proofs.Common.{◌≡◌, ◌-◌, ◌≤◌, ◌||◌, true, false, List, map, sym, ap, ap₂, ◌∙◌, subst, arith, rules}
 use Rattle.stream_type.specs.StreamType.{type_of}
 use Rattle.stream_prefix.specs.declared.prefix.Prefix.{Prefix}
-use Rattle.stream_prefix.specs.StreamPrefix.{StreamPrefix, is_maximal, der}
+use Rattle.stream_prefix.specs.StreamPrefix.{StreamPrefix, is_maximal}
 use Rattle.stream_prefix.specs.Tree.{prefix_of}
 use Rattle.bunch.specs.Names.{put}
 use Rattle.core_term.specs.Run.{Run}
 use Rattle.core_term.specs.Parts.{cat_first, cat_second}
-use Rattle.delta_state.specs.StateTree.{StateTree, is_var_state, par_state, cat_state, let_state, let_par_state, let_cat_state, frame_state}
+use Rattle.delta_state.specs.StateTree.{is_var_state, par_state, cat_state, let_state, let_par_state, let_cat_state, frame_state}
 use Rattle.delta_state.specs.StateMeaning.{run_state, run_later}
 use Rattle.delta_state.specs.Rest.{rest_of}
 use Rattle.delta_step.specs.declared.marked.Marked.{Marked}
 use Rattle.machine_parts.specs.declared.entry.Entry.{Entry}
-use Rattle.delta_step.specs.declared.reached.Reached.{Reached}
 use Rattle.delta_step.specs.Marked.{state_in, code_in, arguments_from}
 use Rattle.machine_parts.specs.Entry.{entry_in}
 use Rattle.machine_parts.specs.Scope.{types_in, streams_in}
-use Rattle.delta_step.specs.Reached.{run_of, runs_of}
-use Rattle.delta_step.specs.Gives.{Gives, GivesAll}
-use Rattle.delta_step.specs.Steps.{funs_in, state_run, state_rest}
+use Rattle.delta_step.specs.Reached.{runs_of}
+use Rattle.delta_step.specs.Gives.{Gives}
+use Rattle.delta_step.specs.Steps.{funs_in, state_run}
 use Rattle.machine_parts.specs.Parameters.{parameters}
 use Rattle.machine_parts.proofs.Runs.{cat_spent_first}
 use Rattle.machine_parts.proofs.HeldAndComing.{body_runs, body_rests}
-use Rattle.machine_parts.proofs.Deeper.{cat_deep_first, let_deep_head, frame_deep_arguments}
+use Rattle.machine_parts.proofs.Deeper.{cat_deep_first, let_deep_head}
 use Rattle.machine_parts.specs.Levels.{below}
 use Rattle.delta_step.proofs.Rows.{rows}
 use Rattle.delta_step.proofs.FirstParts.{gives_of, same_gives, same_gives_all, part_ends, turn_waits, turn_goes}
