@@ -55,8 +55,8 @@ pub fn step_alone<'a>(
     ensures deep { IfErr result (λ e. e ≡ Stop.Deep → levels < (state_run core.now scope.now (state_in s.now) (type_of r.now)).level) }
 {
     match s {
-        Marked::Sink(t) => Ok(sunk(alloc, t)?),
-        Marked::Var(x) => Ok(named(alloc, scope, *x)?),
+        Marked::Sink(t) => made(sunk(alloc, t)),
+        Marked::Var(x) => made(named(alloc, scope, *x)),
         Marked::CaseSum(z, t, held, x, l, y, m) => {
             step_sum(
                 alloc, core, scope, *z, t, held, *x, l, *y, m, r, left, levels,

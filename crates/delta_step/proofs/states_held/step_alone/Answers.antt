@@ -1,13 +1,25 @@
 -- What stands in a state is what its tree has.
-use Rattle.std.proofs.Common.{◌≡◌, List, map, sym, ap, ◌∙◌, subst}
+use Rattle.std.proofs.Common.{◌≡◌, List, map, sym, ap, ◌∙◌, subst, arith}
 use Rattle.stream_type.specs.StreamType.{type_of}
-use Rattle.delta_state.specs.StateTree.{StateTree, sum_state, star_state, wait_state}
+use Rattle.delta_state.specs.StateTree.{StateTree, sink, var_state, sum_state, star_state, wait_state}
 use Rattle.machine_parts.specs.declared.entry.Entry.{Entry}
 use Rattle.delta_step.specs.Marked.{state_in, code_in}
 use Rattle.machine_parts.specs.Entry.{entry_in}
 use Rattle.delta_step.specs.Gives.{Gives}
 use Rattle.delta_step.specs.Steps.{state_run, state_rest}
 use Rattle.delta_step.proofs.states_held.step_alone.Goals as goal
+
+pub returns-in-Sink : goal.returns-in-Sink
+returns-in-Sink c =
+    let is : state_in c.args.s.now ≡ sink (type_of c.in-Sink.t) = ap state_in c.in-Sink.is in
+    let e = subst (λ (x : StateTree). Gives c.made.result (state_run c.args.core.now c.args.scope.now x (type_of c.args.r.now)) (state_rest c.args.core.now c.args.scope.now x (type_of c.args.r.now)) c.args.left c.args.levels) (sym is) (c.made.ensures _ _ _ _ c.sunk.ensures.run c.sunk.ensures.rest (omega arith) (omega arith)) in
+    record { run = e.run; rest = e.rest; counted = e.counted; shallow = e.shallow; spent = e.spent; deep = e.deep }
+
+pub returns-in-Var : goal.returns-in-Var
+returns-in-Var c =
+    let is : state_in c.args.s.now ≡ var_state c.in-Var.x.0 = ap state_in c.in-Var.is in
+    let e = subst (λ (x : StateTree). Gives c.made-in-Var.result (state_run c.args.core.now c.args.scope.now x (type_of c.args.r.now)) (state_rest c.args.core.now c.args.scope.now x (type_of c.args.r.now)) c.args.left c.args.levels) (sym is) (c.made-in-Var.ensures _ _ _ _ c.named.ensures.run c.named.ensures.rest (omega arith) (omega arith)) in
+    record { run = e.run; rest = e.rest; counted = e.counted; shallow = e.shallow; spent = e.spent; deep = e.deep }
 
 pub returns-in-CaseSum : goal.returns-in-CaseSum
 returns-in-CaseSum c =
