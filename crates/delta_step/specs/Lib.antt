@@ -1,4 +1,5 @@
 -- What the contracts cite.
+pub mod Gives
 pub mod Marked
 pub mod Reached
 pub mod Steps

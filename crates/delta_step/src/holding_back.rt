@@ -9,6 +9,8 @@ ghost use Rattle.delta_step.specs.Marked.{code_in};
 ghost use Rattle.machine_parts.specs.Entry.{entry_in};
 ghost use Rattle.delta_step.specs.Reached.{run_of, rest_of};
 
+use crate::boxes::state_boxed;
+use crate::copying::copy_code;
 use crate::marked::{Code, Marked};
 use crate::reached::Reached;
 use crate::without_calls::waiting;
@@ -34,7 +36,7 @@ pub fn sum_waits(
     ensures rest { IfOk result (λ a. rest_of a ≡ sum_state z.0 (type_of t.now) (map entry_in held.items) x.0 (code_in one) y.0 (code_in two)) }
 {
     let ty = stream_type::copy(alloc, t)?;
-    let state = Box::new(alloc, Marked::CaseSum(z, ty, held, x, one, y, two))?;
+    let state = state_boxed(alloc, Marked::CaseSum(z, ty, held, x, one, y, two))?;
     waiting(alloc, r, state)
 }
 
@@ -56,7 +58,7 @@ pub fn star_waits(
     ensures rest { IfOk result (λ a. rest_of a ≡ star_state z.0 (type_of t.now) (map entry_in held.items) (code_in one) y.0 ys.0 (code_in two)) }
 {
     let ty = stream_type::copy(alloc, t)?;
-    let state = Box::new(alloc, Marked::CaseStar(z, ty, held, one, y, ys, two))?;
+    let state = state_boxed(alloc, Marked::CaseStar(z, ty, held, one, y, ys, two))?;
     waiting(alloc, r, state)
 }
 
@@ -74,6 +76,65 @@ pub fn subject_waits(
     ensures rest { IfOk result (λ a. rest_of a ≡ wait_state x.0 (type_of t.now) (map entry_in held.items) (code_in code)) }
 {
     let ty = stream_type::copy(alloc, t)?;
-    let state = Box::new(alloc, Marked::Wait(x, ty, held, code))?;
+    let state = state_boxed(alloc, Marked::Wait(x, ty, held, code))?;
     waiting(alloc, r, state)
+}
+
+/// A case on a sum, with code in it as before. Its only error is want of memory.
+#[inline(never)]
+pub fn sum_holds(
+    alloc: Global,
+    z: Name,
+    t: &Ty,
+    held: Vec<Entry>,
+    x: Name,
+    one: &Code,
+    y: Name,
+    two: &Code,
+    r: &Ty,
+) -> Result<Reached, Memory>
+    ensures run { IfOk result (λ a. run_of a ≡ quiet (emp (type_of r.now))) }
+    ensures rest { IfOk result (λ a. rest_of a ≡ sum_state z.0 (type_of t.now) (map entry_in held.items) x.0 (code_in one.now) y.0 (code_in two.now)) }
+{
+    let one = copy_code(alloc, one)?;
+    let two = copy_code(alloc, two)?;
+    sum_waits(alloc, z, t, held, x, one, y, two, r)
+}
+
+/// A case on a star, with code in it as before. Its only error is want of memory.
+#[inline(never)]
+pub fn star_holds(
+    alloc: Global,
+    z: Name,
+    t: &Ty,
+    held: Vec<Entry>,
+    one: &Code,
+    y: Name,
+    ys: Name,
+    two: &Code,
+    r: &Ty,
+) -> Result<Reached, Memory>
+    ensures run { IfOk result (λ a. run_of a ≡ quiet (emp (type_of r.now))) }
+    ensures rest { IfOk result (λ a. rest_of a ≡ star_state z.0 (type_of t.now) (map entry_in held.items) (code_in one.now) y.0 ys.0 (code_in two.now)) }
+{
+    let one = copy_code(alloc, one)?;
+    let two = copy_code(alloc, two)?;
+    star_waits(alloc, z, t, held, one, y, ys, two, r)
+}
+
+/// A wait, with code in it as before. Its only error is want of memory.
+#[inline(never)]
+pub fn wait_holds(
+    alloc: Global,
+    x: Name,
+    t: &Ty,
+    held: Vec<Entry>,
+    code: &Code,
+    r: &Ty,
+) -> Result<Reached, Memory>
+    ensures run { IfOk result (λ a. run_of a ≡ quiet (emp (type_of r.now))) }
+    ensures rest { IfOk result (λ a. rest_of a ≡ wait_state x.0 (type_of t.now) (map entry_in held.items) (code_in code.now)) }
+{
+    let code = copy_code(alloc, code)?;
+    subject_waits(alloc, x, t, held, code, r)
 }

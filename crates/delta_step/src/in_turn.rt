@@ -38,7 +38,7 @@ pub fn before_term(
     ensures rest { IfOk result (λ r. rest_of r ≡ cat_state (rest_of a) (record { term = term_of n.now; past = map known_in past.now; depth = depth })) }
 {
     let code = later(alloc, n, past, depth)?;
-    Ok(first(alloc, a, code)?)
+    first(alloc, a, code)
 }
 
 /// The same before code that isn't reached. Its only error is want of memory.
@@ -48,5 +48,5 @@ pub fn before_code(alloc: Global, a: Reached, l: &Code) -> Result<Reached, Memor
     ensures rest { IfOk result (λ r. rest_of r ≡ cat_state (rest_of a) (code_in l.now)) }
 {
     let code = copy_code(alloc, l)?;
-    Ok(first(alloc, a, code)?)
+    first(alloc, a, code)
 }

@@ -22,11 +22,11 @@ pub fn plain(alloc: Global, s: &Marked) -> Result<Box<State>, Memory>
 {
     match s {
         Marked::Sink(t) => sink(alloc, t),
-        Marked::Var(x) => Ok(Box::new(alloc, State::Var(*x))?),
+        Marked::Var(x) => boxed(alloc, State::Var(*x)),
         Marked::Par(a, b) => {
             let one = plain(alloc, a)?;
             let two = plain(alloc, b)?;
-            Ok(Box::new(alloc, State::Par(one, two))?)
+            boxed(alloc, State::Par(one, two))
         }
         Marked::Cat(a, l) => {
             let one = plain(alloc, a)?;
@@ -35,25 +35,33 @@ pub fn plain(alloc: Global, s: &Marked) -> Result<Box<State>, Memory>
         Marked::Let(x, _, a, b) => {
             let one = plain(alloc, a)?;
             let two = plain(alloc, b)?;
-            Ok(Box::new(alloc, State::Let(*x, one, two))?)
+            boxed(alloc, State::Let(*x, one, two))
         }
         Marked::LetPar(x, y, z, a) => {
             let one = plain(alloc, a)?;
-            Ok(Box::new(alloc, State::LetPar(*x, *y, *z, one))?)
+            boxed(alloc, State::LetPar(*x, *y, *z, one))
         }
         Marked::LetCat(x, y, z, a) => {
             let one = plain(alloc, a)?;
-            Ok(Box::new(alloc, State::LetCat(*x, *y, *z, one))?)
+            boxed(alloc, State::LetCat(*x, *y, *z, one))
         }
         Marked::CaseSum(z, t, held, x, l, y, m) => sum(alloc, *z, t, held, *x, l, *y, m),
         Marked::CaseStar(z, t, held, l, y, ys, m) => star(alloc, *z, t, held, l, *y, *ys, m),
         Marked::Wait(x, t, held, l) => wait(alloc, *x, t, held, l),
         Marked::Frame(args, a) => {
-            let arguments = plain_all(alloc, args)?;
             let one = plain(alloc, a)?;
-            Ok(Box::new(alloc, State::Frame(arguments, one))?)
+            let arguments = plain_all(alloc, args)?;
+            boxed(alloc, State::Frame(arguments, one))
         }
     }
+}
+
+// A state in a box.
+#[inline(never)]
+fn boxed(alloc: Global, s: State) -> Result<Box<State>, Memory>
+    ensures { IfOk result (λ r. r.value ≡ s) }
+{
+    Ok(Box::new(alloc, s)?)
 }
 
 // Nothing more of a type.
@@ -61,7 +69,7 @@ fn sink(alloc: Global, t: &Ty) -> Result<Box<State>, Memory>
     ensures { IfOk result (λ r. state_of r.value ≡ plain_sink (type_of t.now)) }
 {
     let t = stream_type::copy(alloc, t)?;
-    Ok(Box::new(alloc, State::Sink(t))?)
+    boxed(alloc, State::Sink(t))
 }
 
 // The rest of the first part, and the code of the second.
@@ -69,7 +77,7 @@ fn cat(alloc: Global, a: Box<State>, l: &Code) -> Result<Box<State>, Memory>
     ensures { IfOk result (λ r. state_of r.value ≡ plain_cat (state_of a.value) (plain_later (code_in l.now))) }
 {
     let l = plain_code(alloc, l)?;
-    Ok(Box::new(alloc, State::Cat(a, Box::into_inner(l)))?)
+    boxed(alloc, State::Cat(a, Box::into_inner(l)))
 }
 
 // A case on a sum.
@@ -91,7 +99,7 @@ fn sum(
     let t = stream_type::copy(alloc, t)?;
     let one = Box::into_inner(one);
     let two = Box::into_inner(two);
-    Ok(Box::new(alloc, State::CaseSum(z, t, held, x, one, y, two))?)
+    boxed(alloc, State::CaseSum(z, t, held, x, one, y, two))
 }
 
 // A case on a star.
@@ -113,7 +121,7 @@ fn star(
     let t = stream_type::copy(alloc, t)?;
     let one = Box::into_inner(one);
     let two = Box::into_inner(two);
-    Ok(Box::new(alloc, State::CaseStar(z, t, held, one, y, ys, two))?)
+    boxed(alloc, State::CaseStar(z, t, held, one, y, ys, two))
 }
 
 // A wait.
@@ -123,7 +131,7 @@ fn wait(alloc: Global, x: Name, t: &Ty, held: &[Entry], l: &Code) -> Result<Box<
     let held = plain_entries(alloc, held)?;
     let one = plain_code(alloc, l)?;
     let t = stream_type::copy(alloc, t)?;
-    Ok(Box::new(alloc, State::Wait(x, t, held, Box::into_inner(one)))?)
+    boxed(alloc, State::Wait(x, t, held, Box::into_inner(one)))
 }
 
 // Arguments.

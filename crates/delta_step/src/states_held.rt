@@ -11,12 +11,14 @@ ghost use Rattle.delta_step.specs.Marked.{state_in, code_in};
 ghost use Rattle.machine_parts.specs.Entry.{entry_in};
 ghost use Rattle.machine_parts.specs.Scope.{types_in, streams_in};
 ghost use Rattle.delta_step.specs.Reached.{run_of, rest_of};
+ghost use Rattle.delta_step.specs.Gives.{Gives};
 ghost use Rattle.delta_step.specs.Steps.{funs_in, state_run, state_rest};
 
-use crate::copying::{copy_code, knowing};
-use crate::holding_back::{star_waits, subject_waits, sum_waits};
+use crate::copying::knowing;
+use crate::holding_back::{star_holds, sum_holds, wait_holds};
 use crate::marked::{Code, Marked};
-use crate::reached::{Reached, aliased, in_two, rowed};
+use crate::parts_done::{alias_done, item_done, made, unmarked_done};
+use crate::reached::Reached;
 use crate::reaching::reach;
 use crate::without_calls::{named, sunk};
 use bunch::Name;
@@ -53,8 +55,8 @@ pub fn step_alone<'a>(
     ensures deep { IfErr result (λ e. e ≡ Stop.Deep → levels < (state_run core.now scope.now (state_in s.now) (type_of r.now)).level) }
 {
     match s {
-        Marked::Sink(t) => Ok(sunk(alloc, t)?),
-        Marked::Var(x) => Ok(named(alloc, scope, *x)?),
+        Marked::Sink(t) => made(sunk(alloc, t)),
+        Marked::Var(x) => made(named(alloc, scope, *x)),
         Marked::CaseSum(z, t, held, x, l, y, m) => {
             step_sum(
                 alloc, core, scope, *z, t, held, *x, l, *y, m, r, left, levels,
@@ -100,7 +102,6 @@ pub fn open<'a>(
 }
 
 // A case on a sum, on what was held and what comes.
-#[tactic(auto, using(machine_parts::proofs::HeldAndComing::held_forms))]
 #[inline(never)]
 fn step_sum<'a>(
     alloc: Global,
@@ -117,37 +118,29 @@ fn step_sum<'a>(
     left: u64,
     levels: u64,
 ) -> Result<Reached, Stop>
-    ensures run { IfOk result (λ a. run_of a ≡ state_run core.now scope.now (sum_state z.0 (type_of t.now) (map entry_in held.now) x.0 (code_in l.now) y.0 (code_in m.now)) (type_of r.now)) }
-    ensures rest { IfOk result (λ a. rest_of a ≡ state_rest core.now scope.now (sum_state z.0 (type_of t.now) (map entry_in held.now) x.0 (code_in l.now) y.0 (code_in m.now)) (type_of r.now)) }
-    ensures counted { IfOk result (λ a. a.calls ≤ left) }
-    ensures shallow { IfOk result (λ a. a.level ≤ levels) }
-    ensures spent { IfErr result (λ e. e ≡ Stop.Spent → left < (state_run core.now scope.now (sum_state z.0 (type_of t.now) (map entry_in held.now) x.0 (code_in l.now) y.0 (code_in m.now)) (type_of r.now)).calls) }
-    ensures deep { IfErr result (λ e. e ≡ Stop.Deep → levels < (state_run core.now scope.now (sum_state z.0 (type_of t.now) (map entry_in held.now) x.0 (code_in l.now) y.0 (code_in m.now)) (type_of r.now)).level) }
+    ensures { Gives result (state_run core.now scope.now (sum_state z.0 (type_of t.now) (map entry_in held.now) x.0 (code_in l.now) y.0 (code_in m.now)) (type_of r.now)) (state_rest core.now scope.now (sum_state z.0 (type_of t.now) (map entry_in held.now) x.0 (code_in l.now) y.0 (code_in m.now)) (type_of r.now)) left levels }
 {
-    let held = more(alloc, held, scope)?;
+    let Ok(held) = more(alloc, held, scope) else {
+        return Err(Stop::Memory);
+    };
     let all = Scope::Names(&held);
     let (s, u) = sum_types(type_at(&all, z, &Ty::Eps), &Ty::Eps);
     match side_taken(stream_at(&all, z, &Prefix::EpsEmp)) {
         Sided::Left(q) => {
             let inner = Scope::Stream(x, s, q, &all);
-            let inside = open(alloc, core, &inner, l, r, left, levels)?;
-            Ok(aliased(alloc, x, s, q, z, inside)?)
+            let inside = open(alloc, core, &inner, l, r, left, levels);
+            alias_done(alloc, x, s, q, z, inside)
         }
         Sided::Right(q) => {
             let inner = Scope::Stream(y, u, q, &all);
-            let inside = open(alloc, core, &inner, m, r, left, levels)?;
-            Ok(aliased(alloc, y, u, q, z, inside)?)
+            let inside = open(alloc, core, &inner, m, r, left, levels);
+            alias_done(alloc, y, u, q, z, inside)
         }
-        Sided::Nothing => {
-            let one = copy_code(alloc, l)?;
-            let two = copy_code(alloc, m)?;
-            Ok(sum_waits(alloc, z, t, held, x, one, y, two, r)?)
-        }
+        Sided::Nothing => made(sum_holds(alloc, z, t, held, x, l, y, m, r)),
     }
 }
 
 // A case on a star, on what was held and what comes.
-#[tactic(auto, using(machine_parts::proofs::HeldAndComing::held_forms))]
 #[inline(never)]
 fn step_star<'a>(
     alloc: Global,
@@ -164,43 +157,39 @@ fn step_star<'a>(
     left: u64,
     levels: u64,
 ) -> Result<Reached, Stop>
-    ensures run { IfOk result (λ a. run_of a ≡ state_run core.now scope.now (star_state z.0 (type_of t.now) (map entry_in held.now) (code_in l.now) y.0 ys.0 (code_in m.now)) (type_of r.now)) }
-    ensures rest { IfOk result (λ a. rest_of a ≡ state_rest core.now scope.now (star_state z.0 (type_of t.now) (map entry_in held.now) (code_in l.now) y.0 ys.0 (code_in m.now)) (type_of r.now)) }
-    ensures counted { IfOk result (λ a. a.calls ≤ left) }
-    ensures shallow { IfOk result (λ a. a.level ≤ levels) }
-    ensures spent { IfErr result (λ e. e ≡ Stop.Spent → left < (state_run core.now scope.now (star_state z.0 (type_of t.now) (map entry_in held.now) (code_in l.now) y.0 ys.0 (code_in m.now)) (type_of r.now)).calls) }
-    ensures deep { IfErr result (λ e. e ≡ Stop.Deep → levels < (state_run core.now scope.now (star_state z.0 (type_of t.now) (map entry_in held.now) (code_in l.now) y.0 ys.0 (code_in m.now)) (type_of r.now)).level) }
+    ensures { Gives result (state_run core.now scope.now (star_state z.0 (type_of t.now) (map entry_in held.now) (code_in l.now) y.0 ys.0 (code_in m.now)) (type_of r.now)) (state_rest core.now scope.now (star_state z.0 (type_of t.now) (map entry_in held.now) (code_in l.now) y.0 ys.0 (code_in m.now)) (type_of r.now)) left levels }
 {
-    let held = more(alloc, held, scope)?;
+    let Ok(held) = more(alloc, held, scope) else {
+        return Err(Stop::Memory);
+    };
     let all = Scope::Names(&held);
     let ty = type_at(&all, z, &Ty::Eps);
     let (s, u) = star_types(ty, &Ty::Eps);
     match star_taken(stream_at(&all, z, &Prefix::EpsEmp)) {
         Taken::Over => open(alloc, core, &all, l, r, left, levels),
         Taken::First(q) => {
-            let qs = star_begun(alloc)?;
+            let Ok(qs) = star_begun(alloc) else {
+                return Err(Stop::Memory);
+            };
             let outer = Scope::Stream(y, s, q, &all);
             let inner = Scope::Stream(ys, u, &qs, &outer);
-            let inside = open(alloc, core, &inner, m, r, left, levels)?;
-            Ok(rowed(alloc, y, ys, z, inside)?)
+            let inside = open(alloc, core, &inner, m, r, left, levels);
+            unmarked_done(alloc, y, ys, z, inside)
         }
         Taken::Item(q, after, end) => {
-            let qs = items_after(alloc, after, end)?;
+            let Ok(qs) = items_after(alloc, after, end) else {
+                return Err(Stop::Memory);
+            };
             let outer = Scope::Stream(y, s, q, &all);
             let inner = Scope::Stream(ys, u, &qs, &outer);
-            let inside = open(alloc, core, &inner, m, r, left, levels)?;
-            Ok(in_two(alloc, y, s, q, ys, ty, &qs, z, inside)?)
+            let inside = open(alloc, core, &inner, m, r, left, levels);
+            item_done(alloc, y, s, q, ys, ty, &qs, z, inside)
         }
-        Taken::Nothing => {
-            let one = copy_code(alloc, l)?;
-            let two = copy_code(alloc, m)?;
-            Ok(star_waits(alloc, z, t, held, one, y, ys, two, r)?)
-        }
+        Taken::Nothing => made(star_holds(alloc, z, t, held, l, y, ys, m, r)),
     }
 }
 
 // A wait, on what was held and what comes.
-#[tactic(auto, using(machine_parts::proofs::HeldAndComing::held_forms, machine_parts::proofs::Runs::waits))]
 #[inline(never)]
 fn step_wait<'a>(
     alloc: Global,
@@ -214,19 +203,15 @@ fn step_wait<'a>(
     left: u64,
     levels: u64,
 ) -> Result<Reached, Stop>
-    ensures run { IfOk result (λ a. run_of a ≡ state_run core.now scope.now (wait_state x.0 (type_of t.now) (map entry_in held.now) (code_in l.now)) (type_of r.now)) }
-    ensures rest { IfOk result (λ a. rest_of a ≡ state_rest core.now scope.now (wait_state x.0 (type_of t.now) (map entry_in held.now) (code_in l.now)) (type_of r.now)) }
-    ensures counted { IfOk result (λ a. a.calls ≤ left) }
-    ensures shallow { IfOk result (λ a. a.level ≤ levels) }
-    ensures spent { IfErr result (λ e. e ≡ Stop.Spent → left < (state_run core.now scope.now (wait_state x.0 (type_of t.now) (map entry_in held.now) (code_in l.now)) (type_of r.now)).calls) }
-    ensures deep { IfErr result (λ e. e ≡ Stop.Deep → levels < (state_run core.now scope.now (wait_state x.0 (type_of t.now) (map entry_in held.now) (code_in l.now)) (type_of r.now)).level) }
+    ensures { Gives result (state_run core.now scope.now (wait_state x.0 (type_of t.now) (map entry_in held.now) (code_in l.now)) (type_of r.now)) (state_rest core.now scope.now (wait_state x.0 (type_of t.now) (map entry_in held.now) (code_in l.now)) (type_of r.now)) left levels }
 {
-    let held = more(alloc, held, scope)?;
+    let Ok(held) = more(alloc, held, scope) else {
+        return Err(Stop::Memory);
+    };
     if is_over(&held, x) {
         return open_known(alloc, core, &held, x, l, r, left, levels);
     }
-    let code = copy_code(alloc, l)?;
-    Ok(subject_waits(alloc, x, t, held, code, r)?)
+    made(wait_holds(alloc, x, t, held, l, r))
 }
 
 // Whether what came on a name is whole.
@@ -249,18 +234,15 @@ fn open_known(
     left: u64,
     levels: u64,
 ) -> Result<Reached, Stop>
-    ensures run { IfOk result (λ a. run_of a ≡ run_later (funs_in core.now) (knowing x.0 (types_held (map entry_in held.now) x.0) (value_of (prefixes_held (map entry_in held.now) x.0)) (code_in l.now)) (types_held (map entry_in held.now)) (type_of r.now) (prefixes_held (map entry_in held.now))) }
-    ensures rest { IfOk result (λ a. rest_of a ≡ rest_later (funs_in core.now) (knowing x.0 (types_held (map entry_in held.now) x.0) (value_of (prefixes_held (map entry_in held.now) x.0)) (code_in l.now)) (types_held (map entry_in held.now)) (type_of r.now) (prefixes_held (map entry_in held.now))) }
-    ensures counted { IfOk result (λ a. a.calls ≤ left) }
-    ensures shallow { IfOk result (λ a. a.level ≤ levels) }
-    ensures spent { IfErr result (λ e. e ≡ Stop.Spent → left < (run_later (funs_in core.now) (knowing x.0 (types_held (map entry_in held.now) x.0) (value_of (prefixes_held (map entry_in held.now) x.0)) (code_in l.now)) (types_held (map entry_in held.now)) (type_of r.now) (prefixes_held (map entry_in held.now))).calls) }
-    ensures deep { IfErr result (λ e. e ≡ Stop.Deep → levels < (run_later (funs_in core.now) (knowing x.0 (types_held (map entry_in held.now) x.0) (value_of (prefixes_held (map entry_in held.now) x.0)) (code_in l.now)) (types_held (map entry_in held.now)) (type_of r.now) (prefixes_held (map entry_in held.now))).level) }
+    ensures { Gives result (run_later (funs_in core.now) (knowing x.0 (types_held (map entry_in held.now) x.0) (value_of (prefixes_held (map entry_in held.now) x.0)) (code_in l.now)) (types_held (map entry_in held.now)) (type_of r.now) (prefixes_held (map entry_in held.now))) (rest_later (funs_in core.now) (knowing x.0 (types_held (map entry_in held.now) x.0) (value_of (prefixes_held (map entry_in held.now) x.0)) (code_in l.now)) (types_held (map entry_in held.now)) (type_of r.now) (prefixes_held (map entry_in held.now))) left levels }
 {
     if left >= l.depth {
         return Err(Stop::Memory);
     }
     let all = Scope::Names(held);
     let p = stream_at(&all, x, &Prefix::EpsEmp);
-    let known = knowing(alloc, x, type_at(&all, x, &Ty::Eps), p, &l.past)?;
+    let Ok(known) = knowing(alloc, x, type_at(&all, x, &Ty::Eps), p, &l.past) else {
+        return Err(Stop::Memory);
+    };
     reach(alloc, core, l.depth, &all, &known, &l.term, r, left, levels)
 }

@@ -3,6 +3,7 @@
 ghost use Rattle.std.specs.Prelude.{◌≡◌, map, IfOk};
 ghost use Rattle.stream_type.specs.StreamType.{type_of};
 ghost use Rattle.stream_prefix.specs.StreamPrefix.{der};
+ghost use Rattle.stream_prefix.specs.Tree.{prefix_of};
 ghost use Rattle.hist_value.specs.HistExpr.{expr_of};
 ghost use Rattle.hist_value.specs.Evaluate.{value};
 ghost use Rattle.hist_value.specs.Wholes.{full};
@@ -14,6 +15,7 @@ ghost use Rattle.delta_step.specs.Marked.{known_in};
 ghost use Rattle.delta_step.specs.Reached.{run_of, rest_of};
 ghost use Rattle.delta_step.specs.Steps.{term_run, term_rest};
 
+use crate::boxes::prefix_boxed;
 use crate::marked::Known;
 use crate::reached::Reached;
 use crate::values::value_in;
@@ -22,6 +24,7 @@ use core_term::{Core, Node, Term};
 use hist_value::{Expr, full};
 use machine_parts::scope::Scope;
 use std::alloc::Global;
+use stream_prefix::Prefix;
 use stream_type::{Memory, Ty};
 
 /// What a term without parts gives in its scope, with its type, and what is left of it. Its only error is want
@@ -43,11 +46,11 @@ pub fn reach_alone<'a>(
     ensures flat { IfOk result (λ a. a.level ≡ 0) }
 {
     match &n.term {
-        Term::Var(x) => Ok(named(alloc, scope, *x)?),
-        Term::Eps => Ok(nothing(alloc)?),
-        Term::Unit => Ok(unit(alloc)?),
-        Term::Nil => Ok(no_items(alloc)?),
-        Term::Past(m) => Ok(whole_value(alloc, past, m, r)?),
+        Term::Var(x) => named(alloc, scope, *x),
+        Term::Eps => nothing(alloc),
+        Term::Unit => unit(alloc),
+        Term::Nil => no_items(alloc),
+        Term::Past(m) => whole_value(alloc, past, m, r),
         _ => Err(Memory),
     }
 }
@@ -57,8 +60,15 @@ fn whole_value(alloc: Global, past: &[Known], m: &Expr, r: &Ty) -> Result<Reache
     ensures run { IfOk result (λ a. run_of a ≡ quiet (full (type_of r.now) (value (expr_of m.now) (past_in (map known_in past.now))))) }
     ensures rest { IfOk result (λ a. rest_of a ≡ sink (der (full (type_of r.now) (value (expr_of m.now) (past_in (map known_in past.now)))) (type_of r.now))) }
 {
+    let output = whole_prefix(alloc, past, m, r)?;
+    over_at(alloc, r, output)
+}
+
+// The whole prefix of a type that has the value of a historical expression.
+fn whole_prefix(alloc: Global, past: &[Known], m: &Expr, r: &Ty) -> Result<Box<Prefix>, Memory>
+    ensures { IfOk result (λ p. prefix_of p.value ≡ full (type_of r.now) (value (expr_of m.now) (past_in (map known_in past.now)))) }
+{
     let v = value_in(alloc, past, m)?;
     let output = full(alloc, r, &v)?;
-    let output = Box::new(alloc, output)?;
-    Ok(over_at(alloc, r, output)?)
+    prefix_boxed(alloc, output)
 }

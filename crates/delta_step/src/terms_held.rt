@@ -47,7 +47,7 @@ pub fn hold_sum(
     let held = held_by(alloc, n, scope)?;
     let one = later(alloc, a, past, k)?;
     let two = later(alloc, b, past, k)?;
-    Ok(sum_waits(alloc, z, t, held, x, one, y, two, r)?)
+    sum_waits(alloc, z, t, held, x, one, y, two, r)
 }
 
 /// The case on a star that `n` is, of which neither an item nor the end has come. Its only error is want of
@@ -73,7 +73,7 @@ pub fn hold_star(
     let held = held_by(alloc, n, scope)?;
     let one = later(alloc, a, past, k)?;
     let two = later(alloc, b, past, k)?;
-    Ok(star_waits(alloc, z, t, held, one, y, ys, two, r)?)
+    star_waits(alloc, z, t, held, one, y, ys, two, r)
 }
 
 /// The wait that `n` is, whose subject isn't whole. Its only error is want of memory.
@@ -94,7 +94,7 @@ pub fn hold_wait(
 {
     let held = held_by(alloc, n, scope)?;
     let code = later(alloc, a, past, k)?;
-    Ok(subject_waits(alloc, x, t, held, code, r)?)
+    subject_waits(alloc, x, t, held, code, r)
 }
 
 // What a case or a wait that can't go on takes of its free names.
