@@ -1,7 +1,7 @@
 //! States changed in place by more of their input: what they give, form by form.
 
 ghost use Rattle.std.specs.Prelude.{◌≡◌, ◌<◌, ◌≤◌, ◌++◌, ◌∷◌, [], map, IfOk, OnOk, IfErr};
-ghost use Rattle.stream_type.specs.StreamType.{type_of};
+ghost use Rattle.stream_type.specs.StreamType.{type_of, eps};
 ghost use Rattle.stream_prefix.specs.StreamPrefix.{is_maximal, der, join};
 ghost use Rattle.stream_prefix.specs.Tree.{prefix_of};
 ghost use Rattle.hist_value.specs.Wholes.{value_of};
@@ -14,6 +14,7 @@ ghost use Rattle.machine_parts.specs.Parameters.{parameters};
 ghost use Rattle.template_state.specs.Readers.{state_in, later_in, arguments_in};
 ghost use Rattle.delta_code.specs.Begun.{run_of, rest_of};
 ghost use Rattle.delta_code.specs.Eased.{Eased, EasedArguments};
+ghost use Rattle.delta_code.specs.GivenBack.{given_back};
 ghost use Rattle.delta_code.specs.Told.{told, left_after};
 ghost use Rattle.delta_code.specs.Steps.{funs_of, live_run, live_rest, lives_run, lives_rest};
 
@@ -412,10 +413,11 @@ fn step_frame<'a>(
     let rest = left - arguments.calls;
     let on_those = on_arguments(arguments.are_shut, levels);
     let body = step(alloc, code, &Scope::Names(&entries), a, r, rest, on_those)?;
+    take_back(alloc, args, &mut entries)?;
     Ok(framed(arguments, body)?)
 }
 
-// The arguments of a frame, each put with its type from before behind what was found.
+// The arguments of a frame, each put with its type from before behind what was found, which the type is lent to.
 #[cycle(step)]
 #[tactic(auto, using(crate::proofs::Easing::arguments_eased, machine_parts::proofs::Runs::spent_after))]
 #[inline(never)]
@@ -430,7 +432,7 @@ fn step_arguments<'a>(
 ) -> Result<AllTold, Stop>
     ensures runs { IfOk result (λ a. (a.calls ≡ (lives_run code.now scope.now (arguments_in args.old)).calls) × ((a.level ≡ (lives_run code.now scope.now (arguments_in args.old)).level) × (a.are_shut ≡ (lives_run code.now scope.now (arguments_in args.old)).are_shut))) }
     ensures entries { OnOk result (map entry_in found.new.items ≡ map entry_in found.old.items ++ parameters (arguments_in args.old) (lives_run code.now scope.now (arguments_in args.old)).outs) }
-    ensures rests { OnOk result (EasedArguments (lives_rest code.now scope.now (arguments_in args.old)) (arguments_in args.new)) }
+    ensures rests { OnOk result (EasedArguments (lives_rest code.now scope.now (arguments_in args.old)) (given_back (parameters (arguments_in args.old) (lives_run code.now scope.now (arguments_in args.old)).outs) (arguments_in args.new))) }
     ensures counted { IfOk result (λ g. g.calls ≤ left) }
     ensures shallow { IfOk result (λ g. g.level ≤ levels) }
     ensures spent { IfErr result (λ e. e ≡ Stop.Spent → left < (lives_run code.now scope.now (arguments_in args.old)).calls) }
@@ -443,7 +445,7 @@ fn step_arguments<'a>(
             let one = step(alloc, code, scope, a, t, left, levels)?;
             let shut = is_name || maximal(&one.output);
             let (calls, level) = (one.calls, one.level);
-            keep(alloc, *x, t, one, found)?;
+            keep(*x, t, one, found)?;
             let rest = left - calls;
             let after = step_arguments(alloc, code, scope, others, rest, levels, found)?;
             Ok(told_before(shut, calls, level, after))
@@ -588,19 +590,12 @@ fn cut(
     }
 }
 
-// What an argument gave stands behind what was found, with its type from before; the type is what is left.
-fn keep(
-    alloc: Global,
-    x: Name,
-    t: &mut Ty,
-    told: Told,
-    found: &mut Vec<Entry>,
-) -> Result<(), Memory>
-    ensures ty { OnOk result (type_of t.new ≡ der (prefix_of told.output.value) (type_of t.old)) }
+// What an argument gave stands behind what was found, with its type from before, which is lent for that.
+fn keep(x: Name, t: &mut Ty, told: Told, found: &mut Vec<Entry>) -> Result<(), Memory>
+    ensures ty { type_of t.new ≡ eps }
     ensures found { OnOk result (map entry_in found.new.items ≡ map entry_in found.old.items ++ record { name = x.0; type = type_of t.old; prefix = prefix_of told.output.value } ∷ []) }
 {
-    let ty = stream_type::copy(alloc, t)?;
-    go_behind(alloc, t, &told.output)?;
+    let ty = mem::replace(t, Ty::Eps);
     let prefix = Box::into_inner(told.output);
     found.push(Entry {
         name: x,
@@ -608,4 +603,21 @@ fn keep(
         prefix,
     })?;
     Ok(())
+}
+
+// The types that were lent are given back to the arguments, each moved on over what came.
+fn take_back(alloc: Global, args: &mut Arguments, lent: &mut [Entry]) -> Result<(), Memory>
+    ensures { OnOk result (arguments_in args.new ≡ given_back (map entry_in lent.old) (arguments_in args.old)) }
+{
+    match args {
+        Arguments::None => Ok(()),
+        Arguments::Before(_, t, _, others) => {
+            let Some((first, rest)) = lent.split_first_mut() else {
+                return Ok(());
+            };
+            *t = mem::replace(&mut first.ty, Ty::Eps);
+            go_behind(alloc, t, &first.prefix)?;
+            take_back(alloc, others, rest)
+        }
+    }
 }
