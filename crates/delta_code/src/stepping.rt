@@ -1,11 +1,11 @@
 //! States changed in place by more of their input: what they give, form by form.
 
-ghost use Rattle.std.specs.Prelude.{◌≡◌, ◌<◌, ◌≤◌, ◌++◌, ◌∷◌, [], map, IfOk, OnOk, IfErr};
+ghost use Rattle.std.specs.Prelude.{◌≡◌, ◌<◌, ◌≤◌, ◌++◌, ◌∷◌, [], map, true, IfOk, OnOk, IfErr};
 ghost use Rattle.stream_type.specs.StreamType.{type_of, eps};
 ghost use Rattle.stream_prefix.specs.StreamPrefix.{is_maximal, der, join};
 ghost use Rattle.stream_prefix.specs.Tree.{prefix_of};
 ghost use Rattle.hist_value.specs.Wholes.{value_of};
-ghost use Rattle.delta_state.specs.StateTree.{StateTree, is_var_state, par_state, cat_state, let_state, let_par_state, let_cat_state, sum_state, star_state, wait_state, frame_state};
+ghost use Rattle.delta_state.specs.StateTree.{StateTree, is_var_state, var_state, par_state, cat_state, let_state, let_par_state, let_cat_state, sum_state, star_state, wait_state, frame_state, no_arguments, argument_before};
 ghost use Rattle.delta_state.specs.StateMeaning.{knowing, run_later, types_held, prefixes_held};
 ghost use Rattle.delta_state.specs.Rest.{rest_later, held_more, cut_state};
 ghost use Rattle.machine_parts.specs.Entry.{entry_in};
@@ -389,9 +389,107 @@ fn step_wait<'a>(
 
 // A body on its arguments.
 #[cycle(step)]
-#[tactic(auto, using(crate::proofs::Easing::frame_eased, machine_parts::proofs::HeldAndComing::frames, machine_parts::proofs::Deeper::frame_deep))]
 #[inline(never)]
 fn step_frame<'a>(
+    alloc: Global,
+    code: &Code,
+    scope: &'a Scope<'a>,
+    args: &mut Arguments,
+    a: &mut Live,
+    r: &Ty,
+    left: u64,
+    levels: u64,
+) -> Result<Told, Stop>
+    ensures run { IfOk result (λ g. told g ≡ live_run code.now scope.now (frame_state (arguments_in args.old) (state_in a.old)) (type_of r.now)) }
+    ensures rest { OnOk result (Eased (live_rest code.now scope.now (frame_state (arguments_in args.old) (state_in a.old)) (type_of r.now)) (frame_state (arguments_in args.new) (state_in a.new))) }
+    ensures counted { IfOk result (λ g. g.calls ≤ left) }
+    ensures shallow { IfOk result (λ g. g.level ≤ levels) }
+    ensures spent { IfErr result (λ e. e ≡ Stop.Spent → left < (live_run code.now scope.now (frame_state (arguments_in args.old) (state_in a.old)) (type_of r.now)).calls) }
+    ensures deep { IfErr result (λ e. e ≡ Stop.Deep → levels < (live_run code.now scope.now (frame_state (arguments_in args.old) (state_in a.old)) (type_of r.now)).level) }
+{
+    match args {
+        Arguments::Before(x, t, s, others) if is_none(others) => {
+            step_on_one(alloc, code, scope, *x, t, s, a, r, left, levels)
+        }
+        _ => step_on_all(alloc, code, scope, args, a, r, left, levels),
+    }
+}
+
+// A body on one argument, whose type and what it gives are read where they stand.
+#[cycle(step)]
+#[tactic(auto, using(crate::proofs::Easing::frame_eased, machine_parts::proofs::Deeper::frame_deep))]
+#[inline(never)]
+fn step_on_one<'a>(
+    alloc: Global,
+    code: &Code,
+    scope: &'a Scope<'a>,
+    x: Name,
+    t: &mut Ty,
+    s: &mut Live,
+    a: &mut Live,
+    r: &Ty,
+    left: u64,
+    levels: u64,
+) -> Result<Told, Stop>
+    ensures run { IfOk result (λ g. told g ≡ live_run code.now scope.now (frame_state (argument_before x.0 (type_of t.old) (state_in s.old) no_arguments) (state_in a.old)) (type_of r.now)) }
+    ensures rest { OnOk result (Eased (live_rest code.now scope.now (frame_state (argument_before x.0 (type_of t.old) (state_in s.old) no_arguments) (state_in a.old)) (type_of r.now)) (frame_state (argument_before x.0 (type_of t.new) (state_in s.new) no_arguments) (state_in a.new))) }
+    ensures counted { IfOk result (λ g. g.calls ≤ left) }
+    ensures shallow { IfOk result (λ g. g.level ≤ levels) }
+    ensures spent { IfErr result (λ e. e ≡ Stop.Spent → left < (live_run code.now scope.now (frame_state (argument_before x.0 (type_of t.old) (state_in s.old) no_arguments) (state_in a.old)) (type_of r.now)).calls) }
+    ensures deep { IfErr result (λ e. e ≡ Stop.Deep → levels < (live_run code.now scope.now (frame_state (argument_before x.0 (type_of t.old) (state_in s.old) no_arguments) (state_in a.old)) (type_of r.now)).level) }
+{
+    if let Live::Var(z) = s {
+        return step_on_name(alloc, code, scope, x, t, *z, a, r, left, levels);
+    }
+    let one = step(alloc, code, scope, s, t, left, inside(levels))?;
+    let shut = maximal(&one.output);
+    let rest = left - one.calls;
+    let nothing = Vec::new(alloc);
+    let outer = Scope::Names(&nothing);
+    let inner = Scope::Stream(x, &*t, &one.output, &outer);
+    let body = step(alloc, code, &inner, a, r, rest, on_arguments(shut, levels))?;
+    go_behind(alloc, t, &one.output)?;
+    let arguments = told_before(shut, one.calls, one.level, none_told());
+    Ok(framed(arguments, body)?)
+}
+
+// The same where the argument is a name.
+#[cycle(step)]
+#[tactic(auto, using(crate::proofs::Easing::frame_eased, machine_parts::proofs::Deeper::frame_deep))]
+#[inline(never)]
+fn step_on_name<'a>(
+    alloc: Global,
+    code: &Code,
+    scope: &'a Scope<'a>,
+    x: Name,
+    t: &mut Ty,
+    z: Name,
+    a: &mut Live,
+    r: &Ty,
+    left: u64,
+    levels: u64,
+) -> Result<Told, Stop>
+    ensures run { IfOk result (λ g. told g ≡ live_run code.now scope.now (frame_state (argument_before x.0 (type_of t.old) (var_state z.0) no_arguments) (state_in a.old)) (type_of r.now)) }
+    ensures rest { OnOk result (Eased (live_rest code.now scope.now (frame_state (argument_before x.0 (type_of t.old) (var_state z.0) no_arguments) (state_in a.old)) (type_of r.now)) (frame_state (argument_before x.0 (type_of t.new) (var_state z.0) no_arguments) (state_in a.new))) }
+    ensures counted { IfOk result (λ g. g.calls ≤ left) }
+    ensures shallow { IfOk result (λ g. g.level ≤ levels) }
+    ensures spent { IfErr result (λ e. e ≡ Stop.Spent → left < (live_run code.now scope.now (frame_state (argument_before x.0 (type_of t.old) (var_state z.0) no_arguments) (state_in a.old)) (type_of r.now)).calls) }
+    ensures deep { IfErr result (λ e. e ≡ Stop.Deep → levels < (live_run code.now scope.now (frame_state (argument_before x.0 (type_of t.old) (var_state z.0) no_arguments) (state_in a.old)) (type_of r.now)).level) }
+{
+    let p = stream_at(&*scope, z, &Prefix::EpsEmp);
+    let nothing = Vec::new(alloc);
+    let outer = Scope::Names(&nothing);
+    let inner = Scope::Stream(x, &*t, p, &outer);
+    let body = step(alloc, code, &inner, a, r, left, levels)?;
+    go_behind(alloc, t, p)?;
+    Ok(framed(none_told(), body)?)
+}
+
+// A body on any number of arguments.
+#[cycle(step)]
+#[tactic(auto, using(crate::proofs::Easing::frame_eased, machine_parts::proofs::HeldAndComing::frames, machine_parts::proofs::Deeper::frame_deep))]
+#[inline(never)]
+fn step_on_all<'a>(
     alloc: Global,
     code: &Code,
     scope: &'a Scope<'a>,
@@ -514,6 +612,13 @@ fn open_known(
     let p = stream_at(&all, x, &Prefix::EpsEmp);
     let known = knowing(alloc, x, type_at(&all, x, &Ty::Eps), p, &l.past)?;
     start(alloc, code, l.depth, &all, &known, &l.code, r, left, levels)
+}
+
+// Whether no argument is left.
+fn is_none(args: &Arguments) -> bool
+    ensures { result ≡ true → arguments_in args.now ≡ no_arguments }
+{
+    matches!(args, Arguments::None)
 }
 
 // Whether a state is a name.
