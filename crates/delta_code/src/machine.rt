@@ -1,6 +1,6 @@
 //! The compiled machine.
 
-ghost use Rattle.std.specs.Prelude.{◌≡◌, ◌<◌, ◌≤◌, ◌^◌, ◌+◌, ℕ, IfOk, IfErr, OnOk, IsErrOf};
+ghost use Rattle.std.specs.Prelude.{◌≡◌, ◌<◌, ◌≤◌, ◌^◌, ◌+◌, ℕ, IfOk, OnOk, IsErrOf};
 ghost use Rattle.stream_type.specs.StreamType.{type_of};
 ghost use Rattle.stream_prefix.specs.StreamPrefix.{emp, der};
 ghost use Rattle.stream_prefix.specs.Tree.{prefix_of};
@@ -8,7 +8,7 @@ ghost use Rattle.core_term.specs.CoreTerm.{core_of};
 ghost use Rattle.delta_state.specs.PlainState.{state_of};
 ghost use Rattle.delta_state.specs.PlaceTree.{place_of};
 ghost use Rattle.delta_state.specs.Stands.{input_type};
-ghost use Rattle.machine_parts.specs.AwaitedTree.{stream_awaited, awaited_in, whole_of, entries_on, awaited_after};
+ghost use Rattle.machine_parts.specs.AwaitedTree.{awaited_in, whole_of, entries_on, awaited_after};
 ghost use Rattle.main_steps.specs.Laws.{first_run_on, first_state_on};
 ghost use Rattle.state_rewriting.specs.Rewriting.{SimplerBy};
 ghost use Rattle.template_state.specs.Readers.{state_in};
@@ -19,13 +19,12 @@ ghost use Rattle.template_state.specs.Templates.{bodies_in, body_in};
 ghost use Rattle.event_word.specs.Admits.{Admits};
 ghost use Rattle.delta_code.specs.CodedView.{run_awaiting, rest_awaiting, program_of, view_of, run_by, TakesBy, CodedStands, coded_stands_after, coded_stays_below};
 
+use crate::awaiting::step_awaiting;
 use crate::begun::Begun;
 use crate::compiling::{compile, copy_texts};
 use crate::seeing::nothing_known;
 use crate::starting::start;
-use crate::stepping::step;
 use crate::told::Told;
-use bunch::Name;
 use core_term::{Checked, Core};
 use delta_state::{Machine, Place, State, StepRefusal};
 use event_word::Event;
@@ -35,7 +34,7 @@ use machine_parts::awaited::{Awaited, entries, go_on, whole};
 use machine_parts::boxes::{copy_boxed, event_boxed, left_boxed};
 use machine_parts::place::place;
 use machine_parts::scope::Scope;
-use machine_parts::stop::{HORIZON, LEVELS, Stop, refusal};
+use machine_parts::stop::{HORIZON, LEVELS, refusal};
 use std::alloc::Global;
 use stream_prefix::{Prefix, empty};
 use stream_type::{Memory, Ty};
@@ -211,60 +210,10 @@ fn next_run(
     ensures costly { (n : ℕ) → IsErrOf result (StepRefusal.Budget n) → (n ≡ budget) × (n < (run_awaiting code.now (state_in state.old) (type_of output.now) (awaited_in awaited.now) (prefix_of next.now)).calls) }
     ensures deep { (n : ℕ) → IsErrOf result (StepRefusal.Deep n) → (n ≡ 1001) × (1001 < (run_awaiting code.now (state_in state.old) (type_of output.now) (awaited_in awaited.now) (prefix_of next.now)).level) }
 {
-    let given = match awaited {
-        Awaited::Stream(x, t) => step_on_one(alloc, code, *x, t, next, state, output, budget),
-        _ => step_on_all(alloc, code, awaited, next, state, output, budget),
-    };
-    match given {
+    match step_awaiting(alloc, code, awaited, next, state, output, budget) {
         Ok(told) => Ok(told),
         Err(stop) => Err(refusal(stop, budget)),
     }
-}
-
-// The step where one name is awaited, whose type and what comes on it are read where they stand.
-fn step_on_one(
-    alloc: Global,
-    code: &Code,
-    x: Name,
-    t: &Ty,
-    next: &Prefix,
-    state: &mut Live,
-    output: &Ty,
-    budget: u64,
-) -> Result<Told, Stop>
-    ensures run { IfOk result (λ r. told r ≡ run_awaiting code.now (state_in state.old) (type_of output.now) (stream_awaited x.0 (type_of t.now)) (prefix_of next.now)) }
-    ensures rest { OnOk result (Eased (rest_awaiting code.now (state_in state.old) (type_of output.now) (stream_awaited x.0 (type_of t.now)) (prefix_of next.now)) (state_in state.new)) }
-    ensures counted { IfOk result (λ r. r.calls ≤ budget) }
-    ensures shallow { IfOk result (λ r. r.level ≤ 1001) }
-    ensures spent { IfErr result (λ e. e ≡ Stop.Spent → budget < (run_awaiting code.now (state_in state.old) (type_of output.now) (stream_awaited x.0 (type_of t.now)) (prefix_of next.now)).calls) }
-    ensures deep { IfErr result (λ e. e ≡ Stop.Deep → 1001 < (run_awaiting code.now (state_in state.old) (type_of output.now) (stream_awaited x.0 (type_of t.now)) (prefix_of next.now)).level) }
-{
-    let nothing = Vec::new(alloc);
-    let outer = Scope::Names(&nothing);
-    let scope = Scope::Stream(x, t, next, &outer);
-    step(alloc, code, &scope, state, output, budget, LEVELS)
-}
-
-// The step on entries for all names that are awaited.
-fn step_on_all(
-    alloc: Global,
-    code: &Code,
-    awaited: &Awaited,
-    next: &Prefix,
-    state: &mut Live,
-    output: &Ty,
-    budget: u64,
-) -> Result<Told, Stop>
-    ensures run { IfOk result (λ r. told r ≡ run_awaiting code.now (state_in state.old) (type_of output.now) (awaited_in awaited.now) (prefix_of next.now)) }
-    ensures rest { OnOk result (Eased (rest_awaiting code.now (state_in state.old) (type_of output.now) (awaited_in awaited.now) (prefix_of next.now)) (state_in state.new)) }
-    ensures counted { IfOk result (λ r. r.calls ≤ budget) }
-    ensures shallow { IfOk result (λ r. r.level ≤ 1001) }
-    ensures spent { IfErr result (λ e. e ≡ Stop.Spent → budget < (run_awaiting code.now (state_in state.old) (type_of output.now) (awaited_in awaited.now) (prefix_of next.now)).calls) }
-    ensures deep { IfErr result (λ e. e ≡ Stop.Deep → 1001 < (run_awaiting code.now (state_in state.old) (type_of output.now) (awaited_in awaited.now) (prefix_of next.now)).level) }
-{
-    let entries = entries(alloc, awaited, next)?;
-    let scope = Scope::Names(&entries);
-    step(alloc, code, &scope, state, output, budget, LEVELS)
 }
 
 // Goes on once this came and the state is what the run left, puts that into a simpler form, and answers what

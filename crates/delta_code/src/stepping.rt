@@ -1,6 +1,6 @@
 //! States changed in place by more of their input: what they give, form by form.
 
-ghost use Rattle.std.specs.Prelude.{◌≡◌, ◌<◌, ◌≤◌, ◌++◌, ◌∷◌, [], map, true, IfOk, OnOk, IfErr};
+ghost use Rattle.std.specs.Prelude.{◌≡◌, ◌<◌, ◌≤◌, ◌++◌, ◌∷◌, [], map, IfOk, OnOk, IfErr, IfSome};
 ghost use Rattle.stream_type.specs.StreamType.{type_of, eps};
 ghost use Rattle.stream_prefix.specs.StreamPrefix.{is_maximal, der, join};
 ghost use Rattle.stream_prefix.specs.Tree.{prefix_of};
@@ -408,52 +408,15 @@ fn step_frame<'a>(
     ensures deep { IfErr result (λ e. e ≡ Stop.Deep → levels < (live_run code.now scope.now (frame_state (arguments_in args.old) (state_in a.old)) (type_of r.now)).level) }
 {
     match args {
-        Arguments::Before(x, t, s, others) if is_none(others) => {
-            step_on_one(alloc, code, scope, *x, t, s, a, r, left, levels)
-        }
-        _ => step_on_all(alloc, code, scope, args, a, r, left, levels),
+        Arguments::Before(x, t, s, others) => match only_name(s, others) {
+            Some(z) => step_on_name(alloc, code, scope, *x, t, z, a, r, left, levels),
+            None => step_on_all(alloc, code, scope, args, a, r, left, levels),
+        },
+        Arguments::None => step_on_all(alloc, code, scope, args, a, r, left, levels),
     }
 }
 
-// A body on one argument, whose type and what it gives are read where they stand.
-#[cycle(step)]
-#[tactic(auto, using(crate::proofs::Easing::frame_eased, machine_parts::proofs::Deeper::frame_deep))]
-#[inline(never)]
-fn step_on_one<'a>(
-    alloc: Global,
-    code: &Code,
-    scope: &'a Scope<'a>,
-    x: Name,
-    t: &mut Ty,
-    s: &mut Live,
-    a: &mut Live,
-    r: &Ty,
-    left: u64,
-    levels: u64,
-) -> Result<Told, Stop>
-    ensures run { IfOk result (λ g. told g ≡ live_run code.now scope.now (frame_state (argument_before x.0 (type_of t.old) (state_in s.old) no_arguments) (state_in a.old)) (type_of r.now)) }
-    ensures rest { OnOk result (Eased (live_rest code.now scope.now (frame_state (argument_before x.0 (type_of t.old) (state_in s.old) no_arguments) (state_in a.old)) (type_of r.now)) (frame_state (argument_before x.0 (type_of t.new) (state_in s.new) no_arguments) (state_in a.new))) }
-    ensures counted { IfOk result (λ g. g.calls ≤ left) }
-    ensures shallow { IfOk result (λ g. g.level ≤ levels) }
-    ensures spent { IfErr result (λ e. e ≡ Stop.Spent → left < (live_run code.now scope.now (frame_state (argument_before x.0 (type_of t.old) (state_in s.old) no_arguments) (state_in a.old)) (type_of r.now)).calls) }
-    ensures deep { IfErr result (λ e. e ≡ Stop.Deep → levels < (live_run code.now scope.now (frame_state (argument_before x.0 (type_of t.old) (state_in s.old) no_arguments) (state_in a.old)) (type_of r.now)).level) }
-{
-    if let Live::Var(z) = s {
-        return step_on_name(alloc, code, scope, x, t, *z, a, r, left, levels);
-    }
-    let one = step(alloc, code, scope, s, t, left, inside(levels))?;
-    let shut = maximal(&one.output);
-    let rest = left - one.calls;
-    let nothing = Vec::new(alloc);
-    let outer = Scope::Names(&nothing);
-    let inner = Scope::Stream(x, &*t, &one.output, &outer);
-    let body = step(alloc, code, &inner, a, r, rest, on_arguments(shut, levels))?;
-    go_behind(alloc, t, &one.output)?;
-    let arguments = told_before(shut, one.calls, one.level, none_told());
-    Ok(framed(arguments, body)?)
-}
-
-// The same where the argument is a name.
+// A body on one argument, which is a name: its type, and what comes on it, are read where they stand.
 #[cycle(step)]
 #[tactic(auto, using(crate::proofs::Easing::frame_eased, machine_parts::proofs::Deeper::frame_deep))]
 #[inline(never)]
@@ -614,11 +577,15 @@ fn open_known(
     start(alloc, code, l.depth, &all, &known, &l.code, r, left, levels)
 }
 
-// Whether no argument is left.
-fn is_none(args: &Arguments) -> bool
-    ensures { result ≡ true → arguments_in args.now ≡ no_arguments }
+// The name that an argument is, if it is one and no other argument stands behind it.
+fn only_name(s: &Live, others: &Arguments) -> Option<Name>
+    ensures name { IfSome result (λ z. state_in s.now ≡ var_state z.0) }
+    ensures only { IfSome result (λ z. arguments_in others.now ≡ no_arguments) }
 {
-    matches!(args, Arguments::None)
+    match (s, others) {
+        (Live::Var(z), Arguments::None) => Some(*z),
+        _ => None,
+    }
 }
 
 // Whether a state is a name.
@@ -720,9 +687,16 @@ fn take_back(alloc: Global, args: &mut Arguments, lent: &mut [Entry]) -> Result<
             let Some((first, rest)) = lent.split_first_mut() else {
                 return Ok(());
             };
-            *t = mem::replace(&mut first.ty, Ty::Eps);
-            go_behind(alloc, t, &first.prefix)?;
+            give_back(alloc, t, first)?;
             take_back(alloc, others, rest)
         }
     }
+}
+
+// A type that was lent is given back, moved on over what came.
+fn give_back(alloc: Global, t: &mut Ty, lent: &mut Entry) -> Result<(), Memory>
+    ensures { OnOk result (type_of t.new ≡ der (prefix_of lent.old.prefix) (type_of lent.old.ty)) }
+{
+    *t = mem::replace(&mut lent.ty, Ty::Eps);
+    go_behind(alloc, t, &lent.prefix)
 }

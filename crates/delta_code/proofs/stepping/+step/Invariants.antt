@@ -25,9 +25,6 @@ decreases-step_row l = 1 + heft (state_in l.a.now)
 abbrev pub decreases-step_frame : goal.decreases-step_frame
 decreases-step_frame l = 2 + (heft_of_all (arguments_in l.args.now) + heft (state_in l.a.now))
 
-abbrev pub decreases-step_on_one : goal.decreases-step_on_one
-decreases-step_on_one l = 2 + (heft (state_in l.s.now) + heft (state_in l.a.now))
-
 abbrev pub decreases-step_on_name : goal.decreases-step_on_name
 decreases-step_on_name l = 1 + heft (state_in l.a.now)
 
