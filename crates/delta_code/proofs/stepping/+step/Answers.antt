@@ -1,5 +1,5 @@
 -- A frame's body runs on entries for its parameters.
-use Rattle.std.proofs.Common.{◌≡◌, ℕ, ◌-◌, ◌<◌, ◌≤◌, ◌||◌, List, [], ◌∷◌, map, refl, sym, ap, ◌∙◌, subst, arith, rules}
+use Rattle.std.proofs.Common.{◌≡◌, ℕ, ◌+◌, ◌-◌, ◌<◌, ◌≤◌, ◌||◌, List, [], ◌∷◌, map, refl, sym, ap, ◌∙◌, subst, arith, rules}
 use Rattle.std.proofs.lemmas.Result.{err_from_is_err_and}
 use Rattle.stream_type.specs.StreamType.{StreamType, type_of}
 use Rattle.stream_prefix.specs.StreamPrefix.{is_maximal, der}
@@ -152,5 +152,5 @@ pub step_on_name-returns-clause-counted : goal.step_on_name-returns-clause-count
 step_on_name-returns-clause-counted t c =
     let a = c.args in
     let runs = lives_run a.code.now a.scope.now (argument_before a.x.0 (type_of a.t.now) (var_state a.z.0) no_arguments) in
-    let calls : c.in_ok-framed.field-0.calls ≡ c.in_ok-body.body.calls = ap (λ (r : Run). r.calls) (c.in_ok-framed.ensures runs (sym c.none_told.ensures.0) (sym c.none_told.ensures.1.0) (sym c.none_told.ensures.1.1)) in
+    let calls : c.in_ok-framed.field-0.calls ≡ 0 + c.in_ok-body.body.calls = ap (λ (r : Run). r.calls) (c.in_ok-framed.ensures runs (sym c.none_told.ensures.0) (sym c.none_told.ensures.1.0) (sym c.none_told.ensures.1.1)) in
     omega (arith, calls, c.in_ok-body.ensures.counted)
