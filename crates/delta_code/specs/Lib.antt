@@ -2,6 +2,7 @@
 pub mod Around
 pub mod Begun
 pub mod Eased
+pub mod GivenBack
 pub mod Told
 pub mod Steps
 pub mod CodedView

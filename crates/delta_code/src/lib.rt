@@ -2,6 +2,7 @@
 #![tactic(auto)]
 
 mod around;
+mod awaiting;
 mod begun;
 mod compiling;
 mod entering;

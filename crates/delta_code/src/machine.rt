@@ -19,11 +19,11 @@ ghost use Rattle.template_state.specs.Templates.{bodies_in, body_in};
 ghost use Rattle.event_word.specs.Admits.{Admits};
 ghost use Rattle.delta_code.specs.CodedView.{run_awaiting, rest_awaiting, program_of, view_of, run_by, TakesBy, CodedStands, coded_stands_after, coded_stays_below};
 
+use crate::awaiting::step_awaiting;
 use crate::begun::Begun;
 use crate::compiling::{compile, copy_texts};
 use crate::seeing::nothing_known;
 use crate::starting::start;
-use crate::stepping::step;
 use crate::told::Told;
 use core_term::{Checked, Core};
 use delta_state::{Machine, Place, State, StepRefusal};
@@ -210,9 +210,7 @@ fn next_run(
     ensures costly { (n : ℕ) → IsErrOf result (StepRefusal.Budget n) → (n ≡ budget) × (n < (run_awaiting code.now (state_in state.old) (type_of output.now) (awaited_in awaited.now) (prefix_of next.now)).calls) }
     ensures deep { (n : ℕ) → IsErrOf result (StepRefusal.Deep n) → (n ≡ 1001) × (1001 < (run_awaiting code.now (state_in state.old) (type_of output.now) (awaited_in awaited.now) (prefix_of next.now)).level) }
 {
-    let entries = entries(alloc, awaited, next)?;
-    let scope = Scope::Names(&entries);
-    match step(alloc, code, &scope, state, output, budget, LEVELS) {
+    match step_awaiting(alloc, code, awaited, next, state, output, budget) {
         Ok(told) => Ok(told),
         Err(stop) => Err(refusal(stop, budget)),
     }

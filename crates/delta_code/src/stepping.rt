@@ -1,11 +1,11 @@
 //! States changed in place by more of their input: what they give, form by form.
 
-ghost use Rattle.std.specs.Prelude.{◌≡◌, ◌<◌, ◌≤◌, ◌++◌, ◌∷◌, [], map, IfOk, OnOk, IfErr};
-ghost use Rattle.stream_type.specs.StreamType.{type_of};
+ghost use Rattle.std.specs.Prelude.{◌≡◌, ◌<◌, ◌≤◌, ◌++◌, ◌∷◌, [], map, IfOk, OnOk, IfErr, IfSome};
+ghost use Rattle.stream_type.specs.StreamType.{type_of, eps};
 ghost use Rattle.stream_prefix.specs.StreamPrefix.{is_maximal, der, join};
 ghost use Rattle.stream_prefix.specs.Tree.{prefix_of};
 ghost use Rattle.hist_value.specs.Wholes.{value_of};
-ghost use Rattle.delta_state.specs.StateTree.{StateTree, is_var_state, par_state, cat_state, let_state, let_par_state, let_cat_state, sum_state, star_state, wait_state, frame_state};
+ghost use Rattle.delta_state.specs.StateTree.{StateTree, is_var_state, var_state, par_state, cat_state, let_state, let_par_state, let_cat_state, sum_state, star_state, wait_state, frame_state, no_arguments, argument_before};
 ghost use Rattle.delta_state.specs.StateMeaning.{knowing, run_later, types_held, prefixes_held};
 ghost use Rattle.delta_state.specs.Rest.{rest_later, held_more, cut_state};
 ghost use Rattle.machine_parts.specs.Entry.{entry_in};
@@ -14,6 +14,7 @@ ghost use Rattle.machine_parts.specs.Parameters.{parameters};
 ghost use Rattle.template_state.specs.Readers.{state_in, later_in, arguments_in};
 ghost use Rattle.delta_code.specs.Begun.{run_of, rest_of};
 ghost use Rattle.delta_code.specs.Eased.{Eased, EasedArguments};
+ghost use Rattle.delta_code.specs.GivenBack.{given_back};
 ghost use Rattle.delta_code.specs.Told.{told, left_after};
 ghost use Rattle.delta_code.specs.Steps.{funs_of, live_run, live_rest, lives_run, lives_rest};
 
@@ -388,9 +389,70 @@ fn step_wait<'a>(
 
 // A body on its arguments.
 #[cycle(step)]
-#[tactic(auto, using(crate::proofs::Easing::frame_eased, machine_parts::proofs::HeldAndComing::frames, machine_parts::proofs::Deeper::frame_deep))]
 #[inline(never)]
 fn step_frame<'a>(
+    alloc: Global,
+    code: &Code,
+    scope: &'a Scope<'a>,
+    args: &mut Arguments,
+    a: &mut Live,
+    r: &Ty,
+    left: u64,
+    levels: u64,
+) -> Result<Told, Stop>
+    ensures run { IfOk result (λ g. told g ≡ live_run code.now scope.now (frame_state (arguments_in args.old) (state_in a.old)) (type_of r.now)) }
+    ensures rest { OnOk result (Eased (live_rest code.now scope.now (frame_state (arguments_in args.old) (state_in a.old)) (type_of r.now)) (frame_state (arguments_in args.new) (state_in a.new))) }
+    ensures counted { IfOk result (λ g. g.calls ≤ left) }
+    ensures shallow { IfOk result (λ g. g.level ≤ levels) }
+    ensures spent { IfErr result (λ e. e ≡ Stop.Spent → left < (live_run code.now scope.now (frame_state (arguments_in args.old) (state_in a.old)) (type_of r.now)).calls) }
+    ensures deep { IfErr result (λ e. e ≡ Stop.Deep → levels < (live_run code.now scope.now (frame_state (arguments_in args.old) (state_in a.old)) (type_of r.now)).level) }
+{
+    match args {
+        Arguments::Before(x, t, s, others) => match only_name(s, others) {
+            Some(z) => step_on_name(alloc, code, scope, *x, t, z, a, r, left, levels),
+            None => step_on_all(alloc, code, scope, args, a, r, left, levels),
+        },
+        Arguments::None => step_on_all(alloc, code, scope, args, a, r, left, levels),
+    }
+}
+
+// A body on one argument, which is a name: its type, and what comes on it, are read where they stand.
+#[cycle(step)]
+#[tactic(auto, using(crate::proofs::Easing::frame_eased, machine_parts::proofs::Deeper::frame_deep))]
+#[inline(never)]
+fn step_on_name<'a>(
+    alloc: Global,
+    code: &Code,
+    scope: &'a Scope<'a>,
+    x: Name,
+    t: &mut Ty,
+    z: Name,
+    a: &mut Live,
+    r: &Ty,
+    left: u64,
+    levels: u64,
+) -> Result<Told, Stop>
+    ensures run { IfOk result (λ g. told g ≡ live_run code.now scope.now (frame_state (argument_before x.0 (type_of t.old) (var_state z.0) no_arguments) (state_in a.old)) (type_of r.now)) }
+    ensures rest { OnOk result (Eased (live_rest code.now scope.now (frame_state (argument_before x.0 (type_of t.old) (var_state z.0) no_arguments) (state_in a.old)) (type_of r.now)) (frame_state (argument_before x.0 (type_of t.new) (var_state z.0) no_arguments) (state_in a.new))) }
+    ensures counted { IfOk result (λ g. g.calls ≤ left) }
+    ensures shallow { IfOk result (λ g. g.level ≤ levels) }
+    ensures spent { IfErr result (λ e. e ≡ Stop.Spent → left < (live_run code.now scope.now (frame_state (argument_before x.0 (type_of t.old) (var_state z.0) no_arguments) (state_in a.old)) (type_of r.now)).calls) }
+    ensures deep { IfErr result (λ e. e ≡ Stop.Deep → levels < (live_run code.now scope.now (frame_state (argument_before x.0 (type_of t.old) (var_state z.0) no_arguments) (state_in a.old)) (type_of r.now)).level) }
+{
+    let p = stream_at(&*scope, z, &Prefix::EpsEmp);
+    let nothing = Vec::new(alloc);
+    let outer = Scope::Names(&nothing);
+    let inner = Scope::Stream(x, &*t, p, &outer);
+    let body = step(alloc, code, &inner, a, r, left, levels)?;
+    go_behind(alloc, t, p)?;
+    Ok(framed(none_told(), body)?)
+}
+
+// A body on any number of arguments.
+#[cycle(step)]
+#[tactic(auto, using(crate::proofs::Easing::frame_eased, machine_parts::proofs::HeldAndComing::frames, machine_parts::proofs::Deeper::frame_deep))]
+#[inline(never)]
+fn step_on_all<'a>(
     alloc: Global,
     code: &Code,
     scope: &'a Scope<'a>,
@@ -412,10 +474,11 @@ fn step_frame<'a>(
     let rest = left - arguments.calls;
     let on_those = on_arguments(arguments.are_shut, levels);
     let body = step(alloc, code, &Scope::Names(&entries), a, r, rest, on_those)?;
+    take_back(alloc, args, &mut entries)?;
     Ok(framed(arguments, body)?)
 }
 
-// The arguments of a frame, each put with its type from before behind what was found.
+// The arguments of a frame, each put with its type from before behind what was found, which the type is lent to.
 #[cycle(step)]
 #[tactic(auto, using(crate::proofs::Easing::arguments_eased, machine_parts::proofs::Runs::spent_after))]
 #[inline(never)]
@@ -430,7 +493,7 @@ fn step_arguments<'a>(
 ) -> Result<AllTold, Stop>
     ensures runs { IfOk result (λ a. (a.calls ≡ (lives_run code.now scope.now (arguments_in args.old)).calls) × ((a.level ≡ (lives_run code.now scope.now (arguments_in args.old)).level) × (a.are_shut ≡ (lives_run code.now scope.now (arguments_in args.old)).are_shut))) }
     ensures entries { OnOk result (map entry_in found.new.items ≡ map entry_in found.old.items ++ parameters (arguments_in args.old) (lives_run code.now scope.now (arguments_in args.old)).outs) }
-    ensures rests { OnOk result (EasedArguments (lives_rest code.now scope.now (arguments_in args.old)) (arguments_in args.new)) }
+    ensures rests { OnOk result (EasedArguments (lives_rest code.now scope.now (arguments_in args.old)) (given_back (parameters (arguments_in args.old) (lives_run code.now scope.now (arguments_in args.old)).outs) (arguments_in args.new))) }
     ensures counted { IfOk result (λ g. g.calls ≤ left) }
     ensures shallow { IfOk result (λ g. g.level ≤ levels) }
     ensures spent { IfErr result (λ e. e ≡ Stop.Spent → left < (lives_run code.now scope.now (arguments_in args.old)).calls) }
@@ -443,7 +506,7 @@ fn step_arguments<'a>(
             let one = step(alloc, code, scope, a, t, left, levels)?;
             let shut = is_name || maximal(&one.output);
             let (calls, level) = (one.calls, one.level);
-            keep(alloc, *x, t, one, found)?;
+            keep(*x, t, one, found)?;
             let rest = left - calls;
             let after = step_arguments(alloc, code, scope, others, rest, levels, found)?;
             Ok(told_before(shut, calls, level, after))
@@ -512,6 +575,17 @@ fn open_known(
     let p = stream_at(&all, x, &Prefix::EpsEmp);
     let known = knowing(alloc, x, type_at(&all, x, &Ty::Eps), p, &l.past)?;
     start(alloc, code, l.depth, &all, &known, &l.code, r, left, levels)
+}
+
+// The name that an argument is, if it is one and no other argument stands behind it.
+fn only_name(s: &Live, others: &Arguments) -> Option<Name>
+    ensures name { IfSome result (λ z. state_in s.now ≡ var_state z.0) }
+    ensures only { IfSome result (λ z. arguments_in others.now ≡ no_arguments) }
+{
+    match (s, others) {
+        (Live::Var(z), Arguments::None) => Some(*z),
+        _ => None,
+    }
 }
 
 // Whether a state is a name.
@@ -588,19 +662,12 @@ fn cut(
     }
 }
 
-// What an argument gave stands behind what was found, with its type from before; the type is what is left.
-fn keep(
-    alloc: Global,
-    x: Name,
-    t: &mut Ty,
-    told: Told,
-    found: &mut Vec<Entry>,
-) -> Result<(), Memory>
-    ensures ty { OnOk result (type_of t.new ≡ der (prefix_of told.output.value) (type_of t.old)) }
+// What an argument gave stands behind what was found, with its type from before, which is lent for that.
+fn keep(x: Name, t: &mut Ty, told: Told, found: &mut Vec<Entry>) -> Result<(), Memory>
+    ensures ty { type_of t.new ≡ eps }
     ensures found { OnOk result (map entry_in found.new.items ≡ map entry_in found.old.items ++ record { name = x.0; type = type_of t.old; prefix = prefix_of told.output.value } ∷ []) }
 {
-    let ty = stream_type::copy(alloc, t)?;
-    go_behind(alloc, t, &told.output)?;
+    let ty = mem::replace(t, Ty::Eps);
     let prefix = Box::into_inner(told.output);
     found.push(Entry {
         name: x,
@@ -608,4 +675,28 @@ fn keep(
         prefix,
     })?;
     Ok(())
+}
+
+// The types that were lent are given back to the arguments, each moved on over what came.
+fn take_back(alloc: Global, args: &mut Arguments, lent: &mut [Entry]) -> Result<(), Memory>
+    ensures { OnOk result (arguments_in args.new ≡ given_back (map entry_in lent.old) (arguments_in args.old)) }
+{
+    match args {
+        Arguments::None => Ok(()),
+        Arguments::Before(_, t, _, others) => {
+            let Some((first, rest)) = lent.split_first_mut() else {
+                return Ok(());
+            };
+            give_back(alloc, t, first)?;
+            take_back(alloc, others, rest)
+        }
+    }
+}
+
+// A type that was lent is given back, moved on over what came.
+fn give_back(alloc: Global, t: &mut Ty, lent: &mut Entry) -> Result<(), Memory>
+    ensures { OnOk result (type_of t.new ≡ der (prefix_of lent.old.prefix) (type_of lent.old.ty)) }
+{
+    *t = mem::replace(&mut lent.ty, Ty::Eps);
+    go_behind(alloc, t, &lent.prefix)
 }

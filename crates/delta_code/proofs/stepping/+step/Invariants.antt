@@ -25,5 +25,11 @@ decreases-step_row l = 1 + heft (state_in l.a.now)
 abbrev pub decreases-step_frame : goal.decreases-step_frame
 decreases-step_frame l = 2 + (heft_of_all (arguments_in l.args.now) + heft (state_in l.a.now))
 
+abbrev pub decreases-step_on_name : goal.decreases-step_on_name
+decreases-step_on_name l = 1 + heft (state_in l.a.now)
+
+abbrev pub decreases-step_on_all : goal.decreases-step_on_all
+decreases-step_on_all l = 1 + (heft_of_all (arguments_in l.args.now) + heft (state_in l.a.now))
+
 abbrev pub decreases-step_arguments : goal.decreases-step_arguments
-decreases-step_arguments l = 1 + heft_of_all (arguments_in l.args.now)
+decreases-step_arguments l = heft_of_all (arguments_in l.args.now)
