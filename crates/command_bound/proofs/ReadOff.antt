@@ -1,12 +1,12 @@
 -- What is read off a core and the places of its nodes is what is read off the program's own trees.
-use Rattle.std.proofs.Common.{◌≡◌, ℕ, suc, Bool, List, [], ◌∷◌, ◌++◌, length, drop, map, Option, None, ◌∙◌, ap, ap₂, sym, refl, append_assoc, append-nil, cond}
+use Rattle.std.proofs.Common.{◌≡◌, ℕ, suc, Bool, List, [], ◌∷◌, ◌++◌, drop, map, Option, None, ◌∙◌, ap, ap₂, sym, refl, append_assoc, append-nil, cond}
 use Rattle.std.specs.List.{concat}
 use Rattle.std.proofs.Math.Seq.{drop-append_seam}
 use Rattle.core_term.specs.declared.term.Term.{Term, Row_of-Node, end_of-Node, more_of-Node}
 use Rattle.core_term.specs.declared.term.Term.TheVariants.{Var, Eps, Unit as IsUnit, Past, Par', Cat', Inl', Inr', Nil, Cons', Let', LetPar', LetCat', CaseSum', CaseStar', Wait', Call'}
 use Rattle.core_term.specs.declared.program.Body.{Body}
 use Rattle.core_term.specs.declared.program.Core.{Core}
-use Rattle.core_term.specs.CoreTerm.{CoreTerm, CoreBody, term_in, term_of, terms_of, places_in, places_among, body_places, core_body_of, core_of, core_places, node_count}
+use Rattle.core_term.specs.CoreTerm.{CoreBody, term_in, terms_of, places_in, places_among, body_places, core_body_of, core_of, core_places}
 use Rattle.core_term.specs.FreeNames.{free_names}
 use Rattle.core_term.specs.Inert.{is_inert_fun}
 use Rattle.core_term.specs.Parts.{par_left, par_right, cat_first, cat_second, sum_left, sum_right, star_item, star_items}

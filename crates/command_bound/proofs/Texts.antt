@@ -1,10 +1,9 @@
 -- From what `bound` answers for the core of an accepted text to what is told of the text.
-use Rattle.std.proofs.Common.{◌≡◌, ◌∙◌, ℕ, List, [], Some, None, ap, sym, refl}
+use Rattle.std.proofs.Common.{◌≡◌, ◌∙◌, ℕ, List, ap, sym, refl}
 use Rattle.std.specs.Prelude.{slice_get}
 use Rattle.bunch.specs.declared.name.Name.{Name}
 use Rattle.core_term.specs.declared.program.Core.{Core}
 use Rattle.core_term.specs.CoreTerm.{core_of, core_places}
-use Rattle.state_bounds.specs.ProgramBound.{first_cycle}
 use Rattle.delta_tree.specs.SyntaxTree.{ProgramTree}
 use Rattle.delta_meaning.specs.NodePlaces.{program_places}
 use Rattle.delta_end.specs.declared.objection.BoundName.TheVariants as name
@@ -13,7 +12,7 @@ use Rattle.delta_bound.specs.declared.refusal.BoundRefusal.TheVariants.{Unbounde
 use Rattle.delta_bound.specs.Refusals.{HasBound, Refuses}
 use Rattle.delta_bound.specs.Unsized.{program_unsized}
 use Rattle.command_bound.specs.Unsized.{core_unsized, bodies_at}
-use Rattle.command_bound.specs.Bounding.{IsBound, IsBounded, IsUnbounded}
+use Rattle.command_bound.specs.Bounding.{IsBounded, IsUnbounded}
 use Rattle.command_bound.proofs.ReadOff.{core_reads_off, places_read_off}
 
 module _ (text : List ℕ) (p : ProgramTree) (c : Core) (accepted : IsAcceptedAs text p (core_of c)) (places : core_places c ≡ program_places p) where

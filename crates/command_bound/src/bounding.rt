@@ -89,7 +89,17 @@ pub fn bound_source<L: Link>(alloc: Global, text: &[u8], link: &mut L) -> End
         Ok(told) => told,
         Err(end) => return end,
     };
-    match send(link, told.as_bytes()) {
+    send_line(link, told.as_bytes())
+}
+
+// Writes the line of a bound. What was told of a text in it is told of what was written.
+fn send_line<L: Link>(link: &mut L, line: &[u8]) -> End
+    ensures told { (text : List ℕ) → TellsAll text line.now → (sent : List ℕ) × Writes (L.log link.old) (L.log link.new) sent × Tells text sent result }
+    ensures unread { L.left link.new ≡ L.left link.old }
+    ensures read { L.read_faults link.new ≡ L.read_faults link.old }
+    ensures write { WriteCause result (L.write_faults link.old) (L.write_faults link.new) }
+{
+    match send(link, line) {
         Ok(()) => End::Done,
         Err(IoFault::Memory) => End::Memory,
         Err(IoFault::Failed) => End::WriteFailed,

@@ -1,5 +1,5 @@
 -- The line of the bound, or what refuses it, is told of each text that has this program.
-use Rattle.std.proofs.Common.{◌≡◌, ℕ, [], inl, refl, sym, subst}
+use Rattle.std.proofs.Common.{ℕ, [], inl, refl, sym, subst}
 use Rattle.std.proofs.lemmas.Result.{IfOk-weaker, IfErr-weaker}
 use Rattle.delta_end.specs.declared.end.End.{End}
 use Rattle.delta_end.specs.End.{WriteCause}
