@@ -13,10 +13,11 @@ ghost use Rattle.delta_derive.specs.FirstFault.{TextLines, after, fault_at, firs
 
 use crate::fault::DeriveFault;
 use crate::line::{Line, Step, Turn};
-use crate::open::OpenTerm;
+use crate::open::{OpenTerm, add};
 use crate::ruling::{add_parts, add_parts_by};
 use crate::stepping::rearrange;
-use bunch::{Name, copy};
+use crate::trees::copied;
+use bunch::Name;
 use core_term::{Body, Core};
 use hist_value::{HTy, past};
 use std::alloc::Global;
@@ -38,25 +39,12 @@ pub fn first_goals<'a>(alloc: Global, c: &'a Core) -> Result<Vec<OpenTerm<'a>>, 
 }
 
 // Adds the body of a function.
-#[tactic(auto, using(crate::proofs::Fronts::fronts))]
 fn add_body<'a>(alloc: Global, b: &'a Body, goals: &mut Vec<OpenTerm<'a>>) -> Result<(), Memory>
     ensures { OnOk result (map claim_of goals.new.items ≡ map claim_of goals.old.items ++ body_claim (core_body_of b.now) ∷ []) }
 {
-    let goal = body_goal(alloc, b)?;
-    goals.push(goal)?;
-    Ok(())
-}
-
-// The body of a function.
-fn body_goal<'a>(alloc: Global, b: &'a Body) -> Result<OpenTerm<'a>, Memory>
-    ensures { IfOk result (λ o. claim_of o ≡ body_claim (core_body_of b.now)) }
-{
-    Ok(OpenTerm {
-        known: known_params(alloc, &b.past)?,
-        bunch: copy(alloc, &b.params)?,
-        node: &b.body,
-        result: &b.result,
-    })
+    let known = known_params(alloc, &b.past)?;
+    let bunch = copied(alloc, &b.params)?;
+    add(known, bunch, &b.body, &b.result, goals)
 }
 
 // The types of historical parameters; of two with one name the first counts.

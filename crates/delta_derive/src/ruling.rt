@@ -20,7 +20,7 @@ use crate::line::Turn;
 use crate::open::{OpenTerm, add, add_hidden, add_hidden_two, add_in, add_part, add_two, learned};
 use crate::pasts::is_past;
 use crate::path::{part_at, put_at};
-use crate::trees::{boxed, copied, pair, sequence, single, single_beside};
+use crate::trees::{beside, boxed, copied, leaf, pair, sequence, single_beside};
 use crate::types::{is_same, is_star, may_wait};
 use bunch::{Bunch, Name};
 use core_term::{Core, Node, Term};
@@ -284,7 +284,8 @@ fn add_branch<'a>(
     ensures { OnOk result (map claim_of parts.new.items ≡ map claim_of parts.old.items
         ++ below_one (types_of aim.now.known.items) x.0 z.0 (type_of whole.now) (leaf x.0 (type_of s.now)) (tree_of aim.now.bunch) (term_of a.now) (type_of aim.now.result.now) ∷ []) }
 {
-    let part = single(alloc, z, whole, x, s)?;
+    let side = leaf(alloc, x, s)?;
+    let part = beside(alloc, z, whole, side)?;
     let bunch = with_leaf(alloc, &aim.bunch, z, part)?;
     add_hidden(alloc, aim, x, bunch, a, parts)
 }

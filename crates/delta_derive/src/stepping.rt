@@ -5,7 +5,7 @@ ghost use Rattle.bunch.specs.BunchTree.{tree_of, empty};
 ghost use Rattle.core_term.specs.TypeFaults.{found_where};
 ghost use Rattle.bunch_rules.specs.Rearranging.{left_step, right_step, loosen_step, unit_step, swap_step, before_step, after_step, beside_step};
 ghost use Rattle.delta_derive.specs.LineText.{turn_of, step_of};
-ghost use Rattle.delta_derive.specs.Rearranged.{stepped, rearranged, commas_left, semis_left, commas_right, semis_right, is_empty, only_side};
+ghost use Rattle.delta_derive.specs.Rearranged.{stepped, rearranged, is_empty, only_side};
 
 use crate::line::{Step, Turn};
 use crate::trees::{boxed, comma, semi};
@@ -106,32 +106,22 @@ fn grouped_left(alloc: Global, b: Bunch) -> Result<Option<Bunch>, Memory>
     ensures { IfOk result (λ o. option_map tree_of o ≡ stepped left_step (tree_of b)) }
 {
     match b {
-        Bunch::Comma(b, c) => commas_left(alloc, b, c),
-        Bunch::Semi(b, c) => semis_left(alloc, b, c),
-        other => {
-            drop(other);
-            Ok(None)
-        }
-    }
-}
-
-fn commas_left(alloc: Global, b: Box<Bunch>, c: Box<Bunch>) -> Result<Option<Bunch>, Memory>
-    ensures { IfOk result (λ o. option_map tree_of o ≡ commas_left (tree_of b.value) (tree_of c.value)) }
-{
-    match Box::into_inner(c) {
-        Bunch::Comma(c, d) => Ok(Some(Bunch::Comma(comma(alloc, b, c)?, d))),
-        other => {
-            drop(other);
-            Ok(None)
-        }
-    }
-}
-
-fn semis_left(alloc: Global, b: Box<Bunch>, c: Box<Bunch>) -> Result<Option<Bunch>, Memory>
-    ensures { IfOk result (λ o. option_map tree_of o ≡ semis_left (tree_of b.value) (tree_of c.value)) }
-{
-    match Box::into_inner(c) {
-        Bunch::Semi(c, d) => Ok(Some(Bunch::Semi(semi(alloc, b, c)?, d))),
+        Bunch::Comma(b, c) => match Box::into_inner(c) {
+            Bunch::Comma(c, d) => Ok(Some(Bunch::Comma(comma(alloc, b, c)?, d))),
+            other => {
+                drop(b);
+                drop(other);
+                Ok(None)
+            }
+        },
+        Bunch::Semi(b, c) => match Box::into_inner(c) {
+            Bunch::Semi(c, d) => Ok(Some(Bunch::Semi(semi(alloc, b, c)?, d))),
+            other => {
+                drop(b);
+                drop(other);
+                Ok(None)
+            }
+        },
         other => {
             drop(other);
             Ok(None)
@@ -144,32 +134,22 @@ fn grouped_right(alloc: Global, b: Bunch) -> Result<Option<Bunch>, Memory>
     ensures { IfOk result (λ o. option_map tree_of o ≡ stepped right_step (tree_of b)) }
 {
     match b {
-        Bunch::Comma(b, c) => commas_right(alloc, b, c),
-        Bunch::Semi(b, c) => semis_right(alloc, b, c),
-        other => {
-            drop(other);
-            Ok(None)
-        }
-    }
-}
-
-fn commas_right(alloc: Global, b: Box<Bunch>, d: Box<Bunch>) -> Result<Option<Bunch>, Memory>
-    ensures { IfOk result (λ o. option_map tree_of o ≡ commas_right (tree_of b.value) (tree_of d.value)) }
-{
-    match Box::into_inner(b) {
-        Bunch::Comma(b, c) => Ok(Some(Bunch::Comma(b, comma(alloc, c, d)?))),
-        other => {
-            drop(other);
-            Ok(None)
-        }
-    }
-}
-
-fn semis_right(alloc: Global, b: Box<Bunch>, d: Box<Bunch>) -> Result<Option<Bunch>, Memory>
-    ensures { IfOk result (λ o. option_map tree_of o ≡ semis_right (tree_of b.value) (tree_of d.value)) }
-{
-    match Box::into_inner(b) {
-        Bunch::Semi(b, c) => Ok(Some(Bunch::Semi(b, semi(alloc, c, d)?))),
+        Bunch::Comma(b, d) => match Box::into_inner(b) {
+            Bunch::Comma(b, c) => Ok(Some(Bunch::Comma(b, comma(alloc, c, d)?))),
+            other => {
+                drop(other);
+                drop(d);
+                Ok(None)
+            }
+        },
+        Bunch::Semi(b, d) => match Box::into_inner(b) {
+            Bunch::Semi(b, c) => Ok(Some(Bunch::Semi(b, semi(alloc, c, d)?))),
+            other => {
+                drop(other);
+                drop(d);
+                Ok(None)
+            }
+        },
         other => {
             drop(other);
             Ok(None)

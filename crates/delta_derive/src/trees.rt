@@ -53,8 +53,8 @@ pub fn semi(alloc: Global, a: Box<Bunch>, b: Box<Bunch>) -> Result<Box<Bunch>, M
     boxed(alloc, Bunch::Semi(a, b))
 }
 
-// A part beside `z`.
-fn beside(alloc: Global, z: Name, whole: &Ty, part: Box<Bunch>) -> Result<Box<Bunch>, Memory>
+/// A part beside `z`. Its only error is want of memory.
+pub fn beside(alloc: Global, z: Name, whole: &Ty, part: Box<Bunch>) -> Result<Box<Bunch>, Memory>
     ensures { IfOk result (λ b. tree_of b.value ≡ beside z.0 (type_of whole.now) (tree_of part.value)) }
 {
     let stream = leaf(alloc, z, whole)?;
@@ -83,13 +83,6 @@ fn leaves(
     let left = leaf(alloc, x, s)?;
     let right = leaf(alloc, y, t)?;
     Ok((left, right))
-}
-
-/// `x` beside `z`. Its only error is want of memory.
-pub fn single(alloc: Global, z: Name, whole: &Ty, x: Name, s: &Ty) -> Result<Box<Bunch>, Memory>
-    ensures { IfOk result (λ b. tree_of b.value ≡ beside z.0 (type_of whole.now) (leaf x.0 (type_of s.now))) }
-{
-    beside(alloc, z, whole, leaf(alloc, x, s)?)
 }
 
 /// `x, y` beside `z`. Its only error is want of memory.

@@ -3,4 +3,4 @@
 use Rattle.delta_derive.proofs.ruling.add_branch.Goals as goal
 
 pub returns : goal.returns
-returns c = rw (c.in_ok-bunch.ensures, c.in_ok-part.ensures) at c.add_hidden.ensures
+returns c = rw (c.in_ok-bunch.ensures, c.in_ok-part.ensures, c.in_ok-side.ensures) at c.add_hidden.ensures
