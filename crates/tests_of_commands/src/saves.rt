@@ -50,7 +50,12 @@ struct Answer {
 }
 
 // Runs the words over the shelf and an input.
-fn answer(alloc: Global, line: &str, shelf: &mut MemShelf, input: &[u8]) -> Result<Answer, Fail> {
+fn answer_to(
+    alloc: Global,
+    line: &str,
+    shelf: &mut MemShelf,
+    input: &[u8],
+) -> Result<Answer, Fail> {
     let given = words(alloc, line)?;
     let mut link = link(alloc, input, 4096, 4096)?;
     let mut notes = MemSink::new(alloc, Vec::new(alloc));
@@ -83,9 +88,9 @@ fn holds(shelf: &mut MemShelf, name: &str, bytes: &[u8]) -> bool {
 // writes, and change no other file.
 fn join(alloc: Global, place: usize) -> Result<bool, Fail> {
     let mut shelf = shelf_of(alloc, DOUBLE, b"")?;
-    let mut first = answer(alloc, "save program state", &mut shelf, &FEED[..place])?;
+    let mut first = answer_to(alloc, "save program state", &mut shelf, &FEED[..place])?;
     let rest = rest_of(alloc, place)?;
-    let second = answer(alloc, "resume program state", &mut shelf, &rest)?;
+    let second = answer_to(alloc, "resume program state", &mut shelf, &rest)?;
     first.bytes.extend_from_slice(&second.bytes)?;
     let ended = first.status == 6 && second.status == 0 && second.note.is_empty();
     let others = holds(&mut shelf, "other", b"other") && holds(&mut shelf, "program", DOUBLE);
@@ -184,7 +189,7 @@ const ROWS: &[Row] = &[
 // Whether the words answer as the row says, and leave the files as they are.
 fn answers(alloc: Global, row: &Row) -> Result<bool, Fail> {
     let mut shelf = shelf_of(alloc, SAME, row.state)?;
-    let answer = answer(alloc, row.words, &mut shelf, row.input)?;
+    let answer = answer_to(alloc, row.words, &mut shelf, row.input)?;
     let told = answer.status == row.status && answer.note.as_slice() == row.note;
     let stays = holds(&mut shelf, "state", row.state) && holds(&mut shelf, "other", b"other");
     Ok(told && stays && answer.bytes.as_slice() == row.output)
@@ -201,7 +206,7 @@ fn a_state_is_judged(rt: HostRuntime) -> Result<(), Fail> {
 // Whether a run that doesn't end well leaves the file of the state as it is.
 fn leaves_nothing(alloc: Global, line: &str, input: &[u8], status: u8) -> Result<bool, Fail> {
     let mut shelf = shelf_of(alloc, DOUBLE, b"before")?;
-    let answer = answer(alloc, line, &mut shelf, input)?;
+    let answer = answer_to(alloc, line, &mut shelf, input)?;
     Ok(answer.status == status && holds(&mut shelf, "state", b"before"))
 }
 
