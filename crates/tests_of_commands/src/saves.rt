@@ -32,12 +32,24 @@ const FRESH: &[u8] = &[
 // The frame of the number 4.
 const FOUR: &[u8] = b"DEV1\0\x11\0\0\0\0\0\0\0\x04";
 
-// A shelf that holds these texts as the files `program`, `state` and `other`.
+// Adds a file.
+fn add_file(
+    alloc: Global,
+    files: &mut Vec<(String, Vec<u8>)>,
+    name: &str,
+    bytes: &[u8],
+) -> Result<(), Fail> {
+    let name = String::from_str(alloc, name)?;
+    files.push((name, bytes.to_vec(alloc)?))?;
+    Ok(())
+}
+
+// A shelf that holds these texts as the files `program` and `state`, and a third file.
 fn shelf_of(alloc: Global, text: &[u8], state: &[u8]) -> Result<MemShelf, Fail> {
     let mut files = Vec::new(alloc);
-    for (name, bytes) in [("program", text), ("state", state), ("other", b"other")] {
-        files.push((String::from_str(alloc, name)?, bytes.to_vec(alloc)?))?;
-    }
+    add_file(alloc, &mut files, "program", text)?;
+    add_file(alloc, &mut files, "state", state)?;
+    add_file(alloc, &mut files, "other", b"other")?;
     Ok(MemShelf::new(alloc, files, Vec::new(alloc)))
 }
 
@@ -69,10 +81,10 @@ fn answer_to(
     })
 }
 
-// A header, and the rest of the feed from a place on.
-fn rest_of(alloc: Global, place: usize) -> Result<Vec<u8>, Fail> {
-    let mut bytes = FEED[..4].to_vec(alloc)?;
-    bytes.extend_from_slice(&FEED[place..])?;
+// A header, and these bytes behind it.
+fn behind_header(alloc: Global, rest: &[u8]) -> Result<Vec<u8>, Fail> {
+    let mut bytes = b"DEV1".to_vec(alloc)?;
+    bytes.extend_from_slice(rest)?;
     Ok(bytes)
 }
 
@@ -87,9 +99,11 @@ fn holds(shelf: &mut MemShelf, name: &str, bytes: &[u8]) -> bool {
 // Whether a run over the feed up to a place, and one that goes on from what it leaves, write together what one run
 // writes, and change no other file.
 fn join(alloc: Global, place: usize) -> Result<bool, Fail> {
+    let feed = FEED;
+    let (before, rest) = feed.split_at(place.min(feed.len()));
     let mut shelf = shelf_of(alloc, DOUBLE, b"")?;
-    let mut first = answer_to(alloc, "save program state", &mut shelf, &FEED[..place])?;
-    let rest = rest_of(alloc, place)?;
+    let mut first = answer_to(alloc, "save program state", &mut shelf, before)?;
+    let rest = behind_header(alloc, rest)?;
     let second = answer_to(alloc, "resume program state", &mut shelf, &rest)?;
     first.bytes.extend_from_slice(&second.bytes)?;
     let ended = first.status == 6 && second.status == 0 && second.note.is_empty();
