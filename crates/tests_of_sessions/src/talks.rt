@@ -182,11 +182,11 @@ fn too_many_calls_close_a_session(rt: HostRuntime) -> Result<(), Fail> {
     Ok(())
 }
 
-// The plain machine goes deeper at each call, so these are talks with the other one.
+// Both machines go as deep as the levels.
 #[test]
 fn nests_have_a_thousand_levels(rt: HostRuntime) -> Result<(), Fail> {
     for talk in NESTS {
-        assert!(rt; goes_on::<Coded>(rt.alloc(), talk)?, "{}", talk.text);
+        assert!(rt; goes_on_both(rt.alloc(), talk)?, "{}", talk.text);
     }
     Ok(())
 }
