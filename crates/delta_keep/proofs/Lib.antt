@@ -5,5 +5,6 @@ pub mod Trees
 pub mod PlacedBytes
 pub mod Walks
 pub mod ReadLists
+pub mod Passing
 pub mod ReadCases
 pub mod Faults
