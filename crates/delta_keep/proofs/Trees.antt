@@ -29,7 +29,7 @@ use Rattle.delta_keep.specs.declared.kept.KeptState.TheVariants.{Frame}
 use Rattle.delta_keep.specs.Written.{written_term, written_nodes, nodes_of, written_node, written_state, written_arguments, arguments_in, written_argument}
 
 -- a star's items, and what stands after them
-whole-star_of : (ps : List StreamPrefix) (e : StarEnd) → whole_items (star_of ps (end_of e)) ≡ length ps
+pub whole-star_of : (ps : List StreamPrefix) (e : StarEnd) → whole_items (star_of ps (end_of e)) ≡ length ps
 whole-star_of [] Emp = refl
 whole-star_of [] Done = refl
 whole-star_of [] (First' x p) = refl
@@ -50,7 +50,7 @@ pub star_bytes : (v : Vec Prefix Global) (e : StarEnd) → prefix_bytes (prefix_
 star_bytes v e = ap prefix_bytes (prefix_of-star v e) ∙ bytes-star_of (map prefix_of v.items) e
 
 -- the items of a list's value
-count-list_of : (vs : List HistValue) → item_count (list_of vs) ≡ length vs
+pub count-list_of : (vs : List HistValue) → item_count (list_of vs) ≡ length vs
 count-list_of [] = refl
 count-list_of (v ∷ vs) = ap suc (count-list_of vs)
 
@@ -62,7 +62,7 @@ bytes-list_of : (vs : List HistValue) → value_bytes (list_of vs) ≡ 5 ∷ lis
 bytes-list_of [] = refl
 bytes-list_of (v ∷ vs) = ap₂ (λ n bs. 5 ∷ short_bytes n ++ bs) (count-list_of (v ∷ vs)) (items-list_of (v ∷ vs))
 
-row_of-list : (m : Count) (k : Row_of-Value m) → row_of k ≡ map hist_value_of (items-the_row-Value m k)
+pub row_of-list : (m : Count) (k : Row_of-Value m) → row_of k ≡ map hist_value_of (items-the_row-Value m k)
 row_of-list m end_of-Value = refl
 row_of-list m (more_of-Value v k) = cc (row_of-list _ k)
 
@@ -76,7 +76,7 @@ nodes-list : (m : Count) (k : Row_of-Node m) → written_nodes k ≡ concat (map
 nodes-list m end_of-Node = refl
 nodes-list m (more_of-Node i a k) = ap (λ bs. (short_bytes i ++ written_term a) ++ bs) (nodes-list _ k)
 
-count-nodes : (m : Count) (k : Row_of-Node m) → nodes_of k ≡ length (items-the_row-Node m k)
+pub count-nodes : (m : Count) (k : Row_of-Node m) → nodes_of k ≡ length (items-the_row-Node m k)
 count-nodes m end_of-Node = refl
 count-nodes m (more_of-Node i a k) = ap suc (count-nodes _ k)
 
@@ -90,7 +90,7 @@ arguments-list : (m : Count) (k : Row_of-Argument m) → written_arguments k ≡
 arguments-list m end_of-Argument = refl
 arguments-list m (more_of-Argument x t p s k) = cc (arguments-list _ k)
 
-count-arguments : (m : Count) (k : Row_of-Argument m) → arguments_in k ≡ length (items-the_row-Argument m k)
+pub count-arguments : (m : Count) (k : Row_of-Argument m) → arguments_in k ≡ length (items-the_row-Argument m k)
 count-arguments m end_of-Argument = refl
 count-arguments m (more_of-Argument x t p s k) = ap suc (count-arguments _ k)
 
