@@ -7,4 +7,5 @@ pub mod Walks
 pub mod Pieces
 pub mod ReadLists
 pub mod Sizes
+pub mod Shapes
 pub mod Faults

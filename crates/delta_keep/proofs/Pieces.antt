@@ -1,8 +1,12 @@
 -- What readers of pieces answer, by what the readers of the pieces do.
-use Rattle.std.proofs.Common.{◌≡◌, ◌∙◌, ℕ, suc, List, [], ◌∷◌, ◌++◌, length, ap, sym, refl, append_assoc}
-use Rattle.std.specs.Prelude.{⊤, Option, Some, None, Result, Ok, Err}
-use Rattle.kept_state.specs.KeptBytes.{short_bytes}
+use Rattle.std.proofs.Common.{◌≡◌, ◌∙◌, ℕ, suc, List, [], ◌∷◌, ◌++◌, length, ap, sym, refl, subst, append_assoc}
+use mir.Val.{to_z, of_z}
+use Rattle.std.specs.Int.{w64}
+use Rattle.std.proofs.lemmas.Int.{to_z-of_z}
+use Rattle.std.specs.Prelude.{ℤ, ⊤, Option, Some, None, Result, Ok, Err}
+use Rattle.kept_state.specs.KeptBytes.{short_bytes, int_bytes}
 use Rattle.kept_state.specs.KeptForm.{Kind, Part, any, form, settle, after_byte, term_kind, node_parts}
+use Rattle.kept_state.specs.KeptSizes.{FitsInt}
 use Rattle.delta_keep.specs.declared.halt.Halt.{Halt}
 use Rattle.delta_keep.specs.declared.halt.Halt.TheVariants.{Memory, At}
 use Rattle.delta_keep.specs.Walking.{Walk, walk, walk_on, passed, stuck}
@@ -30,6 +34,21 @@ regrouped ((a, b), c) = (a, b, c)
 pub names_fit : {F G H J : Type 0} → (F × G × H) × J → F × G × H × J
 names_fit ((a, b, c), d) = (a, b, c, d)
 
+pub flat_3 : {F G H : Type 0} → F × (G × H) → F × G × H
+flat_3 (a, (b, c)) = (a, b, c)
+
+pub flat_5 : {F G H J K : Type 0} → F × (G × (H × (J × K))) → F × G × H × J × K
+flat_5 (a, (b, (c, (d, e)))) = (a, b, c, d, e)
+
+pub flat_2_3 : {F G H J K : Type 0} → (F × G) × (H × (J × K)) → F × G × H × J × K
+flat_2_3 ((a, b), (c, (d, e))) = (a, b, c, d, e)
+
+pub flat_2_4 : {F G H J K L : Type 0} → (F × G) × (H × (J × (K × L))) → F × G × H × J × K × L
+flat_2_4 ((a, b), (c, (d, (e, f)))) = (a, b, c, d, e, f)
+
+pub flat_later : {F G H J : Type 0} → F × ((G × H) × J) → F × G × H × J
+flat_later (a, ((b, c), d)) = (a, b, c, d)
+
 -- two pieces in turn,
 pub then : {F G : Type 0} {ps qs : List Part} {bytes w mid v rest : List ℕ} → Read ps bytes w mid F → Read qs mid v rest G → Read (ps ++ qs) bytes (w ++ v) rest (F × G)
 then {F} {G} {ps} {qs} {bytes} {w} {mid} {v} {rest} h k = record {
@@ -51,6 +70,16 @@ stops_first ps qs bytes (At left) h = walk_2 ps qs bytes ∙ ap (λ u. u >>= λ 
 pub stops_second : {F : Type 0} {ps : List Part} (qs : List Part) {bytes w mid : List ℕ} (e : Halt) → Read ps bytes w mid F → Stops qs mid e → Stops (ps ++ qs) bytes e
 stops_second qs Memory h k = tt
 stops_second {F} {ps} qs {bytes} {w} {mid} (At left) h k = behind ps qs bytes mid h.walked ∙ k
+
+-- a piece, and what the reader of those behind it answers
+pub then_reads : {V F : Type 0} {ps : List Part} (qs : List Part) {bytes w mid : List ℕ} (v rest : V → List ℕ) (G : V → Type 0) (r : Result V Halt) → Read ps bytes w mid F → Reads qs mid v rest G r
+    → Reads (ps ++ qs) bytes (λ x. w ++ v x) rest G r
+then_reads qs v rest G (Ok x) h k = as_written refl second_of (then h k)
+then_reads qs v rest G (Err e) h k = stops_second qs e h k
+
+-- a number with a sign, as it is handed on
+pub handed_on : {bytes rest : List ℕ} (n : ℤ) → Read (any 8 ∷ []) bytes (int_bytes n) rest (FitsInt n) → Read (any 8 ∷ []) bytes (int_bytes (to_z w64 (of_z w64 n))) rest (FitsInt (to_z w64 (of_z w64 n)))
+handed_on {bytes} {rest} n h = subst (λ m. Read (any 8 ∷ []) bytes (int_bytes m) rest (FitsInt m)) (sym (to_z-of_z w64 n h.sizes)) h
 
 -- a form, and its fields
 form_walk : (k : Kind) (n : ℕ) (fs : List Part) (mid : List ℕ) → after_byte (form k ∷ []) n ≡ Some fs → walk (form k ∷ []) (n ∷ mid) ≡ walk (settle fs) mid

@@ -1,9 +1,11 @@
 -- The sizes of the numbers of trees that hold rows of trees.
 use mathlib.Core.Former.{Count}
 use Rattle.std.proofs.Common.{Box, ◌≡◌, ◌∙◌, ◌+◌, ℕ, suc, List, [], ◌∷◌, map, length, ap, refl, sym, subst, arith}
+use Rattle.std.specs.Prelude.{⊤}
 use Rattle.std.specs.List.{AllByRecursion}
 use Rattle.std.specs.declared.vec.Vec.{Vec}
 use Rattle.std.specs.declared.alloc.Global.{Global}
+use Rattle.stream_type.specs.StreamType.{type_of}
 use Rattle.stream_prefix.specs.declared.prefix.Prefix.{Prefix}
 use Rattle.stream_prefix.specs.declared.prefix.Prefix.TheVariants.{Star}
 use Rattle.stream_prefix.specs.declared.prefix.StarEnd.{StarEnd}
@@ -23,13 +25,13 @@ use Rattle.core_term.specs.declared.term.Term.TheVariants.{Call}
 use Rattle.core_term.specs.CoreTerm.{term_in, terms_of, term_count}
 use Rattle.delta_state.specs.StateTree.{argument_names}
 use Rattle.kept_state.specs.KeptBytes.{whole_items, item_count}
-use Rattle.kept_state.specs.KeptSizes.{FitsShort, FitsPrefix, FitsValue, FitsExprs, FitsTerm, FitsTerms, FitsState, FitsArguments, FitsKnown, FitsLong, FitsLater}
+use Rattle.kept_state.specs.KeptSizes.{FitsShort, FitsPrefix, FitsValue, FitsExprs, FitsTerm, FitsTerms, FitsState, FitsArguments, FitsLong, HasSizes}
 use Rattle.delta_keep.specs.declared.kept.Argument.{Argument}
-use Rattle.delta_keep.specs.declared.kept.Waiting.{Waiting}
+use Rattle.delta_keep.specs.declared.kept.Kept.{Kept}
 use Rattle.delta_keep.specs.declared.kept.KeptState.{KeptState, Row_of-Argument, end_of-Argument, more_of-Argument, items-the_row-Argument, items_hidden-the_row-Argument-0}
 use Rattle.delta_keep.specs.declared.kept.KeptState.TheBlock.{hidden-the_row-Argument-0}
 use Rattle.delta_keep.specs.declared.kept.KeptState.TheVariants.{Frame}
-use Rattle.delta_keep.specs.KeptView.{known_of, later_of, state_of, arguments_of}
+use Rattle.delta_keep.specs.KeptView.{kept_of, state_of, arguments_of}
 use Rattle.delta_keep.specs.Reads.{FitsList, FitsNode, FitsArgument}
 use Rattle.delta_keep.proofs.Trees.{whole-star_of, count-list_of, row_of-list}
 
@@ -40,7 +42,7 @@ one_less n h = omega (arith, h)
 -- a star's items, and what stands after them
 fits-star_of : (ps : List StreamPrefix) (e : StarEnd) → FitsList FitsPrefix ps → FitsPrefix (end_of e) → FitsPrefix (star_of ps (end_of e))
 fits-star_of [] e h k = k
-fits-star_of (p ∷ ps) e (n, h, hs) k = (h, fits-star_of ps e (one_less (length ps) n, hs) k, subst FitsShort (ap suc (sym (whole-star_of ps e))) n)
+fits-star_of (p ∷ ps) e (n, (h, hs)) k = (h, fits-star_of ps e (one_less (length ps) n, hs) k, subst FitsShort (ap suc (sym (whole-star_of ps e))) n)
 
 pub star_fits : (v : Vec Prefix Global) (e : StarEnd) → FitsList FitsPrefix (map prefix_of v.items) × FitsPrefix (end_of e) → FitsPrefix (prefix_of (Star v e))
 star_fits v e (h, k) = subst FitsPrefix (sym (prefix_of-star v e)) (fits-star_of (map prefix_of v.items) e h k)
@@ -48,7 +50,7 @@ star_fits v e (h, k) = subst FitsPrefix (sym (prefix_of-star v e)) (fits-star_of
 -- the items of a list's value
 fits-list_of : (vs : List HistValue) → FitsList FitsValue vs → FitsValue (list_of vs)
 fits-list_of [] h = tt
-fits-list_of (v ∷ vs) (n, h, hs) = (h, fits-list_of vs (one_less (length vs) n, hs), subst FitsShort (ap suc (sym (count-list_of vs))) n)
+fits-list_of (v ∷ vs) (n, (h, hs)) = (h, fits-list_of vs (one_less (length vs) n, hs), subst FitsShort (ap suc (sym (count-list_of vs))) n)
 
 pub list_fits : (v : Vec Value Global) → FitsList FitsValue (map hist_value_of v.items) → FitsValue (hist_value_of (ListValue v))
 list_fits v h =
@@ -58,14 +60,14 @@ list_fits v h =
 -- a row of nodes
 count-terms : (m : Count) (k : Row_of-Node m) → term_count (terms_of k) ≡ length (items-the_row-Node m k)
 count-terms m end_of-Node = refl
-count-terms m (more_of-Node i a k) = ap suc (count-terms _ k)
+count-terms m (more_of-Node i a k) = let e = count-terms _ k in omega (arith, e)
 
 fits-terms : (m : Count) (k : Row_of-Node m) → AllByRecursion FitsNode (items-the_row-Node m k) → FitsTerms (terms_of k)
 fits-terms m end_of-Node h = tt
 fits-terms m (more_of-Node i a k) (h, hs) = (h, fits-terms _ k hs)
 
-pub call_fits : (f : ℕ) (ms : Vec Expr Global) (es : Vec Node Global) → FitsShort f × FitsExprs (map expr_of ms.items) × FitsList FitsNode es.items → FitsTerm (term_in (Call f ms es))
-call_fits f ms es (h, k, n, l) = (
+pub call_fits : (f : ℕ) (ms : Vec Expr Global) (es : Vec Node Global) → FitsShort f × (FitsExprs (map expr_of ms.items) × FitsList FitsNode es.items) → FitsTerm (term_in (Call f ms es))
+call_fits f ms es (h, (k, (n, l))) = (
   h,
   k,
   subst FitsShort (sym (count-terms _ (hidden-the_row-Node-0 es) ∙ ap length (items_hidden-the_row-Node-0 es))) n,
@@ -88,6 +90,6 @@ frame_fits args s ((n, h), k) = (
   k,
 )
 
--- code that isn't reached
-pub later_fits : (l : Waiting) → FitsNode l.code.value × FitsList FitsKnown (map known_of l.past.items) × FitsLong l.depth → FitsLater (later_of l)
-later_fits l (h, (n, ks), d) = (h, n, ks, d)
+-- a kept state
+pub kept_fits : (k : Kept) → ⊤ × (FitsLong k.events × (FitsShort (length (map type_of k.ins.items)) × (FitsShort (length k.cuts.items) × (⊤ × FitsState (state_of k.state.value))))) → HasSizes (kept_of k)
+kept_fits k (a, (events, (types, (cuts, (b, state))))) = record { events = events; types = types; cuts = cuts; state = state }

@@ -24,7 +24,7 @@ use std::alloc::Global;
 const MOST_LEVELS: u32 = 10_000;
 
 /// The kept state with these bytes. They are refused where their form is wrong, and for that alone: nothing
-/// is asked of types.
+/// is asked of types. The numbers of what is read have their sizes.
 #[tactic(auto, using(crate::proofs::PlacedBytes::written_kept_is, crate::proofs::Faults::many_told, crate::proofs::Faults::version_told, crate::proofs::Faults::fault_told))]
 pub fn read_kept(alloc: Global, bytes: &[u8]) -> Result<Kept, ReadFault>
     ensures bytes { IfOk result (λ k. bytes.now ≡ kept_bytes (kept_of k) (places_kept k)) }
@@ -56,7 +56,6 @@ fn other_version(bytes: &[u8]) -> Option<u8>
 }
 
 // The kept state that all of these bytes spell.
-#[tactic(auto, using(crate::proofs::Faults::ends_whole, crate::proofs::Faults::ends_behind, crate::proofs::Faults::ends_stopped))]
 fn read_whole(alloc: Global, bytes: &[u8]) -> Result<Kept, Halt>
     ensures spelled { IfOk result (λ k. bytes.now ≡ written_kept k) }
     ensures sizes { IfOk result (λ k. HasSizes (kept_of k)) }
@@ -73,18 +72,18 @@ fn read_whole(alloc: Global, bytes: &[u8]) -> Result<Kept, Halt>
 fn read_head(bytes: &[u8]) -> Result<&[u8], Halt>
     ensures reads { Reads (exactly 0x44 ∷ exactly 0x53 ∷ exactly 0x54 ∷ exactly 0x01 ∷ []) bytes.now (λ rest. 0x44 ∷ 0x53 ∷ 0x54 ∷ 0x01 ∷ []) (λ rest. rest.now) (λ rest. ⊤) result }
 {
-    let rest = read_exactly(0x44, bytes)?;
-    let rest = read_exactly(0x53, rest)?;
-    let rest = read_exactly(0x54, rest)?;
-    read_exactly(0x01, rest)
+    let behind_d = read_exactly(0x44, bytes)?;
+    let behind_s = read_exactly(0x53, behind_d)?;
+    let behind_t = read_exactly(0x54, behind_s)?;
+    read_exactly(0x01, behind_t)
 }
 
 // A kept state, and the bytes behind it.
 fn read_parts<'a>(alloc: Global, bytes: &'a [u8]) -> Result<(Kept, &'a [u8]), Halt>
     ensures reads { Reads kept_parts bytes.now (λ x. written_kept x.0) (λ x. x.1.now) (λ x. HasSizes (kept_of x.0)) result }
 {
-    let rest = read_head(bytes)?;
-    let (events, rest) = read_long(rest)?;
+    let body = read_head(bytes)?;
+    let (events, rest) = read_long(body)?;
     let (ins, rest) = read_types(alloc, rest, MOST_LEVELS)?;
     let (cuts, rest) = read_marks(alloc, rest)?;
     let (out, rest) = read_type(alloc, rest, MOST_LEVELS)?;

@@ -5,7 +5,7 @@ use Rattle.kept_state.specs.KeptForm.{type_kind, value_kind, prefix_kind, end_ki
 use Rattle.kept_state.specs.KeptBytes.{short_bytes, list_bytes, type_bytes, value_bytes, prefix_bytes, rest_bytes, expr_bytes, held_name_bytes}
 use Rattle.kept_state.specs.KeptSizes.{FitsExpr}
 use Rattle.hist_value.specs.HistExpr.{expr_of}
-use Rattle.delta_keep.proofs.Pieces.{then, as_written, stops_first, stops_second, in_form, plain, stops_in_form, stops_before, begins, boxed_read, first_of, second_of, regrouped, grouped}
+use Rattle.delta_keep.proofs.Pieces.{then, as_written, stops_first, stops_second, in_form, plain, stops_in_form, stops_before, begins, boxed_read, first_of, second_of, regrouped, grouped, flat_3, flat_5, flat_2_3, flat_2_4, flat_later, handed_on}
 use Rattle.delta_keep.proofs.read_exprs.+read_exprs.Goals as goal
 
 pub two_exprs-returns-in_err-first : goal.two_exprs-returns-in_err-first
@@ -40,7 +40,7 @@ read_expr-returns-in_err-n-in-1 t c =
     record { reads = rw (begins 1 c.in_ok-form.ensures.form c.in-1.is, exit.1, exit.2) (stops_in_form expr_kind 1 ((any 8 ∷ [])) c.in_ok-form.rest.now c.in_err-n-in-1.field-0.0 refl (c.in_err-n-in-1.ensures.reads)) }
 
 pub read_expr-returns-in_ok-n-in-1 : goal.read_expr-returns-in_ok-n-in-1
-read_expr-returns-in_ok-n-in-1 t c = record { reads = rw (begins 1 c.in_ok-form.ensures.form c.in-1.is) (boxed_read (λ x. x.0.value) (λ x. x.1.now) (λ m. expr_bytes (expr_of m)) (λ m. FitsExpr (expr_of m)) c.boxed-in-1.result c.boxed-in-1.ensures.boxes (in_form expr_kind 1 refl c.in_ok-n-in-1.ensures.reads)) }
+read_expr-returns-in_ok-n-in-1 t c = record { reads = rw (begins 1 c.in_ok-form.ensures.form c.in-1.is) (boxed_read (λ x. x.0.value) (λ x. x.1.now) (λ m. expr_bytes (expr_of m)) (λ m. FitsExpr (expr_of m)) c.boxed-in-1.result c.boxed-in-1.ensures.boxes (in_form expr_kind 1 refl (handed_on c.in_ok-n-in-1.n c.in_ok-n-in-1.ensures.reads))) }
 
 pub read_expr-returns-in-2 : goal.read_expr-returns-in-2
 read_expr-returns-in-2 t c = record { reads = rw (begins 2 c.in_ok-form.ensures.form c.in-2.is) (boxed_read (λ x. x.0.value) (λ x. x.1.now) (λ m. expr_bytes (expr_of m)) (λ m. FitsExpr (expr_of m)) c.boxed-in-2.result c.boxed-in-2.ensures.boxes (plain expr_kind 2 c.in_ok-form.rest.now refl tt)) }
@@ -144,7 +144,7 @@ read_choice-returns-in_err-c t c =
     record { reads = rw (exit.1, exit.2) (stops_in_form expr_kind 9 ((form expr_kind ∷ []) ++ (any 4 ∷ []) ++ (form expr_kind ∷ []) ++ (any 4 ∷ []) ++ (form expr_kind ∷ [])) c.args.bytes.now c.in_err-c.field-0.0 refl (stops_second ((any 4 ∷ []) ++ (form expr_kind ∷ []) ++ (any 4 ∷ []) ++ (form expr_kind ∷ [])) c.in_err-c.field-0.0 c.in_ok-a.ensures.reads (stops_second ((form expr_kind ∷ []) ++ (any 4 ∷ []) ++ (form expr_kind ∷ [])) c.in_err-c.field-0.0 c.in_ok-x.ensures.reads (stops_second ((any 4 ∷ []) ++ (form expr_kind ∷ [])) c.in_err-c.field-0.0 c.in_ok-b.ensures.reads (stops_second ((form expr_kind ∷ [])) c.in_err-c.field-0.0 c.in_ok-y.ensures.reads (c.in_err-c.ensures.reads)))))) }
 
 pub read_choice-returns : goal.read_choice-returns
-read_choice-returns t c = record { reads = boxed_read (λ x. x.0.value) (λ x. x.1.now) (λ m. expr_bytes (expr_of m)) (λ m. FitsExpr (expr_of m)) c.boxed.result c.boxed.ensures.boxes (in_form expr_kind 9 refl (then c.in_ok-a.ensures.reads (then c.in_ok-x.ensures.reads (then c.in_ok-b.ensures.reads (then c.in_ok-y.ensures.reads c.in_ok-c.ensures.reads))))) }
+read_choice-returns t c = record { reads = boxed_read (λ x. x.0.value) (λ x. x.1.now) (λ m. expr_bytes (expr_of m)) (λ m. FitsExpr (expr_of m)) c.boxed.result c.boxed.ensures.boxes (in_form expr_kind 9 refl (as_written refl flat_5 (then c.in_ok-a.ensures.reads (then c.in_ok-x.ensures.reads (then c.in_ok-b.ensures.reads (then c.in_ok-y.ensures.reads c.in_ok-c.ensures.reads)))))) }
 
 pub read_fold-returns-in_err-a : goal.read_fold-returns-in_err-a
 read_fold-returns-in_err-a t c =
@@ -167,4 +167,4 @@ read_fold-returns-in_err-b t c =
     record { reads = rw (exit.1, exit.2) (stops_in_form expr_kind 12 ((form expr_kind ∷ form expr_kind ∷ []) ++ (any 4 ∷ []) ++ (any 4 ∷ []) ++ (form expr_kind ∷ [])) c.args.bytes.now c.in_err-b.field-0.0 refl (stops_second ((any 4 ∷ []) ++ (any 4 ∷ []) ++ (form expr_kind ∷ [])) c.in_err-b.field-0.0 c.in_ok-a.ensures.reads (stops_second ((any 4 ∷ []) ++ (form expr_kind ∷ [])) c.in_err-b.field-0.0 c.in_ok-x.ensures.reads (stops_second ((form expr_kind ∷ [])) c.in_err-b.field-0.0 c.in_ok-y.ensures.reads (c.in_err-b.ensures.reads))))) }
 
 pub read_fold-returns : goal.read_fold-returns
-read_fold-returns t c = record { reads = boxed_read (λ x. x.0.value) (λ x. x.1.now) (λ m. expr_bytes (expr_of m)) (λ m. FitsExpr (expr_of m)) c.boxed.result c.boxed.ensures.boxes (in_form expr_kind 12 refl (as_written (append_assoc (expr_bytes (expr_of c.in_ok-a.a.value)) (expr_bytes (expr_of c.in_ok-a.s.value)) _) regrouped (then c.in_ok-a.ensures.reads (then c.in_ok-x.ensures.reads (then c.in_ok-y.ensures.reads c.in_ok-b.ensures.reads))))) }
+read_fold-returns t c = record { reads = boxed_read (λ x. x.0.value) (λ x. x.1.now) (λ m. expr_bytes (expr_of m)) (λ m. FitsExpr (expr_of m)) c.boxed.result c.boxed.ensures.boxes (in_form expr_kind 12 refl (as_written (append_assoc (expr_bytes (expr_of c.in_ok-a.a.value)) (expr_bytes (expr_of c.in_ok-a.s.value)) _) flat_2_3 (then c.in_ok-a.ensures.reads (then c.in_ok-x.ensures.reads (then c.in_ok-y.ensures.reads c.in_ok-b.ensures.reads))))) }

@@ -7,7 +7,7 @@ use Rattle.kept_state.specs.KeptSizes.{FitsPrefix}
 use Rattle.stream_prefix.specs.Tree.{prefix_of, end_of}
 use Rattle.delta_keep.proofs.Trees.{star_bytes}
 use Rattle.delta_keep.proofs.Sizes.{star_fits}
-use Rattle.delta_keep.proofs.Pieces.{then, as_written, stops_first, stops_second, in_form, plain, stops_in_form, stops_before, begins, boxed_read, first_of, second_of, regrouped, grouped}
+use Rattle.delta_keep.proofs.Pieces.{then, as_written, stops_first, stops_second, in_form, plain, stops_in_form, stops_before, begins, boxed_read, first_of, second_of, regrouped, grouped, flat_3, flat_5, flat_2_3, flat_2_4, flat_later, handed_on}
 use Rattle.std.proofs.Common.{◌<◌, arith}
 use Rattle.delta_keep.proofs.ReadLists.{none_read, read_one_more, list_stops, count_stops, list_read, list_read_same}
 use Rattle.delta_keep.proofs.read_prefixes.+read_prefixes.Goals as goal
@@ -48,7 +48,7 @@ read_prefix-returns-in_err-n-in-4 t c =
     record { reads = rw (begins 4 c.in_ok-form.ensures.form c.in-4.is, exit.1, exit.2) (stops_in_form prefix_kind 4 ((any 8 ∷ [])) c.in_ok-form.rest.now c.in_err-n-in-4.field-0.0 refl (c.in_err-n-in-4.ensures.reads)) }
 
 pub read_prefix-returns-in_ok-n-in-4 : goal.read_prefix-returns-in_ok-n-in-4
-read_prefix-returns-in_ok-n-in-4 t c = record { reads = rw (begins 4 c.in_ok-form.ensures.form c.in-4.is) (boxed_read (λ x. x.0.value) (λ x. x.1.now) (λ p. prefix_bytes (prefix_of p)) (λ p. FitsPrefix (prefix_of p)) c.boxed-in-4.result c.boxed-in-4.ensures.boxes (in_form prefix_kind 4 refl c.in_ok-n-in-4.ensures.reads)) }
+read_prefix-returns-in_ok-n-in-4 t c = record { reads = rw (begins 4 c.in_ok-form.ensures.form c.in-4.is) (boxed_read (λ x. x.0.value) (λ x. x.1.now) (λ p. prefix_bytes (prefix_of p)) (λ p. FitsPrefix (prefix_of p)) c.boxed-in-4.result c.boxed-in-4.ensures.boxes (in_form prefix_kind 4 refl (handed_on c.in_ok-n-in-4.n c.in_ok-n-in-4.ensures.reads))) }
 
 pub read_prefix-returns-in_err-p-in-5 : goal.read_prefix-returns-in_err-p-in-5
 read_prefix-returns-in_err-p-in-5 t c =
@@ -107,7 +107,7 @@ read_star-returns-in_err-end t c =
     record { reads = rw (exit.1, exit.2) (stops_in_form prefix_kind 11 (list_part prefix_item ∷ form end_kind ∷ []) c.args.bytes.now c.in_err-end.field-0.0 refl (stops_second ((form end_kind ∷ [])) c.in_err-end.field-0.0 c.in_ok-items.ensures.reads (c.in_err-end.ensures.reads))) }
 
 pub read_star-returns : goal.read_star-returns
-read_star-returns t c = record { reads = boxed_read (λ x. x.0.value) (λ x. x.1.now) (λ p. prefix_bytes (prefix_of p)) (λ p. FitsPrefix (prefix_of p)) c.boxed.result c.boxed.ensures.boxes (rw c.into_inner.ensures (as_written (sym (star_bytes c.in_ok-items.items c.in_ok-end.end.value)) (star_fits c.in_ok-items.items c.in_ok-end.end.value) (in_form prefix_kind 11 refl (then c.in_ok-items.ensures.reads c.in_ok-end.ensures.reads)))) }
+read_star-returns t c = record { reads = boxed_read (λ x. x.0.value) (λ x. x.1.now) (λ p. prefix_bytes (prefix_of p)) (λ p. FitsPrefix (prefix_of p)) c.boxed.result c.boxed.ensures.boxes (rw c.into_inner-end.ensures (as_written (sym (star_bytes c.in_ok-items.items c.in_ok-end.end.value)) (star_fits c.in_ok-items.items c.in_ok-end.end.value) (in_form prefix_kind 11 refl (then c.in_ok-items.ensures.reads c.in_ok-end.ensures.reads)))) }
 
 pub read_items-returns-in_err-count : goal.read_items-returns-in_err-count
 read_items-returns-in_err-count t c =

@@ -7,7 +7,7 @@ use Rattle.kept_state.specs.KeptSizes.{FitsPrefix}
 use Rattle.stream_prefix.specs.Tree.{prefix_of, end_of}
 use Rattle.delta_keep.proofs.Trees.{star_bytes}
 use Rattle.delta_keep.proofs.Sizes.{star_fits}
-use Rattle.delta_keep.proofs.Pieces.{then, as_written, stops_first, stops_second, in_form, plain, stops_in_form, stops_before, begins, boxed_read, first_of, second_of, regrouped, grouped}
+use Rattle.delta_keep.proofs.Pieces.{then, as_written, stops_first, stops_second, in_form, plain, stops_in_form, stops_before, begins, boxed_read, first_of, second_of, regrouped, grouped, flat_3, flat_5, flat_2_3, flat_2_4, flat_later, handed_on}
 use Rattle.stream_type.specs.StreamType.{type_of}
 use Rattle.delta_keep.proofs.read_prefixes.read_held_name.Goals as goal
 

@@ -9,8 +9,8 @@ use Rattle.stream_type.specs.StreamType.{type_of}
 use Rattle.delta_keep.specs.KeptView.{held_of, later_of, state_of}
 use Rattle.delta_keep.specs.Written.{written_later, written_state}
 use Rattle.delta_keep.proofs.Trees.{frame_bytes}
-use Rattle.delta_keep.proofs.Sizes.{frame_fits, later_fits}
-use Rattle.delta_keep.proofs.Pieces.{then, as_written, stops_first, stops_second, in_form, plain, stops_in_form, stops_before, begins, boxed_read, first_of, second_of, regrouped, grouped, names_fit}
+use Rattle.delta_keep.proofs.Sizes.{frame_fits}
+use Rattle.delta_keep.proofs.Pieces.{then, as_written, stops_first, stops_second, in_form, plain, stops_in_form, stops_before, begins, boxed_read, first_of, second_of, regrouped, grouped, flat_3, flat_5, flat_2_3, flat_2_4, flat_later, handed_on, names_fit}
 use Rattle.std.proofs.Common.{◌<◌, arith}
 use Rattle.delta_keep.proofs.ReadLists.{none_read, read_one_more, list_stops, count_stops, list_read, list_read_same}
 use Rattle.delta_keep.proofs.read_states.+read_states.Goals as goal
@@ -115,7 +115,7 @@ read_let-returns-in_err-a t c =
     record { reads = rw (exit.1, exit.2) (stops_in_form state_kind 4 ((any 4 ∷ form type_kind ∷ []) ++ (form state_kind ∷ form state_kind ∷ [])) c.args.bytes.now c.in_err-a.field-0.0 refl (stops_second ((form state_kind ∷ form state_kind ∷ [])) c.in_err-a.field-0.0 c.in_ok-x.ensures.reads (c.in_err-a.ensures.reads))) }
 
 pub read_let-returns : goal.read_let-returns
-read_let-returns t c = record { reads = boxed_read (λ x. x.0.value) (λ x. x.1.now) written_state (λ s. FitsState (state_of s)) c.boxed.result c.boxed.ensures.boxes (in_form state_kind 4 refl (as_written (append_assoc (short_bytes c.in_ok-x.x.0) (type_bytes (type_of c.in_ok-x.t.value)) _) (λ s. s) (then c.in_ok-x.ensures.reads c.in_ok-a.ensures.reads))) }
+read_let-returns t c = record { reads = boxed_read (λ x. x.0.value) (λ x. x.1.now) written_state (λ s. FitsState (state_of s)) c.boxed.result c.boxed.ensures.boxes (in_form state_kind 4 refl (as_written (append_assoc (short_bytes c.in_ok-x.x.0) (type_bytes (type_of c.in_ok-x.t.value)) _) flat_3 (then c.in_ok-x.ensures.reads c.in_ok-a.ensures.reads))) }
 
 pub names_and_state-returns-in_err-x : goal.names_and_state-returns-in_err-x
 names_and_state-returns-in_err-x t c =

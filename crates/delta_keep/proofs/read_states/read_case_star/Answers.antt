@@ -9,8 +9,8 @@ use Rattle.stream_type.specs.StreamType.{type_of}
 use Rattle.delta_keep.specs.KeptView.{held_of, later_of, state_of}
 use Rattle.delta_keep.specs.Written.{written_later, written_state}
 use Rattle.delta_keep.proofs.Trees.{frame_bytes}
-use Rattle.delta_keep.proofs.Sizes.{frame_fits, later_fits}
-use Rattle.delta_keep.proofs.Pieces.{then, as_written, stops_first, stops_second, in_form, plain, stops_in_form, stops_before, begins, boxed_read, first_of, second_of, regrouped, grouped, names_fit}
+use Rattle.delta_keep.proofs.Sizes.{frame_fits}
+use Rattle.delta_keep.proofs.Pieces.{then, as_written, stops_first, stops_second, in_form, plain, stops_in_form, stops_before, begins, boxed_read, first_of, second_of, regrouped, grouped, flat_3, flat_5, flat_2_3, flat_2_4, flat_later, handed_on, names_fit}
 use Rattle.delta_keep.proofs.read_states.read_case_star.Goals as goal
 
 pub returns-in_err-z : goal.returns-in_err-z
@@ -39,4 +39,4 @@ returns-in_err-m c =
     record { reads = rw (exit.1, exit.2) (stops_in_form state_kind 8 ((any 4 ∷ form type_kind ∷ list_part held_item ∷ []) ++ later_parts ++ (any 4 ∷ []) ++ (any 4 ∷ []) ++ later_parts) c.args.bytes.now c.in_err-m.field-0.0 refl (stops_second (later_parts ++ (any 4 ∷ []) ++ (any 4 ∷ []) ++ later_parts) c.in_err-m.field-0.0 c.in_ok-z.ensures.reads (stops_second ((any 4 ∷ []) ++ (any 4 ∷ []) ++ later_parts) c.in_err-m.field-0.0 c.in_ok-l.ensures.reads (stops_second ((any 4 ∷ []) ++ later_parts) c.in_err-m.field-0.0 c.in_ok-y.ensures.reads (stops_second (later_parts) c.in_err-m.field-0.0 c.in_ok-ys.ensures.reads (c.in_err-m.ensures.reads)))))) }
 
 pub returns : goal.returns
-returns c = record { reads = boxed_read (λ x. x.0.value) (λ x. x.1.now) written_state (λ s. FitsState (state_of s)) c.boxed.result c.boxed.ensures.boxes (in_form state_kind 8 refl (as_written (grouped (short_bytes c.in_ok-z.z.0) (type_bytes (type_of c.in_ok-z.t.value)) (list_bytes held_name_bytes (map held_of c.in_ok-z.held.items)) _) regrouped (then c.in_ok-z.ensures.reads (then c.in_ok-l.ensures.reads (then c.in_ok-y.ensures.reads (then c.in_ok-ys.ensures.reads c.in_ok-m.ensures.reads)))))) }
+returns c = record { reads = boxed_read (λ x. x.0.value) (λ x. x.1.now) written_state (λ s. FitsState (state_of s)) c.boxed.result c.boxed.ensures.boxes (in_form state_kind 8 refl (as_written (grouped (short_bytes c.in_ok-z.z.0) (type_bytes (type_of c.in_ok-z.t.value)) (list_bytes held_name_bytes (map held_of c.in_ok-z.held.items)) _) flat_2_4 (then c.in_ok-z.ensures.reads (then c.in_ok-l.ensures.reads (then c.in_ok-y.ensures.reads (then c.in_ok-ys.ensures.reads c.in_ok-m.ensures.reads)))))) }

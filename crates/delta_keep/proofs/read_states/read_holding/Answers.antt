@@ -9,8 +9,8 @@ use Rattle.stream_type.specs.StreamType.{type_of}
 use Rattle.delta_keep.specs.KeptView.{held_of, later_of, state_of}
 use Rattle.delta_keep.specs.Written.{written_later, written_state}
 use Rattle.delta_keep.proofs.Trees.{frame_bytes}
-use Rattle.delta_keep.proofs.Sizes.{frame_fits, later_fits}
-use Rattle.delta_keep.proofs.Pieces.{then, as_written, stops_first, stops_second, in_form, plain, stops_in_form, stops_before, begins, boxed_read, first_of, second_of, regrouped, grouped, names_fit}
+use Rattle.delta_keep.proofs.Sizes.{frame_fits}
+use Rattle.delta_keep.proofs.Pieces.{then, as_written, stops_first, stops_second, in_form, plain, stops_in_form, stops_before, begins, boxed_read, first_of, second_of, regrouped, grouped, flat_3, flat_5, flat_2_3, flat_2_4, flat_later, handed_on, names_fit}
 use Rattle.delta_keep.proofs.read_states.read_holding.Goals as goal
 
 pub returns-in_err-z : goal.returns-in_err-z

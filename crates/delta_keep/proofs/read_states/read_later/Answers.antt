@@ -9,8 +9,8 @@ use Rattle.stream_type.specs.StreamType.{type_of}
 use Rattle.delta_keep.specs.KeptView.{held_of, later_of, state_of}
 use Rattle.delta_keep.specs.Written.{written_later, written_state}
 use Rattle.delta_keep.proofs.Trees.{frame_bytes}
-use Rattle.delta_keep.proofs.Sizes.{frame_fits, later_fits}
-use Rattle.delta_keep.proofs.Pieces.{then, as_written, stops_first, stops_second, in_form, plain, stops_in_form, stops_before, begins, boxed_read, first_of, second_of, regrouped, grouped, names_fit}
+use Rattle.delta_keep.proofs.Sizes.{frame_fits}
+use Rattle.delta_keep.proofs.Pieces.{then, as_written, stops_first, stops_second, in_form, plain, stops_in_form, stops_before, begins, boxed_read, first_of, second_of, regrouped, grouped, flat_3, flat_5, flat_2_3, flat_2_4, flat_later, handed_on, names_fit}
 use Rattle.delta_keep.proofs.read_states.read_later.Goals as goal
 
 pub returns-in_err-code : goal.returns-in_err-code
@@ -29,4 +29,4 @@ returns-in_err-depth c =
     record { reads = rw (exit.1, exit.2) (stops_second ((list_part known_item ∷ []) ++ (any 8 ∷ [])) c.in_err-depth.field-0.0 c.in_ok-code.ensures.reads (stops_second ((any 8 ∷ [])) c.in_err-depth.field-0.0 c.in_ok-past.ensures.reads (c.in_err-depth.ensures.reads))) }
 
 pub returns : goal.returns
-returns c = record { reads = boxed_read (λ x. x.0.value) (λ x. x.1.now) written_later (λ l. FitsLater (later_of l)) c.boxed.result c.boxed.ensures.boxes (as_written refl (later_fits _) (then c.in_ok-code.ensures.reads (then c.in_ok-past.ensures.reads c.in_ok-depth.ensures.reads))) }
+returns c = record { reads = boxed_read (λ x. x.0.value) (λ x. x.1.now) written_later (λ l. FitsLater (later_of l)) c.boxed.result c.boxed.ensures.boxes (as_written refl flat_later (then c.in_ok-code.ensures.reads (then c.in_ok-past.ensures.reads c.in_ok-depth.ensures.reads))) }

@@ -9,7 +9,7 @@ use Rattle.delta_keep.specs.Written.{written_node}
 use Rattle.delta_keep.specs.Reads.{FitsNode}
 use Rattle.delta_keep.proofs.Trees.{call_bytes}
 use Rattle.delta_keep.proofs.Sizes.{call_fits}
-use Rattle.delta_keep.proofs.Pieces.{then, as_written, stops_first, stops_second, in_form, plain, stops_in_form, stops_before, begins, boxed_read, first_of, second_of, regrouped, grouped, names_fit, in_node, stops_in_node}
+use Rattle.delta_keep.proofs.Pieces.{then, as_written, stops_first, stops_second, in_form, plain, stops_in_form, stops_before, begins, boxed_read, first_of, second_of, regrouped, grouped, flat_3, flat_5, flat_2_3, flat_2_4, flat_later, handed_on, names_fit, in_node, stops_in_node}
 use Rattle.std.proofs.Common.{◌<◌, arith}
 use Rattle.delta_keep.proofs.ReadLists.{none_read, read_one_more, list_stops, count_stops, list_read, list_read_same}
 use Rattle.delta_keep.proofs.read_terms.+read_nodes.Goals as goal
@@ -142,7 +142,7 @@ read_let-returns-in_err-a t c =
     record { reads = rw (exit.1, exit.2) (stops_in_node c.args.at (10 ∷ c.args.bytes.now) c.in_err-a.field-0.0 (stops_in_form term_kind 10 ((any 4 ∷ form type_kind ∷ []) ++ (node_parts ++ node_parts)) c.args.bytes.now c.in_err-a.field-0.0 refl (stops_second ((node_parts ++ node_parts)) c.in_err-a.field-0.0 c.in_ok-x.ensures.reads (c.in_err-a.ensures.reads)))) }
 
 pub read_let-returns : goal.read_let-returns
-read_let-returns t c = record { reads = boxed_read (λ x. x.0.value) (λ x. x.1.now) written_node FitsNode c.boxed.result c.boxed.ensures.boxes (rw c.into_inner.ensures (in_node c.args.at (in_form term_kind 10 refl (as_written (append_assoc (short_bytes c.in_ok-x.x.0) (type_bytes (type_of c.in_ok-x.s.value)) _) (λ s. s) (then c.in_ok-x.ensures.reads c.in_ok-a.ensures.reads))))) }
+read_let-returns t c = record { reads = boxed_read (λ x. x.0.value) (λ x. x.1.now) written_node FitsNode c.boxed.result c.boxed.ensures.boxes (rw c.into_inner.ensures (in_node c.args.at (in_form term_kind 10 refl (as_written (append_assoc (short_bytes c.in_ok-x.x.0) (type_bytes (type_of c.in_ok-x.s.value)) _) flat_3 (then c.in_ok-x.ensures.reads c.in_ok-a.ensures.reads))))) }
 
 pub names_and_node-returns-in_err-x : goal.names_and_node-returns-in_err-x
 names_and_node-returns-in_err-x t c =
@@ -183,7 +183,7 @@ read_case_sum-returns-in_err-b t c =
     record { reads = rw (exit.1, exit.2) (stops_in_node c.args.at (13 ∷ c.args.bytes.now) c.in_err-b.field-0.0 (stops_in_form term_kind 13 ((any 4 ∷ form type_kind ∷ []) ++ (any 4 ∷ []) ++ node_parts ++ (any 4 ∷ []) ++ node_parts) c.args.bytes.now c.in_err-b.field-0.0 refl (stops_second ((any 4 ∷ []) ++ node_parts ++ (any 4 ∷ []) ++ node_parts) c.in_err-b.field-0.0 c.in_ok-z.ensures.reads (stops_second (node_parts ++ (any 4 ∷ []) ++ node_parts) c.in_err-b.field-0.0 c.in_ok-x.ensures.reads (stops_second ((any 4 ∷ []) ++ node_parts) c.in_err-b.field-0.0 c.in_ok-a.ensures.reads (stops_second (node_parts) c.in_err-b.field-0.0 c.in_ok-y.ensures.reads (c.in_err-b.ensures.reads))))))) }
 
 pub read_case_sum-returns : goal.read_case_sum-returns
-read_case_sum-returns t c = record { reads = boxed_read (λ x. x.0.value) (λ x. x.1.now) written_node FitsNode c.boxed.result c.boxed.ensures.boxes (rw c.into_inner.ensures (in_node c.args.at (in_form term_kind 13 refl (as_written (append_assoc (short_bytes c.in_ok-z.z.0) (type_bytes (type_of c.in_ok-z.t.value)) _) (λ s. s) (then c.in_ok-z.ensures.reads (then c.in_ok-x.ensures.reads (then c.in_ok-a.ensures.reads (then c.in_ok-y.ensures.reads c.in_ok-b.ensures.reads)))))))) }
+read_case_sum-returns t c = record { reads = boxed_read (λ x. x.0.value) (λ x. x.1.now) written_node FitsNode c.boxed.result c.boxed.ensures.boxes (rw c.into_inner.ensures (in_node c.args.at (in_form term_kind 13 refl (as_written (append_assoc (short_bytes c.in_ok-z.z.0) (type_bytes (type_of c.in_ok-z.t.value)) _) flat_5 (then c.in_ok-z.ensures.reads (then c.in_ok-x.ensures.reads (then c.in_ok-a.ensures.reads (then c.in_ok-y.ensures.reads c.in_ok-b.ensures.reads)))))))) }
 
 pub read_case_star-returns-in_err-z : goal.read_case_star-returns-in_err-z
 read_case_star-returns-in_err-z t c =
@@ -211,7 +211,7 @@ read_case_star-returns-in_err-b t c =
     record { reads = rw (exit.1, exit.2) (stops_in_node c.args.at (14 ∷ c.args.bytes.now) c.in_err-b.field-0.0 (stops_in_form term_kind 14 ((any 4 ∷ form type_kind ∷ []) ++ node_parts ++ (any 4 ∷ []) ++ (any 4 ∷ []) ++ node_parts) c.args.bytes.now c.in_err-b.field-0.0 refl (stops_second (node_parts ++ (any 4 ∷ []) ++ (any 4 ∷ []) ++ node_parts) c.in_err-b.field-0.0 c.in_ok-z.ensures.reads (stops_second ((any 4 ∷ []) ++ (any 4 ∷ []) ++ node_parts) c.in_err-b.field-0.0 c.in_ok-a.ensures.reads (stops_second ((any 4 ∷ []) ++ node_parts) c.in_err-b.field-0.0 c.in_ok-y.ensures.reads (stops_second (node_parts) c.in_err-b.field-0.0 c.in_ok-ys.ensures.reads (c.in_err-b.ensures.reads))))))) }
 
 pub read_case_star-returns : goal.read_case_star-returns
-read_case_star-returns t c = record { reads = boxed_read (λ x. x.0.value) (λ x. x.1.now) written_node FitsNode c.boxed.result c.boxed.ensures.boxes (rw c.into_inner.ensures (in_node c.args.at (in_form term_kind 14 refl (as_written (append_assoc (short_bytes c.in_ok-z.z.0) (type_bytes (type_of c.in_ok-z.t.value)) _) (λ s. s) (then c.in_ok-z.ensures.reads (then c.in_ok-a.ensures.reads (then c.in_ok-y.ensures.reads (then c.in_ok-ys.ensures.reads c.in_ok-b.ensures.reads)))))))) }
+read_case_star-returns t c = record { reads = boxed_read (λ x. x.0.value) (λ x. x.1.now) written_node FitsNode c.boxed.result c.boxed.ensures.boxes (rw c.into_inner.ensures (in_node c.args.at (in_form term_kind 14 refl (as_written (append_assoc (short_bytes c.in_ok-z.z.0) (type_bytes (type_of c.in_ok-z.t.value)) _) flat_5 (then c.in_ok-z.ensures.reads (then c.in_ok-a.ensures.reads (then c.in_ok-y.ensures.reads (then c.in_ok-ys.ensures.reads c.in_ok-b.ensures.reads)))))))) }
 
 pub read_wait-returns-in_err-x : goal.read_wait-returns-in_err-x
 read_wait-returns-in_err-x t c =

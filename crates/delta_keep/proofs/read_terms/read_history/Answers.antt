@@ -9,7 +9,7 @@ use Rattle.delta_keep.specs.Written.{written_node}
 use Rattle.delta_keep.specs.Reads.{FitsNode}
 use Rattle.delta_keep.proofs.Trees.{call_bytes}
 use Rattle.delta_keep.proofs.Sizes.{call_fits}
-use Rattle.delta_keep.proofs.Pieces.{then, as_written, stops_first, stops_second, in_form, plain, stops_in_form, stops_before, begins, boxed_read, first_of, second_of, regrouped, grouped, in_node, stops_in_node}
+use Rattle.delta_keep.proofs.Pieces.{then, as_written, stops_first, stops_second, in_form, plain, stops_in_form, stops_before, begins, boxed_read, first_of, second_of, regrouped, grouped, flat_3, flat_5, flat_2_3, flat_2_4, flat_later, handed_on, in_node, stops_in_node}
 use Rattle.delta_keep.proofs.read_terms.read_history.Goals as goal
 
 pub returns-in_err-m : goal.returns-in_err-m

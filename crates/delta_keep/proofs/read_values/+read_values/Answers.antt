@@ -7,7 +7,7 @@ use Rattle.kept_state.specs.KeptSizes.{FitsValue}
 use Rattle.hist_value.specs.HistValue.{hist_value_of}
 use Rattle.delta_keep.proofs.Trees.{list_value_bytes}
 use Rattle.delta_keep.proofs.Sizes.{list_fits}
-use Rattle.delta_keep.proofs.Pieces.{then, as_written, stops_first, stops_second, in_form, plain, stops_in_form, stops_before, begins, boxed_read, first_of, second_of, regrouped, grouped}
+use Rattle.delta_keep.proofs.Pieces.{then, as_written, stops_first, stops_second, in_form, plain, stops_in_form, stops_before, begins, boxed_read, first_of, second_of, regrouped, grouped, flat_3, flat_5, flat_2_3, flat_2_4, flat_later, handed_on}
 use Rattle.std.proofs.Common.{◌<◌, arith}
 use Rattle.delta_keep.proofs.ReadLists.{none_read, read_one_more, list_stops, count_stops, list_read, list_read_same}
 use Rattle.delta_keep.proofs.read_values.+read_values.Goals as goal
@@ -39,7 +39,7 @@ read_value-returns-in_err-n-in-1 t c =
     record { reads = rw (begins 1 c.in_ok-form.ensures.form c.in-1.is, exit.1, exit.2) (stops_in_form value_kind 1 ((any 8 ∷ [])) c.in_ok-form.rest.now c.in_err-n-in-1.field-0.0 refl (c.in_err-n-in-1.ensures.reads)) }
 
 pub read_value-returns-in_ok-n-in-1 : goal.read_value-returns-in_ok-n-in-1
-read_value-returns-in_ok-n-in-1 t c = record { reads = rw (begins 1 c.in_ok-form.ensures.form c.in-1.is) (boxed_read (λ x. x.0.value) (λ x. x.1.now) (λ v. value_bytes (hist_value_of v)) (λ v. FitsValue (hist_value_of v)) c.boxed-in-1.result c.boxed-in-1.ensures.boxes (in_form value_kind 1 refl c.in_ok-n-in-1.ensures.reads)) }
+read_value-returns-in_ok-n-in-1 t c = record { reads = rw (begins 1 c.in_ok-form.ensures.form c.in-1.is) (boxed_read (λ x. x.0.value) (λ x. x.1.now) (λ v. value_bytes (hist_value_of v)) (λ v. FitsValue (hist_value_of v)) c.boxed-in-1.result c.boxed-in-1.ensures.boxes (in_form value_kind 1 refl (handed_on c.in_ok-n-in-1.n c.in_ok-n-in-1.ensures.reads))) }
 
 pub read_value-returns-in_err-v-in-2 : goal.read_value-returns-in_err-v-in-2
 read_value-returns-in_err-v-in-2 t c =

@@ -7,7 +7,7 @@ use Rattle.kept_state.specs.KeptSizes.{FitsValue}
 use Rattle.hist_value.specs.HistValue.{hist_value_of}
 use Rattle.delta_keep.proofs.Trees.{list_value_bytes}
 use Rattle.delta_keep.proofs.Sizes.{list_fits}
-use Rattle.delta_keep.proofs.Pieces.{then, as_written, stops_first, stops_second, in_form, plain, stops_in_form, stops_before, begins, boxed_read, first_of, second_of, regrouped, grouped}
+use Rattle.delta_keep.proofs.Pieces.{then, as_written, stops_first, stops_second, in_form, plain, stops_in_form, stops_before, begins, boxed_read, first_of, second_of, regrouped, grouped, flat_3, flat_5, flat_2_3, flat_2_4, flat_later, handed_on}
 use Rattle.stream_type.specs.StreamType.{type_of}
 use Rattle.delta_keep.proofs.read_values.read_known.Goals as goal
 
