@@ -3,13 +3,13 @@ use Rattle.std.proofs.Common.{◌≡◌, ◌∙◌, ℕ, suc, List, [], ◌∷�
 use mir.Val.{to_z, of_z}
 use Rattle.std.specs.Int.{w64}
 use Rattle.std.proofs.lemmas.Int.{to_z-of_z}
-use Rattle.std.specs.Prelude.{ℤ, ⊤, Option, Some, None, Result, Ok, Err}
+use Rattle.std.specs.Prelude.{ℤ, ⊤, Some, Result, Ok, Err}
 use Rattle.kept_state.specs.KeptBytes.{short_bytes, int_bytes}
 use Rattle.kept_state.specs.KeptForm.{Kind, Part, any, form, settle, after_byte, term_kind, node_parts}
 use Rattle.kept_state.specs.KeptSizes.{FitsInt}
 use Rattle.delta_keep.specs.declared.halt.Halt.{Halt}
 use Rattle.delta_keep.specs.declared.halt.Halt.TheVariants.{Memory, At}
-use Rattle.delta_keep.specs.Walking.{Walk, walk, walk_on, passed, stuck}
+use Rattle.delta_keep.specs.Walking.{walk, walk_on, passed}
 use Rattle.delta_keep.specs.Reads.{Read, Stops, Reads, HasNoForm, Boxes}
 use Rattle.delta_keep.proofs.Walks.{◌>>=◌, walk_2}
 

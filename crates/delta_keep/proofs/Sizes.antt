@@ -1,6 +1,6 @@
 -- The sizes of the numbers of trees that hold rows of trees.
 use mathlib.Core.Former.{Count}
-use Rattle.std.proofs.Common.{Box, ◌≡◌, ◌∙◌, ◌+◌, ℕ, suc, List, [], ◌∷◌, map, length, ap, refl, sym, subst, arith}
+use Rattle.std.proofs.Common.{Box, ◌≡◌, ◌∙◌, ℕ, suc, List, [], ◌∷◌, map, length, ap, refl, sym, subst, arith}
 use Rattle.std.specs.Prelude.{⊤}
 use Rattle.std.specs.List.{AllByRecursion}
 use Rattle.std.specs.declared.vec.Vec.{Vec}
@@ -12,7 +12,7 @@ use Rattle.stream_prefix.specs.declared.prefix.StarEnd.{StarEnd}
 use Rattle.stream_prefix.specs.StreamPrefix.{StreamPrefix}
 use Rattle.stream_prefix.specs.Tree.{prefix_of, end_of, star_of}
 use Rattle.stream_prefix.proofs.Rows.{prefix_of-star}
-use Rattle.hist_value.specs.declared.history.Value.{Value, items-the_row-Value, items_hidden-the_row-Value-0}
+use Rattle.hist_value.specs.declared.history.Value.{Value, items_hidden-the_row-Value-0}
 use Rattle.hist_value.specs.declared.history.Value.TheBlock.{hidden-the_row-Value-0}
 use Rattle.hist_value.specs.declared.history.Value.TheVariants.{List as ListValue}
 use Rattle.hist_value.specs.HistValue.{HistValue, hist_value_of, list_of}
@@ -24,7 +24,6 @@ use Rattle.core_term.specs.declared.term.Term.TheBlock.{hidden-the_row-Node-0}
 use Rattle.core_term.specs.declared.term.Term.TheVariants.{Call}
 use Rattle.core_term.specs.CoreTerm.{term_in, terms_of, term_count}
 use Rattle.delta_state.specs.StateTree.{argument_names}
-use Rattle.kept_state.specs.KeptBytes.{whole_items, item_count}
 use Rattle.kept_state.specs.KeptSizes.{FitsShort, FitsPrefix, FitsValue, FitsExprs, FitsTerm, FitsTerms, FitsState, FitsArguments, FitsLong, HasSizes}
 use Rattle.delta_keep.specs.declared.kept.Argument.{Argument}
 use Rattle.delta_keep.specs.declared.kept.Kept.{Kept}

@@ -107,34 +107,9 @@ put_list out mid next v items seen is e h k =
     ∙ (ap₂ (λ bs ys. bs ++ list_bytes value_bytes (map hist_value_of ys)) h e
     ∙ (append_assoc out (5 ∷ []) (list_bytes value_bytes (map hist_value_of items.items)) ∙ ap (λ bs. out ++ bs) (sym (list_value_bytes items) ∙ ap (λ w. value_bytes (hist_value_of w)) (sym is))))
 
--- a star's prefix, read
-pub read_star_is : (bytes mid rest : List ℕ) (p : Prefix) (items : Vec Prefix Global) (e f : StarEnd) → p ≡ Star items e → e ≡ f → bytes ≡ list_bytes prefix_bytes (map prefix_of items.items) ++ mid → mid ≡ rest_bytes (end_of f) ++ rest → 11 ∷ bytes ≡ prefix_bytes (prefix_of p) ++ rest
-read_star_is bytes mid rest p items e f is same h k =
-    ap (λ bs. 11 ∷ bs) (h ∙ (ap (λ bs. list_bytes prefix_bytes (map prefix_of items.items) ++ bs) (k ∙ ap (λ d. rest_bytes (end_of d) ++ rest) (sym same)) ∙ sym (append_assoc (list_bytes prefix_bytes (map prefix_of items.items)) (rest_bytes (end_of e)) rest)))
-    ∙ ap (λ bs. bs ++ rest) (sym (ap (λ q. prefix_bytes (prefix_of q)) is ∙ star_bytes items e))
-
--- a list's value, read
-pub read_list_is : (bytes rest : List ℕ) (v : Value) (items : Vec Value Global) → v ≡ ListValue items → bytes ≡ list_bytes value_bytes (map hist_value_of items.items) ++ rest → 5 ∷ bytes ≡ value_bytes (hist_value_of v) ++ rest
-read_list_is bytes rest v items is h = ap (λ bs. 5 ∷ bs) h ∙ ap (λ bs. bs ++ rest) (sym (ap (λ w. value_bytes (hist_value_of w)) is ∙ list_value_bytes items))
-
--- a call, read
-pub read_call_is : (bytes a b rest : List ℕ) (f : ℕ) (ms : Vec Expr Global) (es : Vec Node Global) → bytes ≡ short_bytes f ++ a → a ≡ list_bytes expr_bytes (map expr_of ms.items) ++ b → b ≡ list_bytes written_node es.items ++ rest → 16 ∷ bytes ≡ written_term (Call f ms es) ++ rest
-read_call_is bytes a b rest f ms es h k l =
-    ap (λ bs. 16 ∷ bs)
-    (h
-    ∙ ap (λ bs. short_bytes f ++ bs)
-    (k ∙ (ap (λ bs. list_bytes expr_bytes (map expr_of ms.items) ++ bs) l ∙ sym (append_assoc (list_bytes expr_bytes (map expr_of ms.items)) (list_bytes written_node es.items) rest))))
-    ∙ ap (λ bs. bs ++ rest) (sym (call_bytes f ms es))
-
 -- a frame's bytes
 pub frame_bytes : (args : Vec Argument Global) (s : Box KeptState Global) → written_state (Frame args s) ≡ 10 ∷ list_bytes written_argument args.items ++ written_state s.value
 frame_bytes args s = ap (λ bs. 10 ∷ bs ++ written_state s.value) (arguments_bytes_are args)
-
--- a frame, read
-pub read_frame_is : (bytes mid rest : List ℕ) (f : KeptState) (args : Vec Argument Global) (s : Box KeptState Global) → f ≡ Frame args s → bytes ≡ list_bytes written_argument args.items ++ mid → mid ≡ written_state s.value ++ rest → 10 ∷ bytes ≡ written_state f ++ rest
-read_frame_is bytes mid rest f args s is h k =
-    ap (λ bs. 10 ∷ bs) (h ∙ (ap (λ bs. list_bytes written_argument args.items ++ bs) k ∙ sym (append_assoc (list_bytes written_argument args.items) (written_state s.value) rest)))
-    ∙ ap (λ bs. bs ++ rest) (sym (ap written_state is ∙ frame_bytes args s))
 
 -- for functions over the trees
 pub ruleset trees = (append_assoc, star_bytes, list_value_bytes, call_bytes, frame_bytes, arguments_bytes_are)

@@ -1,8 +1,8 @@
 -- Three in turn.
-use Rattle.std.proofs.Common.{◌≡◌, ◌∙◌, [], ◌∷◌, ◌++◌, ap, sym, refl, append_assoc}
+use Rattle.std.proofs.Common.{[], ◌∷◌, ◌++◌, refl}
 use Rattle.std.proofs.lemmas.Result.{err_from_is_err_and}
-use Rattle.kept_state.specs.KeptForm.{type_kind, value_kind, prefix_kind, end_kind, op_kind, expr_kind, term_kind, state_kind, bool_kind, bool_item, type_item, prefix_item, value_item, expr_item, node_item, known_item, held_item, argument_item, any, form, list_part, node_parts, later_parts}
-use Rattle.delta_keep.proofs.Pieces.{then, as_written, stops_first, stops_second, in_form, plain, stops_in_form, stops_before, begins, boxed_read, first_of, second_of, regrouped, grouped, flat_3, flat_5, flat_2_3, flat_2_4, flat_later, handed_on}
+use Rattle.kept_state.specs.KeptForm.{any}
+use Rattle.delta_keep.proofs.Pieces.{then, as_written, stops_first, stops_second, flat_3}
 use Rattle.delta_keep.proofs.read_numbers.read_names.Goals as goal
 
 pub returns-in_err-x : goal.returns-in_err-x

@@ -1,15 +1,15 @@
 -- Prefixes by their forms.
-use Rattle.std.proofs.Common.{◌≡◌, ◌∙◌, [], ◌∷◌, ◌++◌, ap, sym, refl, append_assoc}
+use Rattle.std.proofs.Common.{◌≡◌, [], ◌∷◌, sym, refl}
 use Rattle.std.proofs.lemmas.Result.{err_from_is_err_and}
-use Rattle.kept_state.specs.KeptForm.{type_kind, value_kind, prefix_kind, end_kind, op_kind, expr_kind, term_kind, state_kind, bool_kind, bool_item, type_item, prefix_item, value_item, expr_item, node_item, known_item, held_item, argument_item, any, form, list_part, node_parts, later_parts}
-use Rattle.kept_state.specs.KeptBytes.{short_bytes, list_bytes, type_bytes, value_bytes, prefix_bytes, rest_bytes, expr_bytes, held_name_bytes}
+use Rattle.kept_state.specs.KeptForm.{prefix_kind, end_kind, prefix_item, any, form, list_part}
+use Rattle.kept_state.specs.KeptBytes.{prefix_bytes, rest_bytes}
 use Rattle.kept_state.specs.KeptSizes.{FitsPrefix}
 use Rattle.stream_prefix.specs.Tree.{prefix_of, end_of}
 use Rattle.delta_keep.proofs.Trees.{star_bytes}
 use Rattle.delta_keep.proofs.Sizes.{star_fits}
-use Rattle.delta_keep.proofs.Pieces.{then, as_written, stops_first, stops_second, in_form, plain, stops_in_form, stops_before, begins, boxed_read, first_of, second_of, regrouped, grouped, flat_3, flat_5, flat_2_3, flat_2_4, flat_later, handed_on}
+use Rattle.delta_keep.proofs.Pieces.{then, as_written, stops_first, stops_second, in_form, plain, stops_in_form, stops_before, begins, boxed_read, handed_on}
 use Rattle.std.proofs.Common.{◌<◌, arith}
-use Rattle.delta_keep.proofs.ReadLists.{none_read, read_one_more, list_stops, count_stops, list_read, list_read_same}
+use Rattle.delta_keep.proofs.ReadLists.{none_read, read_one_more, list_stops, count_stops, list_read}
 use Rattle.delta_keep.proofs.read_prefixes.+read_prefixes.Goals as goal
 
 pub two_prefixes-returns-in_err-first : goal.two_prefixes-returns-in_err-first

@@ -1,9 +1,9 @@
 -- Item by item.
-use Rattle.std.proofs.Common.{◌≡◌, ◌∙◌, [], ◌∷◌, ◌++◌, ap, sym, refl, append_assoc}
+use Rattle.std.proofs.Common.{◌≡◌, refl}
 use Rattle.std.proofs.lemmas.Result.{err_from_is_err_and}
-use Rattle.kept_state.specs.KeptForm.{type_kind, value_kind, prefix_kind, end_kind, op_kind, expr_kind, term_kind, state_kind, bool_kind, bool_item, type_item, prefix_item, value_item, expr_item, node_item, known_item, held_item, argument_item, any, form, list_part, node_parts, later_parts}
+use Rattle.kept_state.specs.KeptForm.{known_item}
 use Rattle.std.proofs.Common.{◌<◌, arith}
-use Rattle.delta_keep.proofs.ReadLists.{none_read, read_one_more, list_stops, count_stops, list_read, list_read_same}
+use Rattle.delta_keep.proofs.ReadLists.{none_read, read_one_more, list_stops, count_stops, list_read}
 use Rattle.delta_keep.proofs.read_values.read_past.Goals as goal
 
 pub returns-in_err-count : goal.returns-in_err-count

@@ -1,9 +1,9 @@
 -- Byte by byte.
-use Rattle.std.proofs.Common.{◌≡◌, ◌∙◌, [], ◌∷◌, ◌++◌, ap, sym, refl, append_assoc}
+use Rattle.std.proofs.Common.{[], ◌∷◌, ◌++◌}
 use Rattle.std.proofs.lemmas.Result.{err_from_is_err_and}
 use Rattle.std.specs.Prelude.{⊤}
 use Rattle.kept_state.specs.KeptForm.{exactly}
-use Rattle.delta_keep.proofs.Pieces.{then, as_written, stops_first, stops_second, in_form, plain, stops_in_form, stops_before, begins, boxed_read, first_of, second_of, regrouped, grouped, flat_3, flat_5, flat_2_3, flat_2_4, flat_later, handed_on, then_reads}
+use Rattle.delta_keep.proofs.Pieces.{then, stops_first, stops_second, then_reads}
 use Rattle.delta_keep.proofs.reading.read_head.Goals as goal
 
 pub returns-in_err-behind_d : goal.returns-in_err-behind_d

@@ -1,5 +1,5 @@
 -- Nothing stands behind what was read, or something does.
-use Rattle.std.proofs.Common.{◌≡◌, ◌∙◌, [], ◌∷◌, ◌++◌, ap, sym, refl, append_assoc}
+use Rattle.std.proofs.Common.{◌≡◌}
 use Rattle.std.proofs.lemmas.Result.{err_from_is_err_and}
 use Rattle.std.proofs.Common.{◌<◌, length, arith}
 use Rattle.delta_keep.proofs.Faults.{ends_whole, ends_behind, ends_so, whole}
