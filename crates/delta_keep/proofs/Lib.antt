@@ -4,7 +4,8 @@ pub mod Lists
 pub mod Trees
 pub mod PlacedBytes
 pub mod Walks
+pub mod Pieces
 pub mod ReadLists
-pub mod Passing
-pub mod ReadCases
+pub mod Sizes
+pub mod Shapes
 pub mod Faults
