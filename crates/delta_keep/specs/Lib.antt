@@ -2,5 +2,6 @@
 pub mod KeptView
 pub mod Written
 pub mod Walking
+pub mod Putting
 pub mod Saving
 pub mod Reading

@@ -4,6 +4,7 @@
 mod fault;
 mod halt;
 mod kept;
+mod output;
 mod put_numbers;
 mod put_parts;
 mod put_states;
