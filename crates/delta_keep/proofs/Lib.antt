@@ -1,6 +1,7 @@
 -- The lemmas.
 pub mod Joined
 pub mod Lists
+pub mod PutInTurn
 pub mod Trees
 pub mod PlacedBytes
 pub mod Walks

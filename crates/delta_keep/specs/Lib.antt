@@ -3,5 +3,6 @@ pub mod KeptView
 pub mod Written
 pub mod Walking
 pub mod Reads
+pub mod Putting
 pub mod Saving
 pub mod Reading
