@@ -45,6 +45,31 @@ pub fn derive(alloc: Global, c: Core, text: &[u8]) -> Result<Checked, DeriveFaul
     }
 }
 
+/// Whether the text is a derivation of the program, for whoever goes no further with that: as `derive`, but the program
+/// is dropped here, whatever is found. A crate that drops programs itself proves the drop of each form of a term anew.
+pub fn check(alloc: Global, c: Core, text: &[u8]) -> Result<(), DeriveFault>
+    requires core { IsCore (core_of c) }
+    requires nodes { HasFewNodes (core_of c) }
+    requires text { length text.now ≤ 1048576 }
+    ensures valid { IfOk result (λ _. IsValidText (core_of c) text.now) }
+    ensures typed { IfOk result (λ _. IsTypedCore (core_of c)) }
+    ensures invalid { IfErr result (λ f. Denies f (IsValidText (core_of c) text.now)) }
+    ensures first { IfErr result (λ f. TellsFirst f (first_fault (core_of c) text.now)) }
+{
+    match derive(alloc, c, text) {
+        Ok(checked) => {
+            drop(checked);
+            Ok(())
+        }
+        Err(fault) => Err(fault),
+    }
+}
+
+/// Drops a program that is not to be checked.
+pub fn discard(c: Core) {
+    drop(c);
+}
+
 // The type of the input of a program of which the text is a derivation.
 #[tactic(auto, using(crate::proofs::Refusing::refusing))]
 fn input_of(alloc: Global, c: &Core, text: &[u8]) -> Result<Ty, DeriveFault>
