@@ -7,3 +7,4 @@ pub mod HeldAndComing
 pub mod Entering
 pub mod Awaiting
 pub mod StandingTrees
+pub mod Bound
