@@ -46,7 +46,7 @@ pub fn derive(alloc: Global, c: Core, text: &[u8]) -> Result<Checked, DeriveFaul
 }
 
 /// Whether the text is a derivation of the program, for whoever goes no further with that: as `derive`, but the program
-/// is dropped here, whatever is found. A crate that drops programs itself proves the drop of each form of a term anew.
+/// is dropped, whatever is found.
 pub fn check(alloc: Global, c: Core, text: &[u8]) -> Result<(), DeriveFault>
     requires core { IsCore (core_of c) }
     requires nodes { HasFewNodes (core_of c) }
@@ -65,8 +65,9 @@ pub fn check(alloc: Global, c: Core, text: &[u8]) -> Result<(), DeriveFault>
     }
 }
 
-/// Drops a program that is not to be checked.
-pub fn discard(c: Core) {
+/// Drops a program that isn't to be checked. The crates above call this: one that drops a program by itself has the drop of
+/// each form of its terms proved once more.
+pub fn dismiss(c: Core) {
     drop(c);
 }
 

@@ -1,5 +1,5 @@
 -- The names are those where one is hidden.
-use Rattle.std.proofs.Common.{◌∷◌, [], ap, ◌∙◌}
+use Rattle.std.proofs.Common.{◌∷◌, []}
 use Rattle.std.specs.Prelude.{Some, IsOkAnd}
 use Rattle.stream_type.specs.StreamType.{type_of}
 use Rattle.bunch.specs.BunchTree.{tree_of}

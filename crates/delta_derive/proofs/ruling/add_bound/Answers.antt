@@ -1,6 +1,6 @@
 -- First what the name is bound to, and then the body.
-use Rattle.std.proofs.Common.{◌≡◌, map, ◌++◌, ◌∷◌, []}
-use Rattle.std.specs.Prelude.{Some, IfOk}
+use Rattle.std.proofs.Common.{map, ◌∷◌, []}
+use Rattle.std.specs.Prelude.{Some}
 use Rattle.stream_type.specs.StreamType.{type_of}
 use Rattle.bunch.specs.BunchTree.{tree_of, comma, leaf}
 use Rattle.hist_value.specs.Environment.{types_of}
