@@ -1,5 +1,5 @@
 -- What the command that checks a derivation does, by how it ended.
-use Rattle.std.specs.Prelude.{◌≡◌, ◌≤◌, ◌<◌, ⊤, ℕ, List, length, None, Some}
+use Rattle.std.specs.Prelude.{◌≡◌, ◌≤◌, ◌<◌, ⊤, ℕ, List, length, Some}
 use Rattle.core_term.specs.CoreTerm.{CoreProgram}
 use Rattle.core_term.specs.Typing.{IsTypedCore}
 use Rattle.delta_end.specs.declared.objection.DerivationName.{DerivationName}

@@ -9,7 +9,7 @@ ghost use Rattle.command_derive.specs.Deriving.{longest, Derives, Refutes};
 
 use checked_program::elaborate_text;
 use core_term::Core;
-use delta_derive::{DeriveFault, derive};
+use delta_derive::{DeriveFault, check, dismiss};
 use delta_end::{DerivationName, End, Objection};
 use program_text::TextFault;
 use std::alloc::Global;
@@ -69,14 +69,11 @@ pub fn derive_core(alloc: Global, core: Core, proof: &[u8]) -> End
 {
     let is_long = proof.len() > 1_048_576;
     if is_long {
-        drop(core);
+        dismiss(core);
         return too_long();
     }
-    match derive(alloc, core, proof) {
-        Ok(checked) => {
-            drop(checked);
-            End::Done
-        }
+    match check(alloc, core, proof) {
+        Ok(()) => End::Done,
         Err(fault) => end_of(&fault),
     }
 }

@@ -1,7 +1,7 @@
 -- The claims of open terms, of which the last is next.
 use mathlib.Core.Path.{fun_ext}
-use Rattle.std.proofs.Common.{◌≡◌, ◌∙◌, ◌<◌, ◌+◌, ℕ, List, [], ◌∷◌, ◌++◌, length, map, take, get_or, reverse, append_assoc, ap, ap₂, refl, sym}
-use Rattle.std.specs.Prelude.{Option, Some, None, ◌==◌, if◌then◌else◌}
+use Rattle.std.proofs.Common.{◌≡◌, ◌∙◌, ◌<◌, ◌+◌, ℕ, Bool, List, [], ◌∷◌, ◌++◌, length, map, take, get_or, reverse, append_assoc, ap, ap₂, refl, sym}
+use Rattle.std.specs.Prelude.{Option, Some, None, Result, Ok, Err, IfOk, ◌==◌, if◌then◌else◌}
 use Rattle.std.proofs.lemmas.List.{take_more, reverse-reverse, reverse-append}
 use Rattle.stream_type.specs.StreamType.{type_of}
 use Rattle.stream_type.specs.declared.ty.Ty.{Ty}
@@ -10,12 +10,14 @@ use Rattle.hist_value.specs.declared.hist_type.HTy.{HTy}
 use Rattle.hist_value.specs.HistType.{HistType, hist_type_of, past}
 use Rattle.hist_value.specs.Environment.{types_of}
 use Rattle.core_term.specs.declared.program.Body.{Body}
-use Rattle.core_term.specs.CoreTerm.{typed_names_of, core_body_of}
+use Rattle.core_term.specs.CoreTerm.{CoreBody, typed_names_of, core_body_of}
+use Rattle.core_term.specs.TypeFaults.{found_where}
 use Rattle.core_term.specs.Typing.{past_params}
 use Rattle.delta_check.proofs.Entries.{types_of-push}
 use Rattle.delta_derive.specs.declared.open.OpenTerm.{OpenTerm}
-use Rattle.delta_derive.specs.Claims.{body_claim, body_claims}
+use Rattle.delta_derive.specs.Claims.{Claim, body_claim, body_claims}
 use Rattle.delta_derive.specs.OpenTerms.{claim_of, claims_in}
+use Rattle.delta_derive.proofs.Options.{found}
 
 pub claims_joined : (os ps : List OpenTerm) → map claim_of (os ++ ps) ≡ map claim_of os ++ map claim_of ps
 claims_joined [] ps = refl
@@ -40,11 +42,17 @@ bodies_joined [] cs = refl
 bodies_joined (b ∷ bs) cs = ap (λ l. body_claim (core_body_of b) ∷ l) (bodies_joined bs cs)
 
 -- the claim of one body more
-pub bodies-next : (bs : List Body) (i : ℕ) (b : Body) (os ps : List OpenTerm) → i < length bs → b ≡ get_or bs i b → map claim_of ps ≡ map claim_of os ++ body_claim (core_body_of b) ∷ [] → map claim_of os ≡ body_claims (map core_body_of (take i bs))
-    → map claim_of ps ≡ body_claims (map core_body_of (take (i + 1) bs))
-bodies-next bs i b os ps lt at same h =
-    same ∙ ap (λ l. l ++ body_claim (core_body_of b) ∷ []) h
-    ∙ sym (ap (λ l. body_claims (map core_body_of l)) (take_more bs i b lt) ∙ bodies_joined (take i bs) (get_or bs i b ∷ []) ∙ ap (λ c. body_claims (map core_body_of (take i bs)) ++ body_claim (core_body_of c) ∷ []) (sym at))
+pub bodies-next : (old : List Claim) (bs : List Body) (i : ℕ) (b : Body) (mid new : List Claim) (v : Bool) → i < length bs → b ≡ get_or bs i b → found_where v new ≡ Some (mid ++ body_claim (core_body_of b) ∷ []) → mid ≡ old ++ body_claims (map core_body_of (take i bs))
+    → new ≡ old ++ body_claims (map core_body_of (take (i + 1) bs))
+bodies-next old bs i b mid new v lt at same h =
+    (found v new (mid ++ body_claim (core_body_of b) ∷ []) same).1 ∙ ap (λ l. l ++ body_claim (core_body_of b) ∷ []) h
+    ∙ append_assoc old (body_claims (map core_body_of (take i bs))) (body_claim (core_body_of b) ∷ [])
+    ∙ ap (λ l. old ++ l) (sym (ap (λ l. body_claims (map core_body_of l)) (take_more bs i b lt) ∙ bodies_joined (take i bs) (get_or bs i b ∷ []) ∙ ap (λ c. body_claims (map core_body_of (take i bs)) ++ body_claim (core_body_of c) ∷ []) (sym at)))
+
+-- main's body comes last
+pub main-last : {E : Type 0} (r : Result Bool E) (old mid new : List Claim) (funs : List CoreBody) (b : CoreBody) → mid ≡ old ++ body_claims funs → IfOk r (λ v. found_where v new ≡ Some (mid ++ body_claim b ∷ [])) → IfOk r (λ _. new ≡ old ++ (body_claims funs ++ body_claim b ∷ []))
+main-last (Ok v) old mid new funs b h same = (found v new (mid ++ body_claim b ∷ []) same).1 ∙ ap (λ l. l ++ body_claim b ∷ []) h ∙ append_assoc old (body_claims funs) (body_claim b ∷ [])
+main-last (Err e) old mid new funs b h same = tt
 
 -- the entries of historical parameters, in turn
 abbrev pub entry_of : Name × HTy → ℕ × HistType

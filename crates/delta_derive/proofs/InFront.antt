@@ -1,6 +1,7 @@
 -- What a line leaves is put in front of the other claims.
 use Rattle.std.proofs.Common.{◌≡◌, ◌∙◌, ℕ, suc, Bool, true, false, List, [], ◌∷◌, ◌++◌, map, ap, refl, sym}
-use Rattle.std.specs.Prelude.{Option, Some, None, option_map}
+use Rattle.std.specs.Prelude.{Option, Some, None, option_map, Result, Ok, Err, IfOk}
+use Rattle.std.proofs.lemmas.Result.{IfOk-at_ok}
 use Rattle.core_term.specs.CoreTerm.{CoreBody}
 use Rattle.core_term.specs.TypeFaults.{found_where}
 use Rattle.bunch_rules.specs.Written.{Line}
@@ -20,6 +21,11 @@ left_in_front hs first parts old new valid e a p = go hs valid (a ∙ ap (λ os.
     go (Some gs) false q = none_some q
     go None true q = none_some (sym q)
     go None false q = refl
+
+-- where it was tried to add them to none
+pub put_first : {E : Type 0} (r s : Result Bool E) (hs : Option (List Claim)) (first parts old new : List OpenTerm) → first ≡ [] → IfOk r (Adds hs first parts) → IfOk s (λ _. claims_in new ≡ map claim_of parts ++ claims_in old) → IfOk s (λ v. r ≡ Ok v) → IfOk s (Leaves hs old new)
+put_first r (Ok v) hs first parts old new e a p q = left_in_front hs first parts old new v e (IfOk-at_ok (Adds hs first parts) q a) p
+put_first r (Err x) hs first parts old new e a p q = tt
 
 module _ (funs : List CoreBody) (counts : ℕ → Bool) (n : ℕ) where
   -- a line that is valid goes on, and one that isn't is at fault

@@ -8,6 +8,7 @@ pub mod Calls
 pub mod Written
 pub mod Faultless
 pub mod Texts
+pub mod HandedOn
 pub mod KnownNames
 pub mod Cutting
 pub mod Fronts
@@ -18,5 +19,6 @@ pub mod PastTests
 pub mod Sharing
 pub mod Passed
 pub mod Spaces
+pub mod Turns
 pub mod Going
 mod Examples

@@ -36,11 +36,16 @@ abbrev pub with_claims : List Claim → Option (List Claim × CoreTerms) → Opt
 with_claims gs None = None
 with_claims gs (Some r) = Some (gs ++ r.0, r.1)
 
+-- the claim of the first of these arguments, for a parameter of this type, and the arguments that are left
+abbrev pub first_shared : Known → StreamType → BunchTree → CoreTerms → Option (List Claim × CoreTerms)
+first_shared known t g no_terms = None
+first_shared known t g (term_before e es) = Some (claim known g e t ∷ [], es)
+
 -- the claims of the first of these arguments, where the bunch has the shape of the parameters with a bunch in the
 -- place of each leaf, and the arguments that are left
 abbrev pub shares : Known → BunchTree → BunchTree → CoreTerms → Option (List Claim × CoreTerms)
 shares known empty empty es = Some ([], es)
-shares known (leaf u t) g (term_before e es) = Some (claim known g e t ∷ [], es)
+shares known (leaf u t) g es = first_shared known t g es
 shares known (comma a b) (comma g h) es = then_by (shares known a g es) (λ r. with_claims r.0 (shares known b h r.1))
 shares known (semi a b) (semi g h) es = then_by (shares known a g es) (λ r. with_claims r.0 (shares known b h r.1))
 shares known _ _ es = None
@@ -80,6 +85,24 @@ below_two known x y z t w g a r = claim (hidden y (hidden x known)) (with_leaf z
 abbrev pub let_claims : Known → List Turn → BunchTree → BunchTree → ℕ → StreamType → CoreTerm → CoreTerm → StreamType → List Claim
 let_claims known p d g x s a b r = claim known d a s ∷ claim (hidden x known) (put_at p (comma d (leaf x s)) g) b r ∷ []
 
+-- the claims of the parts of a term that takes a stream of its bunch apart, or waits for one
+abbrev pub apart_parts : Known → BunchTree → CoreTerm → StreamType → Option (List Claim)
+apart_parts known g (let_par_term x y z a) r =
+    then_by (leaf_type z g) (λ t. found_where (is_par t) (below_two known x y z t (comma (leaf x (par_left t)) (leaf y (par_right t))) g a r ∷ []))
+apart_parts known g (let_cat_term x y z a) r =
+    then_by (leaf_type z g) (λ t. found_where (is_cat t) (below_two known x y z t (semi (leaf x (cat_first t)) (leaf y (cat_second t))) g a r ∷ []))
+apart_parts known g (case_sum_term z s x a y b) r =
+    then_by (leaf_type z g)
+    (λ t. found_where (is_sum t && is_same_type s r)
+    (below_one known x z t (leaf x (sum_left t)) g a r ∷ below_one known y z t (leaf y (sum_right t)) g b r ∷ []))
+apart_parts known g (case_star_term z s a y ys b) r =
+    then_by (leaf_type z g)
+    (λ t. found_where (is_star t && is_same_type s r)
+    (claim known g a r ∷ below_two known y ys z t (semi (leaf y (star_item t)) (leaf ys (star_items t))) g b r ∷ []))
+apart_parts known g (wait_term x s a) r =
+    then_by (leaf_type x g) (λ t. found_where (not (null_of t) && is_same_type s r) (claim (learned x t known) (with_leaf x empty g) a r ∷ []))
+apart_parts known g _ r = None
+
 module _ (funs : List CoreBody) (counts : ℕ → Bool) where
   -- whether a call keeps the rules on its result, on its historical arguments and on the arguments behind others
   abbrev pub is_called : Known → CoreBody → List HistExpr → CoreTerms → StreamType → Bool
@@ -105,20 +128,11 @@ module _ (funs : List CoreBody) (counts : ℕ → Bool) where
   rule_parts known g (inl_term a) r = found_where (is_sum r) (claim known g a (sum_left r) ∷ [])
   rule_parts known g (inr_term a) r = found_where (is_sum r) (claim known g a (sum_right r) ∷ [])
   rule_parts known g (let_term x s a b) r = None
-  rule_parts known g (let_par_term x y z a) r =
-      then_by (leaf_type z g) (λ t. found_where (is_par t) (below_two known x y z t (comma (leaf x (par_left t)) (leaf y (par_right t))) g a r ∷ []))
-  rule_parts known g (let_cat_term x y z a) r =
-      then_by (leaf_type z g) (λ t. found_where (is_cat t) (below_two known x y z t (semi (leaf x (cat_first t)) (leaf y (cat_second t))) g a r ∷ []))
-  rule_parts known g (case_sum_term z s x a y b) r =
-      then_by (leaf_type z g)
-      (λ t. found_where (is_sum t && is_same_type s r)
-      (below_one known x z t (leaf x (sum_left t)) g a r ∷ below_one known y z t (leaf y (sum_right t)) g b r ∷ []))
-  rule_parts known g (case_star_term z s a y ys b) r =
-      then_by (leaf_type z g)
-      (λ t. found_where (is_star t && is_same_type s r)
-      (claim known g a r ∷ below_two known y ys z t (semi (leaf y (star_item t)) (leaf ys (star_items t))) g b r ∷ []))
-  rule_parts known g (wait_term x s a) r =
-      then_by (leaf_type x g) (λ t. found_where (not (null_of t) && is_same_type s r) (claim (learned x t known) (with_leaf x empty g) a r ∷ []))
+  rule_parts known g (let_par_term x y z a) r = apart_parts known g (let_par_term x y z a) r
+  rule_parts known g (let_cat_term x y z a) r = apart_parts known g (let_cat_term x y z a) r
+  rule_parts known g (case_sum_term z s x a y b) r = apart_parts known g (case_sum_term z s x a y b) r
+  rule_parts known g (case_star_term z s a y ys b) r = apart_parts known g (case_star_term z s a y ys b) r
+  rule_parts known g (wait_term x s a) r = apart_parts known g (wait_term x s a) r
   rule_parts known g (call_term f ms es) r = call_parts known g f ms es r
 
   -- the same by a rule with a path, which a let has: d stands at its end

@@ -51,6 +51,14 @@ abbrev pub path_in : List ℕ → Option (List Turn)
 path_in [] = None
 path_in (byte ∷ bytes) = if bytes_eq (byte ∷ bytes) (codes ".") then Some [] else turns_in (byte ∷ bytes)
 
+-- the step that a word is, of those that make or take away an empty part
+abbrev pub unit_step_in : List ℕ → Option StepName
+unit_step_in w =
+    if bytes_eq w (codes "unit") then Some unit_step
+    else (if bytes_eq w (codes "before") then Some before_step
+    else (if bytes_eq w (codes "after") then Some after_step
+    else (if bytes_eq w (codes "beside") then Some beside_step else None)))
+
 -- the step that a word is
 abbrev pub step_in : List ℕ → Option StepName
 step_in w =
@@ -58,11 +66,7 @@ step_in w =
     else (if bytes_eq w (codes "swap") then Some swap_step
     else (if bytes_eq w (codes "left") then Some left_step
     else (if bytes_eq w (codes "right") then Some right_step
-    else (if bytes_eq w (codes "loosen") then Some loosen_step
-    else (if bytes_eq w (codes "unit") then Some unit_step
-    else (if bytes_eq w (codes "before") then Some before_step
-    else (if bytes_eq w (codes "after") then Some after_step
-    else (if bytes_eq w (codes "beside") then Some beside_step else None))))))))
+    else (if bytes_eq w (codes "loosen") then Some loosen_step else unit_step_in w))))
 
 -- the line of one word
 abbrev pub bare_line : List ℕ → Option Line

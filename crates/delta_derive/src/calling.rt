@@ -9,7 +9,7 @@ ghost use Rattle.core_term.specs.CoreTerm.{term_of, terms_from, core_of, core_bo
 ghost use Rattle.core_term.specs.Parts.{is_same_type};
 ghost use Rattle.delta_check.specs.Counting.{counts_in};
 ghost use Rattle.delta_derive.specs.Rearranged.{then_by};
-ghost use Rattle.delta_derive.specs.Claims.{call_parts, is_called, passes, shares, with_claims, all_shared};
+ghost use Rattle.delta_derive.specs.Claims.{call_parts, is_called, passes, first_shared, shares, with_claims, all_shared};
 ghost use Rattle.delta_derive.specs.OpenTerms.{claim_of, Adds, Shared};
 
 use crate::jumpy::is_still;
@@ -39,12 +39,11 @@ pub fn call_parts<'a>(
 {
     match body_of(c, f) {
         None => Ok(false),
-        Some(b) => {
-            if !is_called(alloc, c, marks, aim, b, past, arguments)? {
-                return Ok(false);
-            }
-            pass(alloc, &aim.known, &b.params, &aim.bunch, arguments, parts)
-        }
+        Some(b) => match is_called(alloc, c, marks, aim, b, past, arguments) {
+            Ok(true) => pass(alloc, &aim.known, &b.params, &aim.bunch, arguments, parts),
+            Ok(false) => Ok(false),
+            Err(memory) => Err(memory),
+        },
     }
 }
 
@@ -63,10 +62,11 @@ fn is_called(
     if !fits(b, past, aim.result) {
         return Ok(false);
     }
-    if !are_pasts(alloc, &aim.known, past, &b.past)? {
-        return Ok(false);
+    match are_pasts(alloc, &aim.known, past, &b.past) {
+        Ok(true) => is_still(alloc, c, marks, b, arguments),
+        Ok(false) => Ok(false),
+        Err(memory) => Err(memory),
     }
-    is_still(alloc, c, marks, b, arguments)
 }
 
 // Whether the result is of the wanted type and there are as many historical arguments as parameters.
@@ -109,9 +109,32 @@ fn share_all<'a>(
 ) -> Result<bool, Memory>
     ensures { IfOk result (Adds (all_shared (shares (types_of known.now) (tree_of params.now) (tree_of g.now) (terms_from (map term_of arguments.now)))) parts.old.items parts.new.items) }
 {
-    match share(alloc, known, params, g, arguments, parts)? {
-        None => Ok(false),
-        Some(rest) => Ok(rest.is_empty()),
+    match share(alloc, known, params, g, arguments, parts) {
+        Ok(Some(rest)) => Ok(rest.is_empty()),
+        Ok(None) => Ok(false),
+        Err(memory) => Err(memory),
+    }
+}
+
+// Adds the first of the arguments for a parameter of this type, and answers those that are left, or None where there
+// is none.
+fn share_first<'a>(
+    alloc: Global,
+    known: &[(Name, HTy)],
+    t: &'a Ty,
+    g: &Bunch,
+    arguments: &'a [Node],
+    parts: &mut Vec<OpenTerm<'a>>,
+) -> Result<Option<&'a [Node]>, Memory>
+    ensures { IfOk result (λ o. MatchOption o (first_shared (types_of known.now) (type_of t.now) (tree_of g.now) (terms_from (map term_of arguments.now)) ≡ None)
+        (λ rest. Shared (first_shared (types_of known.now) (type_of t.now) (tree_of g.now) (terms_from (map term_of arguments.now))) parts.old.items parts.new.items rest.now)) }
+{
+    match arguments.split_first() {
+        None => Ok(None),
+        Some((argument, rest)) => match add_in(alloc, known, g, argument, t, parts) {
+            Ok(_) => Ok(Some(rest)),
+            Err(memory) => Err(memory),
+        },
     }
 }
 
@@ -134,13 +157,7 @@ fn share<'a>(
             Bunch::Empty => Ok(Some(arguments)),
             _ => Ok(None),
         },
-        Bunch::Leaf(_, t) => match arguments.split_first() {
-            None => Ok(None),
-            Some((argument, rest)) => {
-                add_in(alloc, known, g, argument, t, parts)?;
-                Ok(Some(rest))
-            }
-        },
+        Bunch::Leaf(_, t) => share_first(alloc, known, t, g, arguments, parts),
         Bunch::Comma(a, b) => match g {
             Bunch::Comma(g, h) => share_both(alloc, known, a, g, b, h, arguments, parts),
             _ => Ok(None),
@@ -167,8 +184,9 @@ fn share_both<'a>(
     ensures { IfOk result (λ o. MatchOption o (then_by (shares (types_of known.now) (tree_of a.now) (tree_of g.now) (terms_from (map term_of arguments.now))) (λ r. with_claims r.0 (shares (types_of known.now) (tree_of b.now) (tree_of h.now) r.1)) ≡ None)
         (λ rest. Shared (then_by (shares (types_of known.now) (tree_of a.now) (tree_of g.now) (terms_from (map term_of arguments.now))) (λ r. with_claims r.0 (shares (types_of known.now) (tree_of b.now) (tree_of h.now) r.1))) parts.old.items parts.new.items rest.now)) }
 {
-    match share(alloc, known, a, g, arguments, parts)? {
-        None => Ok(None),
-        Some(rest) => share(alloc, known, b, h, rest, parts),
+    match share(alloc, known, a, g, arguments, parts) {
+        Ok(Some(rest)) => share(alloc, known, b, h, rest, parts),
+        Ok(None) => Ok(None),
+        Err(memory) => Err(memory),
     }
 }

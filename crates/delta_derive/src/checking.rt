@@ -20,7 +20,7 @@ use bunch::as_type;
 use core_term::{Checked, Core};
 use delta_check::inert_funs;
 use std::alloc::Global;
-use stream_type::Ty;
+use stream_type::{Memory, Ty};
 
 /// The program as a checked one, with the type of its input. It is refused exactly where the lines of the text don't
 /// write a derivation of it (`IsValidText` in `specs/FirstFault.antt`), with the first line that is at fault
@@ -45,6 +45,32 @@ pub fn derive(alloc: Global, c: Core, text: &[u8]) -> Result<Checked, DeriveFaul
     }
 }
 
+/// Whether the text is a derivation of the program, for whoever goes no further with that: as `derive`, but the program
+/// is dropped, whatever is found.
+pub fn check(alloc: Global, c: Core, text: &[u8]) -> Result<(), DeriveFault>
+    requires core { IsCore (core_of c) }
+    requires nodes { HasFewNodes (core_of c) }
+    requires text { length text.now ≤ 1048576 }
+    ensures valid { IfOk result (λ _. IsValidText (core_of c) text.now) }
+    ensures typed { IfOk result (λ _. IsTypedCore (core_of c)) }
+    ensures invalid { IfErr result (λ f. Denies f (IsValidText (core_of c) text.now)) }
+    ensures first { IfErr result (λ f. TellsFirst f (first_fault (core_of c) text.now)) }
+{
+    match derive(alloc, c, text) {
+        Ok(checked) => {
+            drop(checked);
+            Ok(())
+        }
+        Err(fault) => Err(fault),
+    }
+}
+
+/// Drops a program that isn't to be checked. The crates above call this: one that drops a program by itself has the drop of
+/// each form of its terms proved once more.
+pub fn dismiss(c: Core) {
+    drop(c);
+}
+
 // The type of the input of a program of which the text is a derivation.
 #[tactic(auto, using(crate::proofs::Refusing::refusing))]
 fn input_of(alloc: Global, c: &Core, text: &[u8]) -> Result<Ty, DeriveFault>
@@ -56,8 +82,10 @@ fn input_of(alloc: Global, c: &Core, text: &[u8]) -> Result<Ty, DeriveFault>
     ensures invalid { IfErr result (λ f. Denies f (IsValidText (core_of c.now) text.now)) }
     ensures first { IfErr result (λ f. TellsFirst f (first_fault (core_of c.now) text.now)) }
 {
-    judge(alloc, c, text)?;
-    Ok(as_type(alloc, &c.main.params)?)
+    match judge(alloc, c, text) {
+        Ok(()) => Ok(as_type(alloc, &c.main.params)?),
+        Err(fault) => Err(fault),
+    }
 }
 
 // Looks for the first fault of a text as a derivation.
@@ -67,8 +95,17 @@ fn judge(alloc: Global, c: &Core, text: &[u8]) -> Result<(), DeriveFault>
     ensures first { IfErr result (λ f. TellsFirst f (first_fault (core_of c.now) text.now)) }
 {
     let marks = inert_funs(alloc, c)?;
-    let goals = first_goals(alloc, c)?;
-    take_lines(alloc, c, &marks, goals, text)
+    let mut goals = match first_goals(alloc, c) {
+        Ok(goals) => goals,
+        Err(Memory) => {
+            drop(marks);
+            return Err(DeriveFault::Memory);
+        }
+    };
+    let judged = take_lines(alloc, c, &marks, &mut goals, text);
+    drop(goals);
+    drop(marks);
+    judged
 }
 
 // Takes the lines of a text, which are numbered from 0.
@@ -77,21 +114,24 @@ fn take_lines<'a>(
     alloc: Global,
     c: &'a Core,
     marks: &[bool],
-    mut goals: Vec<OpenTerm<'a>>,
+    goals: &mut Vec<OpenTerm<'a>>,
     text: &[u8],
 ) -> Result<(), DeriveFault>
     requires { length text.now ≤ 1048576 }
-    ensures none { IfOk result (λ _. first_from (core_of c.now).funs (counts_in (core_of c.now).funs marks.now) 0 (claims_in goals.entry.items) (lines_in text.now) ≡ None) }
-    ensures first { IfErr result (λ f. TellsFirst f (first_from (core_of c.now).funs (counts_in (core_of c.now).funs marks.now) 0 (claims_in goals.entry.items) (lines_in text.now))) }
+    ensures none { IfOk result (λ _. first_from (core_of c.now).funs (counts_in (core_of c.now).funs marks.now) 0 (claims_in goals.old.items) (lines_in text.now) ≡ None) }
+    ensures first { IfErr result (λ f. TellsFirst f (first_from (core_of c.now).funs (counts_in (core_of c.now).funs marks.now) 0 (claims_in goals.old.items) (lines_in text.now))) }
 {
     let mut rest = text;
     let mut number = 0;
     'lines: while let Some(end) = first_feed(rest) {
-        take_piece(alloc, c, marks, &mut goals, &rest[..end], number)?;
+        match take_piece(alloc, c, marks, goals, &rest[..end], number) {
+            Ok(()) => {}
+            Err(fault) => return Err(fault),
+        }
         rest = &rest[end + 1..];
         number += 1;
     }
-    finish(c, marks, &goals, rest, number)
+    finish(c, marks, goals, rest, number)
 }
 
 // Takes the bytes of one line, which has this number: it goes on as `first_from` says.
@@ -107,13 +147,14 @@ fn take_piece<'a>(
     ensures on { OnOk result ((ls : TextLines) → first_from (core_of c.now).funs (counts_in (core_of c.now).funs marks.now) number (claims_in goals.old.items) (line_in bytes.now ∷ ls) ≡ first_from (core_of c.now).funs (counts_in (core_of c.now).funs marks.now) (suc number) (claims_in goals.new.items) ls) }
     ensures first { IfErr result (λ f. (ls : TextLines) → TellsFirst f (first_from (core_of c.now).funs (counts_in (core_of c.now).funs marks.now) number (claims_in goals.old.items) (line_in bytes.now ∷ ls))) }
 {
-    match read_line(alloc, bytes)? {
-        None => Err(DeriveFault::BadLine(number)),
-        Some(line) => {
+    match read_line(alloc, bytes) {
+        Ok(Some(line)) => {
             let taken = take_line(alloc, c, marks, goals, &line, number);
             drop(line);
             taken
         }
+        Ok(None) => Err(DeriveFault::BadLine(number)),
+        Err(Memory) => Err(DeriveFault::Memory),
     }
 }
 

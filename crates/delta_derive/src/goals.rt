@@ -1,19 +1,19 @@
 //! What is still to be derived, and what one line makes of it.
 
-ghost use Rattle.std.specs.Prelude.{◌≡◌, ◌++◌, ◌∷◌, [], suc, false, Some, map, IfOk, IfErr, OnOk};
+ghost use Rattle.std.specs.Prelude.{◌≡◌, ◌++◌, ◌∷◌, [], suc, false, Ok, Some, map, IfOk, IfErr, OnOk};
 ghost use Rattle.hist_value.specs.Environment.{types_of};
 ghost use Rattle.core_term.specs.CoreTerm.{core_of, core_body_of, typed_names_of};
 ghost use Rattle.core_term.specs.Typing.{past_params};
-ghost use Rattle.bunch_rules.specs.Written.{plain_rule, rule_at, step_at};
+ghost use Rattle.bunch_rules.specs.Written.{step_at};
 ghost use Rattle.delta_check.specs.Counting.{counts_in};
 ghost use Rattle.delta_derive.specs.LineText.{turn_of, step_of, line_of};
 ghost use Rattle.delta_derive.specs.Claims.{program_claims, body_claim};
-ghost use Rattle.delta_derive.specs.OpenTerms.{claim_of, claims_in, Leaves};
+ghost use Rattle.delta_derive.specs.OpenTerms.{claim_of, claims_in, Adds, Leaves};
 ghost use Rattle.delta_derive.specs.FirstFault.{TextLines, after, fault_at, first_from, TellsFirst};
 
 use crate::fault::DeriveFault;
 use crate::line::{Line, Step, Turn};
-use crate::open::{OpenTerm, add};
+use crate::open::{OpenTerm, add, push, put_entry};
 use crate::ruling::{add_parts, add_parts_by};
 use crate::stepping::rearrange;
 use crate::trees::copied;
@@ -30,20 +30,38 @@ pub fn first_goals<'a>(alloc: Global, c: &'a Core) -> Result<Vec<OpenTerm<'a>>, 
     ensures { IfOk result (λ v. claims_in v.items ≡ program_claims (core_of c.now)) }
 {
     let mut goals = Vec::new(alloc);
-    for body in &c.funs {
-        add_body(alloc, body, &mut goals)?;
+    match add_bodies(alloc, c, &mut goals) {
+        Ok(_) => {
+            goals.reverse();
+            Ok(goals)
+        }
+        Err(memory) => {
+            drop(goals);
+            Err(memory)
+        }
     }
-    add_body(alloc, &c.main, &mut goals)?;
-    goals.reverse();
-    Ok(goals)
 }
 
-// Adds the body of a function.
-fn add_body<'a>(alloc: Global, b: &'a Body, goals: &mut Vec<OpenTerm<'a>>) -> Result<(), Memory>
-    ensures { OnOk result (map claim_of goals.new.items ≡ map claim_of goals.old.items ++ body_claim (core_body_of b.now) ∷ []) }
+// Adds the bodies of a program in turn, and answers true.
+#[tactic(auto, using(crate::proofs::Fronts::fronts))]
+fn add_bodies<'a>(alloc: Global, c: &'a Core, goals: &mut Vec<OpenTerm<'a>>) -> Result<bool, Memory>
+    ensures { OnOk result (map claim_of goals.new.items ≡ map claim_of goals.old.items ++ program_claims (core_of c.now)) }
 {
-    let known = known_params(alloc, &b.past)?;
-    let bunch = copied(alloc, &b.params)?;
+    for body in &c.funs {
+        match add_body(alloc, body, goals) {
+            Ok(_) => {}
+            Err(memory) => return Err(memory),
+        }
+    }
+    add_body(alloc, &c.main, goals)
+}
+
+// Adds the body of a function, and answers true.
+fn add_body<'a>(alloc: Global, b: &'a Body, goals: &mut Vec<OpenTerm<'a>>) -> Result<bool, Memory>
+    ensures { IfOk result (Adds (Some (body_claim (core_body_of b.now) ∷ [])) goals.old.items goals.new.items) }
+{
+    let known = known_params(alloc, &b.past);
+    let bunch = copied(alloc, &b.params);
     add(known, bunch, &b.body, &b.result, goals)
 }
 
@@ -54,7 +72,13 @@ fn known_params(alloc: Global, params: &[(Name, Ty)]) -> Result<Vec<(Name, HTy)>
 {
     let mut known = Vec::new(alloc);
     for param in params {
-        known.push((param.0, past(alloc, &param.1)?))?;
+        match put_entry(&mut known, param.0, past(alloc, &param.1)) {
+            Ok(()) => {}
+            Err(memory) => {
+                drop(known);
+                return Err(memory);
+            }
+        }
     }
     known.reverse();
     Ok(known)
@@ -76,13 +100,11 @@ pub fn take_line<'a>(
 {
     match goals.pop() {
         None => Err(DeriveFault::Long(number)),
-        Some(aim) => {
-            if take(alloc, c, marks, goals, aim, line)? {
-                Ok(())
-            } else {
-                Err(fault_at(number, line))
-            }
-        }
+        Some(aim) => match take(alloc, c, marks, goals, aim, line) {
+            Ok(true) => Ok(()),
+            Ok(false) => Err(fault_at(number, line)),
+            Err(Memory) => Err(DeriveFault::Memory),
+        },
     }
 }
 
@@ -109,50 +131,19 @@ fn take<'a>(
 {
     match line {
         Line::Rule => {
-            let valid = take_rule(alloc, c, marks, goals, &aim);
+            let mut parts = Vec::new(alloc);
+            let added = add_parts(alloc, c, marks, &aim, &mut parts);
             drop(aim);
-            valid
+            put_in_front(goals, parts, added)
         }
         Line::RuleAt(path) => {
-            let valid = take_rule_at(alloc, c, marks, goals, &aim, path);
+            let mut parts = Vec::new(alloc);
+            let added = add_parts_by(alloc, c, marks, &aim, path, &mut parts);
             drop(aim);
-            valid
+            put_in_front(goals, parts, added)
         }
         Line::Step(step, path) => take_step(alloc, goals, aim, *step, path),
     }
-}
-
-// A rule without a path.
-fn take_rule<'a>(
-    alloc: Global,
-    c: &'a Core,
-    marks: &[bool],
-    goals: &mut Vec<OpenTerm<'a>>,
-    aim: &OpenTerm<'a>,
-) -> Result<bool, Memory>
-    ensures { IfOk result (Leaves (after (core_of c.now).funs (counts_in (core_of c.now).funs marks.now) plain_rule (claim_of aim.now)) goals.old.items goals.new.items) }
-{
-    let mut parts = Vec::new(alloc);
-    let valid = add_parts(alloc, c, marks, aim, &mut parts)?;
-    put_in_front(goals, parts)?;
-    Ok(valid)
-}
-
-// A rule with a path.
-fn take_rule_at<'a>(
-    alloc: Global,
-    c: &'a Core,
-    marks: &[bool],
-    goals: &mut Vec<OpenTerm<'a>>,
-    aim: &OpenTerm<'a>,
-    path: &[Turn],
-) -> Result<bool, Memory>
-    ensures { IfOk result (Leaves (after (core_of c.now).funs (counts_in (core_of c.now).funs marks.now) (rule_at (map turn_of path.now)) (claim_of aim.now)) goals.old.items goals.new.items) }
-{
-    let mut parts = Vec::new(alloc);
-    let valid = add_parts_by(alloc, c, marks, aim, path, &mut parts)?;
-    put_in_front(goals, parts)?;
-    Ok(valid)
 }
 
 // A step.
@@ -167,10 +158,10 @@ fn take_step<'a>(
     ensures { IfOk result (Leaves (after [] (λ _. false) (step_at (step_of step) (map turn_of path.now)) (claim_of aim.entry)) goals.old.items goals.new.items) }
 {
     match rearrange(alloc, &mut aim.bunch, path, step) {
-        Ok(valid) => {
-            goals.push(aim)?;
-            Ok(valid)
-        }
+        Ok(valid) => match push(aim, goals) {
+            Ok(_) => Ok(valid),
+            Err(memory) => Err(memory),
+        },
         Err(memory) => {
             drop(aim);
             Err(memory)
@@ -178,16 +169,45 @@ fn take_step<'a>(
     }
 }
 
+// Puts the parts of a term in front of those that are to be derived, so that the first of them is next, and answers
+// what is said of them.
+fn put_in_front<'a>(
+    goals: &mut Vec<OpenTerm<'a>>,
+    parts: Vec<OpenTerm<'a>>,
+    added: Result<bool, Memory>,
+) -> Result<bool, Memory>
+    ensures moved { OnOk result (claims_in goals.new.items ≡ map claim_of parts.entry.items ++ claims_in goals.old.items) }
+    ensures said { IfOk result (λ valid. added ≡ Ok valid) }
+{
+    match added {
+        Ok(valid) => match move_in_front(goals, parts) {
+            Ok(()) => Ok(valid),
+            Err(memory) => Err(memory),
+        },
+        Err(memory) => {
+            drop(parts);
+            Err(memory)
+        }
+    }
+}
+
 // Puts terms in front of those that are to be derived, so that the first of them is next.
 #[tactic(auto, using(crate::proofs::Fronts::fronts))]
-fn put_in_front<'a>(
+fn move_in_front<'a>(
     goals: &mut Vec<OpenTerm<'a>>,
     mut parts: Vec<OpenTerm<'a>>,
 ) -> Result<(), Memory>
     ensures { OnOk result (claims_in goals.new.items ≡ map claim_of parts.entry.items ++ claims_in goals.old.items) }
 {
     'moving: while let Some(part) = parts.pop() {
-        goals.push(part)?;
+        match push(part, goals) {
+            Ok(_) => {}
+            Err(memory) => {
+                drop(parts);
+                return Err(memory);
+            }
+        }
     }
+    drop(parts);
     Ok(())
 }

@@ -29,9 +29,10 @@ pub fn is_still(
 ) -> Result<bool, Memory>
     ensures { IfOk result (λ still. still ≡ not (is_some (first_jumpy (core_of c.now).funs (counts_in (core_of c.now).funs marks.now) (core_body_of b.now) (terms_from (map term_of arguments.now))))) }
 {
-    match first_jumpy(alloc, c, marks, b, arguments)? {
-        None => Ok(true),
-        Some(_) => Ok(false),
+    match first_jumpy(alloc, c, marks, b, arguments) {
+        Ok(None) => Ok(true),
+        Ok(Some(_)) => Ok(false),
+        Err(memory) => Err(memory),
     }
 }
 

@@ -18,5 +18,5 @@ mod stepping;
 mod trees;
 mod types;
 
-pub use checking::derive;
+pub use checking::{check, derive, dismiss};
 pub use fault::DeriveFault;

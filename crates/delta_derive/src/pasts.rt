@@ -18,19 +18,23 @@ use stream_type::{Memory, Ty};
 pub fn is_past(alloc: Global, known: &[(Name, HTy)], m: &Expr, r: &Ty) -> Result<bool, Memory>
     ensures { IfOk result (λ good. good ≡ not (is_some (expr_refusal (types_of known.now) (expr_of m.now) (past (type_of r.now))))) }
 {
-    let wanted = past(alloc, r)?;
-    let found = type_of(alloc, m, known, Some(&wanted));
-    drop(wanted);
-    match found {
-        Ok(found) => {
-            drop(found);
-            Ok(true)
+    match past(alloc, r) {
+        Ok(wanted) => {
+            let found = type_of(alloc, m, known, Some(&wanted));
+            drop(wanted);
+            match found {
+                Ok(found) => {
+                    drop(found);
+                    Ok(true)
+                }
+                Err(HistFault::Memory) => Err(Memory),
+                Err(fault) => {
+                    drop(fault);
+                    Ok(false)
+                }
+            }
         }
-        Err(HistFault::Memory) => Err(Memory),
-        Err(fault) => {
-            drop(fault);
-            Ok(false)
-        }
+        Err(memory) => Err(memory),
     }
 }
 
@@ -47,11 +51,11 @@ pub fn are_pasts(
     for (i, m) in past.iter().enumerate() {
         match params.get(i) {
             None => return Ok(true),
-            Some(param) => {
-                if !is_past(alloc, known, m, &param.1)? {
-                    return Ok(false);
-                }
-            }
+            Some(param) => match is_past(alloc, known, m, &param.1) {
+                Ok(true) => {}
+                Ok(false) => return Ok(false),
+                Err(memory) => return Err(memory),
+            },
         }
     }
     Ok(true)

@@ -2,7 +2,7 @@
 
 ghost use Rattle.std.specs.Prelude.{◌≡◌, map, option_map, IfOk, ◌==◌, position};
 ghost use Rattle.std.specs.Str.{bytes_eq};
-ghost use Rattle.delta_derive.specs.LineText.{turn_of, turn_at, turns_in, path_in, step_of, step_in, line_of, bare_line, line_of_word, line_with_path, line_in};
+ghost use Rattle.delta_derive.specs.LineText.{turn_of, turn_at, turns_in, path_in, step_of, step_in, unit_step_in, line_of, bare_line, line_of_word, line_with_path, line_in};
 
 use crate::line::{Line, Step, Turn};
 use std::alloc::Global;
@@ -48,10 +48,11 @@ fn bare_line(word: &[u8]) -> Option<Line>
 fn line_with_path(alloc: Global, word: &[u8], bytes: &[u8]) -> Result<Option<Line>, Memory>
     ensures { IfOk result (λ o. option_map line_of o ≡ line_with_path word.now bytes.now) }
 {
-    let Some(path) = path_in(alloc, bytes)? else {
-        return Ok(None);
-    };
-    Ok(line_of_word(word, path))
+    match path_in(alloc, bytes) {
+        Ok(Some(path)) => Ok(line_of_word(word, path)),
+        Ok(None) => Ok(None),
+        Err(memory) => Err(memory),
+    }
 }
 
 // The same, where the path is read.
@@ -62,8 +63,11 @@ fn line_of_word(word: &[u8], path: Vec<Turn>) -> Option<Line>
         return Some(Line::RuleAt(path));
     }
     match step_in(word) {
-        None => None,
         Some(step) => Some(Line::Step(step, path)),
+        None => {
+            drop(path);
+            None
+        }
     }
 }
 
@@ -81,7 +85,16 @@ fn step_in(word: &[u8]) -> Option<Step>
         Some(Step::Right)
     } else if is_word(word, "loosen") {
         Some(Step::Loosen)
-    } else if is_word(word, "unit") {
+    } else {
+        unit_step_in(word)
+    }
+}
+
+// The same of the steps that make or take away an empty part.
+fn unit_step_in(word: &[u8]) -> Option<Step>
+    ensures { option_map step_of result ≡ unit_step_in word.now }
+{
+    if is_word(word, "unit") {
         Some(Step::Unit)
     } else if is_word(word, "before") {
         Some(Step::Before)
@@ -114,8 +127,11 @@ fn turns_in(alloc: Global, bytes: &[u8]) -> Result<Option<Vec<Turn>>, Memory>
     let mut turns = Vec::new(alloc);
     for byte in bytes {
         match turn_at(*byte) {
-            None => return Ok(None),
             Some(turn) => turns.push(turn)?,
+            None => {
+                drop(turns);
+                return Ok(None);
+            }
         }
     }
     Ok(Some(turns))

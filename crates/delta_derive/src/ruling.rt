@@ -1,6 +1,6 @@
 //! The rules: what is to be derived of a term's parts.
 
-ghost use Rattle.std.specs.Prelude.{◌≡◌, ◌∷◌, [], map, false, IfOk, OnOk, Some, ◌++◌};
+ghost use Rattle.std.specs.Prelude.{◌≡◌, ◌∷◌, [], map, false, IfOk, IsOkAnd, Some};
 ghost use Rattle.stream_type.specs.StreamType.{type_of};
 ghost use Rattle.bunch.specs.BunchTree.{tree_of, empty, comma, semi, leaf};
 ghost use Rattle.hist_value.specs.HistExpr.{expr_of};
@@ -10,8 +10,8 @@ ghost use Rattle.delta_check.specs.Counting.{counts_in};
 ghost use Rattle.bunch_rules.specs.Derivation.{hidden, learned};
 ghost use Rattle.delta_derive.specs.LineText.{turn_of};
 ghost use Rattle.delta_derive.specs.Rearranged.{then_by, part_at, put_at, with_leaf};
-ghost use Rattle.delta_derive.specs.Claims.{rule_parts, rule_parts_by, claim, of_semi, let_claims, below_one, below_two};
-ghost use Rattle.delta_derive.specs.OpenTerms.{claim_of, Adds};
+ghost use Rattle.delta_derive.specs.Claims.{rule_parts, rule_parts_by, claim, of_semi, let_claims, below_one, below_two, apart_parts};
+ghost use Rattle.delta_derive.specs.OpenTerms.{Adds};
 
 use crate::calling::call_parts;
 use crate::jumpy::may_stand;
@@ -51,14 +51,34 @@ pub fn add_parts<'a>(
         Term::Inl(a) => add_left(alloc, aim, a, parts),
         Term::Inr(a) => add_right(alloc, aim, a, parts),
         Term::Let(_, _, _, _) => Ok(false),
+        Term::LetPar(_, _, _, _)
+        | Term::LetCat(_, _, _, _)
+        | Term::CaseSum(_, _, _, _, _, _)
+        | Term::CaseStar(_, _, _, _, _, _)
+        | Term::Wait(_, _, _) => add_taken_apart(alloc, aim, parts),
+        Term::Call(f, past, arguments) => {
+            call_parts(alloc, c, marks, aim, *f, past, arguments, parts)
+        }
+    }
+}
+
+// Adds what is left to derive of a term that takes a stream of its bunch apart or waits for one, and says whether it is
+// such a term and its rule is valid.
+fn add_taken_apart<'a>(
+    alloc: Global,
+    aim: &OpenTerm<'a>,
+    parts: &mut Vec<OpenTerm<'a>>,
+) -> Result<bool, Memory>
+    ensures { IfOk result (Adds (apart_parts (types_of aim.now.known.items) (tree_of aim.now.bunch) (term_of aim.now.node.now) (type_of aim.now.result.now)) parts.old.items parts.new.items) }
+{
+    let node: &'a Node = aim.node;
+    match &node.term {
         Term::LetPar(x, y, z, a) => add_let_par(alloc, aim, *x, *y, *z, a, parts),
         Term::LetCat(x, y, z, a) => add_let_cat(alloc, aim, *x, *y, *z, a, parts),
         Term::CaseSum(z, t, x, a, y, b) => add_case_sum(alloc, aim, *z, t, *x, a, *y, b, parts),
         Term::CaseStar(z, t, a, y, ys, b) => add_case_star(alloc, aim, *z, t, a, *y, *ys, b, parts),
         Term::Wait(x, t, a) => add_wait(alloc, aim, *x, t, a, parts),
-        Term::Call(f, past, arguments) => {
-            call_parts(alloc, c, marks, aim, *f, past, arguments, parts)
-        }
+        _ => Ok(false),
     }
 }
 
@@ -195,10 +215,13 @@ fn add_bound<'a>(
 ) -> Result<bool, Memory>
     ensures { IfOk result (Adds (Some (let_claims (types_of aim.now.known.items) (map turn_of path.now) (tree_of d.now) (tree_of aim.now.bunch) x.0 (type_of s.now) (term_of a.now) (term_of b.now) (type_of aim.now.result.now))) parts.old.items parts.new.items) }
 {
-    add_in(alloc, &aim.known, d, a, s, parts)?;
-    let bunch = beside_part(alloc, &aim.bunch, path, d, x, s)?;
-    add_hidden(alloc, aim, x, bunch, b, parts)?;
-    Ok(true)
+    match add_in(alloc, &aim.known, d, a, s, parts) {
+        Ok(_) => {
+            let bunch = beside_part(alloc, &aim.bunch, path, d, x, s);
+            add_hidden(alloc, aim, x, bunch, b, parts)
+        }
+        Err(memory) => Err(memory),
+    }
 }
 
 // The bunch with x beside the part d at the end of the path.
@@ -212,19 +235,69 @@ fn beside_part(
 ) -> Result<Box<Bunch>, Memory>
     ensures { IfOk result (λ h. tree_of h.value ≡ put_at (map turn_of path.now) (comma (tree_of d.now) (leaf x.0 (type_of s.now))) (tree_of g.now)) }
 {
-    let part = single_beside(alloc, d, x, s)?;
-    let mut bunch = copied(alloc, g)?;
-    put_at(&mut bunch, path, part);
-    Ok(bunch)
+    let part = single_beside(alloc, d, x, s);
+    match copied(alloc, g) {
+        Ok(bunch) => with_part(bunch, path, part),
+        Err(memory) => {
+            drop(part);
+            Err(memory)
+        }
+    }
 }
 
-// The bunch with a part in the place of the leaf of z.
-fn with_leaf(alloc: Global, g: &Bunch, z: Name, part: Box<Bunch>) -> Result<Box<Bunch>, Memory>
-    ensures { IfOk result (λ h. tree_of h.value ≡ with_leaf z.0 (tree_of part.value) (tree_of g.now)) }
+// The bunch with what was made of a part put to the end of the path.
+fn with_part(
+    mut bunch: Box<Bunch>,
+    path: &[Turn],
+    part: Result<Box<Bunch>, Memory>,
+) -> Result<Box<Bunch>, Memory>
+    ensures { IfOk result (λ h. IsOkAnd part (λ w. tree_of h.value ≡ put_at (map turn_of path.now) (tree_of w.value) (tree_of bunch.value))) }
 {
-    let mut bunch = copied(alloc, g)?;
-    put_leaf(&mut bunch, z, part);
-    Ok(bunch)
+    match part {
+        Ok(part) => {
+            put_at(&mut bunch, path, part);
+            Ok(bunch)
+        }
+        Err(memory) => {
+            drop(bunch);
+            Err(memory)
+        }
+    }
+}
+
+// The bunch with what was made of a part in the place of the leaf of z.
+fn with_leaf(
+    alloc: Global,
+    g: &Bunch,
+    z: Name,
+    part: Result<Box<Bunch>, Memory>,
+) -> Result<Box<Bunch>, Memory>
+    ensures { IfOk result (λ h. IsOkAnd part (λ w. tree_of h.value ≡ with_leaf z.0 (tree_of w.value) (tree_of g.now))) }
+{
+    match part {
+        Ok(part) => leaf_put(copied(alloc, g), z, part),
+        Err(memory) => Err(memory),
+    }
+}
+
+// What was made of a bunch, with a part in the place of the leaf of z.
+fn leaf_put(
+    bunch: Result<Box<Bunch>, Memory>,
+    z: Name,
+    part: Box<Bunch>,
+) -> Result<Box<Bunch>, Memory>
+    ensures { IfOk result (λ h. IsOkAnd bunch (λ g. tree_of h.value ≡ with_leaf z.0 (tree_of part.value) (tree_of g.value))) }
+{
+    match bunch {
+        Ok(mut bunch) => {
+            put_leaf(&mut bunch, z, part);
+            Ok(bunch)
+        }
+        Err(memory) => {
+            drop(part);
+            Err(memory)
+        }
+    }
 }
 
 /// The same of a rule with a path, which only a let has: `rule_parts_by` in `specs/Claims.antt`. Its only error is want
@@ -252,25 +325,24 @@ pub fn add_parts_by<'a>(
     }
 }
 
-// Adds a term under two new names, with a part beside the leaf of z, and answers true.
+// Adds a term under two new names, with what was made of a part beside the leaf of z, and answers true.
 fn add_under_two<'a>(
     alloc: Global,
     aim: &OpenTerm<'a>,
     x: Name,
     y: Name,
     z: Name,
-    part: Box<Bunch>,
+    part: Result<Box<Bunch>, Memory>,
     a: &'a Node,
     parts: &mut Vec<OpenTerm<'a>>,
 ) -> Result<bool, Memory>
-    ensures { IfOk result (Adds (Some (claim (hidden y.0 (hidden x.0 (types_of aim.now.known.items))) (with_leaf z.0 (tree_of part.value) (tree_of aim.now.bunch)) (term_of a.now) (type_of aim.now.result.now) ∷ [])) parts.old.items parts.new.items) }
+    ensures { IfOk result (λ valid. IsOkAnd part (λ w. Adds (Some (claim (hidden y.0 (hidden x.0 (types_of aim.now.known.items))) (with_leaf z.0 (tree_of w.value) (tree_of aim.now.bunch)) (term_of a.now) (type_of aim.now.result.now) ∷ [])) parts.old.items parts.new.items valid)) }
 {
-    let bunch = with_leaf(alloc, &aim.bunch, z, part)?;
-    add_hidden_two(alloc, aim, x, y, bunch, a, parts)?;
-    Ok(true)
+    let bunch = with_leaf(alloc, &aim.bunch, z, part);
+    add_hidden_two(alloc, aim, x, y, bunch, a, parts)
 }
 
-// Adds the branch of a case on a sum, with the name of its side beside the subject.
+// Adds the branch of a case on a sum, with the name of its side beside the subject, and answers true.
 fn add_branch<'a>(
     alloc: Global,
     aim: &OpenTerm<'a>,
@@ -280,13 +352,11 @@ fn add_branch<'a>(
     s: &Ty,
     a: &'a Node,
     parts: &mut Vec<OpenTerm<'a>>,
-) -> Result<(), Memory>
-    ensures { OnOk result (map claim_of parts.new.items ≡ map claim_of parts.old.items
-        ++ below_one (types_of aim.now.known.items) x.0 z.0 (type_of whole.now) (leaf x.0 (type_of s.now)) (tree_of aim.now.bunch) (term_of a.now) (type_of aim.now.result.now) ∷ []) }
+) -> Result<bool, Memory>
+    ensures { IfOk result (Adds (Some (below_one (types_of aim.now.known.items) x.0 z.0 (type_of whole.now) (leaf x.0 (type_of s.now)) (tree_of aim.now.bunch) (term_of a.now) (type_of aim.now.result.now) ∷ [])) parts.old.items parts.new.items) }
 {
-    let side = leaf(alloc, x, s)?;
-    let part = beside(alloc, z, whole, side)?;
-    let bunch = with_leaf(alloc, &aim.bunch, z, part)?;
+    let part = beside(alloc, z, whole, leaf(alloc, x, s));
+    let bunch = with_leaf(alloc, &aim.bunch, z, part);
     add_hidden(alloc, aim, x, bunch, a, parts)
 }
 
@@ -305,7 +375,7 @@ fn add_let_par<'a>(
     match leaf_type(&aim.bunch, z) {
         Some(whole) => match whole {
             Ty::Par(s, t) => {
-                let part = pair(alloc, z, whole, x, s, y, t)?;
+                let part = pair(alloc, z, whole, x, s, y, t);
                 add_under_two(alloc, aim, x, y, z, part, a, parts)
             }
             _ => Ok(false),
@@ -329,7 +399,7 @@ fn add_let_cat<'a>(
     match leaf_type(&aim.bunch, z) {
         Some(whole) => match whole {
             Ty::Cat(s, t) => {
-                let part = sequence(alloc, z, whole, x, s, y, t)?;
+                let part = sequence(alloc, z, whole, x, s, y, t);
                 add_under_two(alloc, aim, x, y, z, part, a, parts)
             }
             _ => Ok(false),
@@ -355,10 +425,11 @@ fn add_case_sum<'a>(
     match leaf_type(&aim.bunch, z) {
         Some(whole) => match whole {
             Ty::Sum(s, t) => {
-                if !is_same(r, aim.result) {
-                    return Ok(false);
+                if is_same(r, aim.result) {
+                    add_sum_branches(alloc, aim, z, whole, x, s, a, y, t, b, parts)
+                } else {
+                    Ok(false)
                 }
-                add_sum_branches(alloc, aim, z, whole, x, s, a, y, t, b, parts)
             }
             _ => Ok(false),
         },
@@ -383,9 +454,10 @@ fn add_sum_branches<'a>(
     ensures { IfOk result (Adds (Some (below_one (types_of aim.now.known.items) x.0 z.0 (type_of whole.now) (leaf x.0 (type_of s.now)) (tree_of aim.now.bunch) (term_of a.now) (type_of aim.now.result.now)
         ∷ below_one (types_of aim.now.known.items) y.0 z.0 (type_of whole.now) (leaf y.0 (type_of t.now)) (tree_of aim.now.bunch) (term_of b.now) (type_of aim.now.result.now) ∷ [])) parts.old.items parts.new.items) }
 {
-    add_branch(alloc, aim, z, whole, x, s, a, parts)?;
-    add_branch(alloc, aim, z, whole, y, t, b, parts)?;
-    Ok(true)
+    match add_branch(alloc, aim, z, whole, x, s, a, parts) {
+        Ok(_) => add_branch(alloc, aim, z, whole, y, t, b, parts),
+        Err(memory) => Err(memory),
+    }
 }
 
 // The branch of an item has the names of the item and of the rest in order beside the subject; the other one has
@@ -406,10 +478,11 @@ fn add_case_star<'a>(
     match leaf_type(&aim.bunch, z) {
         Some(whole) => match whole {
             Ty::Star(s) => {
-                if !is_same(r, aim.result) {
-                    return Ok(false);
+                if is_same(r, aim.result) {
+                    add_star_branches(alloc, aim, z, whole, a, y, s, ys, b, parts)
+                } else {
+                    Ok(false)
                 }
-                add_star_branches(alloc, aim, z, whole, a, y, s, ys, b, parts)
             }
             _ => Ok(false),
         },
@@ -433,12 +506,13 @@ fn add_star_branches<'a>(
     ensures { IfOk result (Adds (Some (claim (types_of aim.now.known.items) (tree_of aim.now.bunch) (term_of a.now) (type_of aim.now.result.now)
         ∷ below_two (types_of aim.now.known.items) y.0 ys.0 z.0 (type_of whole.now) (semi (leaf y.0 (type_of s.now)) (leaf ys.0 (type_of whole.now))) (tree_of aim.now.bunch) (term_of b.now) (type_of aim.now.result.now) ∷ [])) parts.old.items parts.new.items) }
 {
-    add_in(alloc, &aim.known, &aim.bunch, a, aim.result, parts)?;
-    add_item_branch(alloc, aim, z, whole, y, s, ys, b, parts)?;
-    Ok(true)
+    match add_in(alloc, &aim.known, &aim.bunch, a, aim.result, parts) {
+        Ok(_) => add_item_branch(alloc, aim, z, whole, y, s, ys, b, parts),
+        Err(memory) => Err(memory),
+    }
 }
 
-// Adds the branch of an item.
+// Adds the branch of an item, and answers true.
 fn add_item_branch<'a>(
     alloc: Global,
     aim: &OpenTerm<'a>,
@@ -449,13 +523,11 @@ fn add_item_branch<'a>(
     ys: Name,
     b: &'a Node,
     parts: &mut Vec<OpenTerm<'a>>,
-) -> Result<(), Memory>
-    ensures { OnOk result (map claim_of parts.new.items ≡ map claim_of parts.old.items
-        ++ below_two (types_of aim.now.known.items) y.0 ys.0 z.0 (type_of whole.now) (semi (leaf y.0 (type_of s.now)) (leaf ys.0 (type_of whole.now))) (tree_of aim.now.bunch) (term_of b.now) (type_of aim.now.result.now) ∷ []) }
+) -> Result<bool, Memory>
+    ensures { IfOk result (Adds (Some (below_two (types_of aim.now.known.items) y.0 ys.0 z.0 (type_of whole.now) (semi (leaf y.0 (type_of s.now)) (leaf ys.0 (type_of whole.now))) (tree_of aim.now.bunch) (term_of b.now) (type_of aim.now.result.now) ∷ [])) parts.old.items parts.new.items) }
 {
-    let part = sequence(alloc, z, whole, y, s, ys, whole)?;
-    let bunch = with_leaf(alloc, &aim.bunch, z, part)?;
-    add_hidden_two(alloc, aim, y, ys, bunch, b, parts)
+    let part = sequence(alloc, z, whole, y, s, ys, whole);
+    add_under_two(alloc, aim, y, ys, z, part, b, parts)
 }
 
 // A name that is waited for leaves the bunch and is known.
@@ -485,8 +557,7 @@ fn add_wait<'a>(
 fn without(alloc: Global, g: &Bunch, x: Name) -> Result<Box<Bunch>, Memory>
     ensures { IfOk result (λ h. tree_of h.value ≡ with_leaf x.0 empty (tree_of g.now)) }
 {
-    let nothing = boxed(alloc, Bunch::Empty)?;
-    with_leaf(alloc, g, x, nothing)
+    with_leaf(alloc, g, x, boxed(alloc, Bunch::Empty))
 }
 
 // Adds a term where x is known and has left the bunch, and answers true.
@@ -500,8 +571,7 @@ fn add_known<'a>(
 ) -> Result<bool, Memory>
     ensures { IfOk result (Adds (Some (claim (learned x.0 (type_of t.now) (types_of aim.now.known.items)) (with_leaf x.0 empty (tree_of aim.now.bunch)) (term_of a.now) (type_of aim.now.result.now) ∷ [])) parts.old.items parts.new.items) }
 {
-    let bunch = without(alloc, &aim.bunch, x)?;
-    let known = learned(alloc, x, t, &aim.known)?;
-    add(known, bunch, a, aim.result, parts)?;
-    Ok(true)
+    let bunch = without(alloc, &aim.bunch, x);
+    let known = learned(alloc, x, t, &aim.known);
+    add(known, bunch, a, aim.result, parts)
 }

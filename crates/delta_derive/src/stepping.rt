@@ -1,7 +1,7 @@
 //! Steps that rearrange a bunch in its place.
 
-ghost use Rattle.std.specs.Prelude.{◌≡◌, map, option_map, IfOk};
-ghost use Rattle.bunch.specs.BunchTree.{tree_of, empty};
+ghost use Rattle.std.specs.Prelude.{◌≡◌, map, option_map, IfOk, IsOkAnd, Some};
+ghost use Rattle.bunch.specs.BunchTree.{tree_of, empty, comma, semi};
 ghost use Rattle.core_term.specs.TypeFaults.{found_where};
 ghost use Rattle.bunch_rules.specs.Rearranging.{left_step, right_step, loosen_step, unit_step, swap_step, before_step, after_step, beside_step};
 ghost use Rattle.delta_derive.specs.LineText.{turn_of, step_of};
@@ -41,12 +41,13 @@ fn take_step(alloc: Global, b: &mut Bunch, step: Step) -> Result<bool, Memory>
     ensures { IfOk result (λ done. found_where done (tree_of b.new) ≡ stepped (step_of step) (tree_of b.old)) }
 {
     let part = mem::replace(b, Bunch::Empty);
-    match stepped(alloc, part, step)? {
-        None => Ok(false),
-        Some(changed) => {
+    match stepped(alloc, part, step) {
+        Ok(Some(changed)) => {
             drop(mem::replace(b, changed));
             Ok(true)
         }
+        Ok(None) => Ok(false),
+        Err(memory) => Err(memory),
     }
 }
 
@@ -101,13 +102,57 @@ fn loosened(b: Bunch) -> Option<Bunch>
     }
 }
 
+// `a, b` of what was made of both.
+fn comma_of(
+    left: Result<Box<Bunch>, Memory>,
+    right: Result<Box<Bunch>, Memory>,
+) -> Result<Option<Bunch>, Memory>
+    ensures { IfOk result (λ o. IsOkAnd left (λ a. IsOkAnd right (λ b. option_map tree_of o ≡ Some (comma (tree_of a.value) (tree_of b.value))))) }
+{
+    match left {
+        Ok(left) => match right {
+            Ok(right) => Ok(Some(Bunch::Comma(left, right))),
+            Err(memory) => {
+                drop(left);
+                Err(memory)
+            }
+        },
+        Err(memory) => {
+            drop(right);
+            Err(memory)
+        }
+    }
+}
+
+// `a; b` of what was made of both.
+fn semi_of(
+    left: Result<Box<Bunch>, Memory>,
+    right: Result<Box<Bunch>, Memory>,
+) -> Result<Option<Bunch>, Memory>
+    ensures { IfOk result (λ o. IsOkAnd left (λ a. IsOkAnd right (λ b. option_map tree_of o ≡ Some (semi (tree_of a.value) (tree_of b.value))))) }
+{
+    match left {
+        Ok(left) => match right {
+            Ok(right) => Ok(Some(Bunch::Semi(left, right))),
+            Err(memory) => {
+                drop(left);
+                Err(memory)
+            }
+        },
+        Err(memory) => {
+            drop(right);
+            Err(memory)
+        }
+    }
+}
+
 // Three parts grouped to the left.
 fn grouped_left(alloc: Global, b: Bunch) -> Result<Option<Bunch>, Memory>
     ensures { IfOk result (λ o. option_map tree_of o ≡ stepped left_step (tree_of b)) }
 {
     match b {
         Bunch::Comma(b, c) => match Box::into_inner(c) {
-            Bunch::Comma(c, d) => Ok(Some(Bunch::Comma(comma(alloc, b, c)?, d))),
+            Bunch::Comma(c, d) => comma_of(comma(alloc, b, c), Ok(d)),
             other => {
                 drop(b);
                 drop(other);
@@ -115,7 +160,7 @@ fn grouped_left(alloc: Global, b: Bunch) -> Result<Option<Bunch>, Memory>
             }
         },
         Bunch::Semi(b, c) => match Box::into_inner(c) {
-            Bunch::Semi(c, d) => Ok(Some(Bunch::Semi(semi(alloc, b, c)?, d))),
+            Bunch::Semi(c, d) => semi_of(semi(alloc, b, c), Ok(d)),
             other => {
                 drop(b);
                 drop(other);
@@ -135,7 +180,7 @@ fn grouped_right(alloc: Global, b: Bunch) -> Result<Option<Bunch>, Memory>
 {
     match b {
         Bunch::Comma(b, d) => match Box::into_inner(b) {
-            Bunch::Comma(b, c) => Ok(Some(Bunch::Comma(b, comma(alloc, c, d)?))),
+            Bunch::Comma(b, c) => comma_of(Ok(b), comma(alloc, c, d)),
             other => {
                 drop(other);
                 drop(d);
@@ -143,7 +188,7 @@ fn grouped_right(alloc: Global, b: Bunch) -> Result<Option<Bunch>, Memory>
             }
         },
         Bunch::Semi(b, d) => match Box::into_inner(b) {
-            Bunch::Semi(b, c) => Ok(Some(Bunch::Semi(b, semi(alloc, c, d)?))),
+            Bunch::Semi(b, c) => semi_of(Ok(b), semi(alloc, c, d)),
             other => {
                 drop(other);
                 drop(d);
@@ -196,22 +241,19 @@ fn is_empty(b: &Bunch) -> bool
 fn after_empty(alloc: Global, b: Bunch) -> Result<Option<Bunch>, Memory>
     ensures { IfOk result (λ o. option_map tree_of o ≡ stepped before_step (tree_of b)) }
 {
-    let b = boxed(alloc, b)?;
-    Ok(Some(Bunch::Semi(boxed(alloc, Bunch::Empty)?, b)))
+    semi_of(boxed(alloc, Bunch::Empty), boxed(alloc, b))
 }
 
 // after it,
 fn before_empty(alloc: Global, b: Bunch) -> Result<Option<Bunch>, Memory>
     ensures { IfOk result (λ o. option_map tree_of o ≡ stepped after_step (tree_of b)) }
 {
-    let b = boxed(alloc, b)?;
-    Ok(Some(Bunch::Semi(b, boxed(alloc, Bunch::Empty)?)))
+    semi_of(boxed(alloc, b), boxed(alloc, Bunch::Empty))
 }
 
 // or beside it.
 fn beside_empty(alloc: Global, b: Bunch) -> Result<Option<Bunch>, Memory>
     ensures { IfOk result (λ o. option_map tree_of o ≡ stepped beside_step (tree_of b)) }
 {
-    let b = boxed(alloc, b)?;
-    Ok(Some(Bunch::Comma(b, boxed(alloc, Bunch::Empty)?)))
+    comma_of(boxed(alloc, b), boxed(alloc, Bunch::Empty))
 }

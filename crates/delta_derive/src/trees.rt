@@ -1,6 +1,6 @@
 //! Bunches made of others.
 
-ghost use Rattle.std.specs.Prelude.{◌≡◌, IfOk};
+ghost use Rattle.std.specs.Prelude.{◌≡◌, IfOk, IsOkAnd};
 ghost use Rattle.stream_type.specs.StreamType.{type_of};
 ghost use Rattle.bunch.specs.BunchTree.{tree_of, comma, semi, leaf};
 ghost use Rattle.delta_derive.specs.Claims.{beside};
@@ -28,15 +28,20 @@ pub fn boxed(alloc: Global, b: Bunch) -> Result<Box<Bunch>, Memory>
 pub fn copied(alloc: Global, b: &Bunch) -> Result<Box<Bunch>, Memory>
     ensures { IfOk result (λ c. tree_of c.value ≡ tree_of b.now) }
 {
-    boxed(alloc, copy(alloc, b)?)
+    match copy(alloc, b) {
+        Ok(b) => boxed(alloc, b),
+        Err(memory) => Err(memory),
+    }
 }
 
 /// A leaf. Its only error is want of memory.
 pub fn leaf(alloc: Global, x: Name, t: &Ty) -> Result<Box<Bunch>, Memory>
     ensures { IfOk result (λ b. tree_of b.value ≡ leaf x.0 (type_of t.now)) }
 {
-    let ty = stream_type::copy(alloc, t)?;
-    boxed(alloc, Bunch::Leaf(x, ty))
+    match stream_type::copy(alloc, t) {
+        Ok(ty) => boxed(alloc, Bunch::Leaf(x, ty)),
+        Err(memory) => Err(memory),
+    }
 }
 
 /// `a, b`. Its only error is want of memory.
@@ -53,36 +58,69 @@ pub fn semi(alloc: Global, a: Box<Bunch>, b: Box<Bunch>) -> Result<Box<Bunch>, M
     boxed(alloc, Bunch::Semi(a, b))
 }
 
-/// A part beside `z`. Its only error is want of memory.
-pub fn beside(alloc: Global, z: Name, whole: &Ty, part: Box<Bunch>) -> Result<Box<Bunch>, Memory>
-    ensures { IfOk result (λ b. tree_of b.value ≡ beside z.0 (type_of whole.now) (tree_of part.value)) }
+// `a, b` of what was made of both.
+fn side_by_side(
+    alloc: Global,
+    left: Result<Box<Bunch>, Memory>,
+    right: Result<Box<Bunch>, Memory>,
+) -> Result<Box<Bunch>, Memory>
+    ensures { IfOk result (λ c. IsOkAnd left (λ a. IsOkAnd right (λ b. tree_of c.value ≡ comma (tree_of a.value) (tree_of b.value)))) }
 {
-    let stream = leaf(alloc, z, whole)?;
-    comma(alloc, stream, part)
+    match left {
+        Ok(left) => match right {
+            Ok(right) => comma(alloc, left, right),
+            Err(memory) => {
+                drop(left);
+                Err(memory)
+            }
+        },
+        Err(memory) => {
+            drop(right);
+            Err(memory)
+        }
+    }
+}
+
+// `a; b` of what was made of both.
+fn in_turn(
+    alloc: Global,
+    left: Result<Box<Bunch>, Memory>,
+    right: Result<Box<Bunch>, Memory>,
+) -> Result<Box<Bunch>, Memory>
+    ensures { IfOk result (λ c. IsOkAnd left (λ a. IsOkAnd right (λ b. tree_of c.value ≡ semi (tree_of a.value) (tree_of b.value)))) }
+{
+    match left {
+        Ok(left) => match right {
+            Ok(right) => semi(alloc, left, right),
+            Err(memory) => {
+                drop(left);
+                Err(memory)
+            }
+        },
+        Err(memory) => {
+            drop(right);
+            Err(memory)
+        }
+    }
+}
+
+/// What was made of a part, beside `z`. Its only error is want of memory.
+pub fn beside(
+    alloc: Global,
+    z: Name,
+    whole: &Ty,
+    part: Result<Box<Bunch>, Memory>,
+) -> Result<Box<Bunch>, Memory>
+    ensures { IfOk result (λ b. IsOkAnd part (λ w. tree_of b.value ≡ beside z.0 (type_of whole.now) (tree_of w.value))) }
+{
+    side_by_side(alloc, leaf(alloc, z, whole), part)
 }
 
 /// The leaf of `x` beside a bunch like `d`. Its only error is want of memory.
 pub fn single_beside(alloc: Global, d: &Bunch, x: Name, s: &Ty) -> Result<Box<Bunch>, Memory>
     ensures { IfOk result (λ b. tree_of b.value ≡ comma (tree_of d.now) (leaf x.0 (type_of s.now))) }
 {
-    let part = copied(alloc, d)?;
-    comma(alloc, part, leaf(alloc, x, s)?)
-}
-
-// Two leaves.
-fn leaves(
-    alloc: Global,
-    x: Name,
-    s: &Ty,
-    y: Name,
-    t: &Ty,
-) -> Result<(Box<Bunch>, Box<Bunch>), Memory>
-    ensures left { IfOk result (λ p. tree_of p.0.value ≡ leaf x.0 (type_of s.now)) }
-    ensures right { IfOk result (λ p. tree_of p.1.value ≡ leaf y.0 (type_of t.now)) }
-{
-    let left = leaf(alloc, x, s)?;
-    let right = leaf(alloc, y, t)?;
-    Ok((left, right))
+    side_by_side(alloc, copied(alloc, d), leaf(alloc, x, s))
 }
 
 /// `x, y` beside `z`. Its only error is want of memory.
@@ -97,8 +135,8 @@ pub fn pair(
 ) -> Result<Box<Bunch>, Memory>
     ensures { IfOk result (λ b. tree_of b.value ≡ beside z.0 (type_of whole.now) (comma (leaf x.0 (type_of s.now)) (leaf y.0 (type_of t.now)))) }
 {
-    let (left, right) = leaves(alloc, x, s, y, t)?;
-    beside(alloc, z, whole, comma(alloc, left, right)?)
+    let sides = side_by_side(alloc, leaf(alloc, x, s), leaf(alloc, y, t));
+    beside(alloc, z, whole, sides)
 }
 
 /// `x; y` beside `z`. Its only error is want of memory.
@@ -113,6 +151,6 @@ pub fn sequence(
 ) -> Result<Box<Bunch>, Memory>
     ensures { IfOk result (λ b. tree_of b.value ≡ beside z.0 (type_of whole.now) (semi (leaf x.0 (type_of s.now)) (leaf y.0 (type_of t.now)))) }
 {
-    let (left, right) = leaves(alloc, x, s, y, t)?;
-    beside(alloc, z, whole, semi(alloc, left, right)?)
+    let sides = in_turn(alloc, leaf(alloc, x, s), leaf(alloc, y, t));
+    beside(alloc, z, whole, sides)
 }

@@ -3,5 +3,5 @@ use Rattle.std.proofs.Common.{arith}
 use Rattle.delta_derive.proofs.Sharing.{left_added}
 use Rattle.delta_derive.proofs.calling.share_all.Goals as goal
 
-pub returns-in-Some : goal.returns-in-Some
-returns-in-Some c = grind (arith, left_added)
+pub returns-in-Ok-Some : goal.returns-in-Ok-Some
+returns-in-Ok-Some c = grind (arith, left_added)

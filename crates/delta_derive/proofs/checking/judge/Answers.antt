@@ -13,11 +13,11 @@ use Rattle.delta_derive.proofs.checking.judge.Goals as goal
 pub returns-clause-none : goal.returns-clause-none
 returns-clause-none c =
     let funs = (core_of c.args.c.now).funs in
-    let same = ap₂ (λ (counts : ℕ → Bool) (gs : List Claim). first_from funs counts 0 gs (lines_in c.args.text.now)) (ap (counts_in funs) c.deref.ensures.value ∙ fun_ext c.in_ok-marks.ensures.inert) c.in_ok-goals.ensures in
-    subst (λ (o : Option DeriveFault). IfOk c.take_lines.result (λ _. o ≡ None)) same c.take_lines.ensures.none
+    let same = ap₂ (λ (counts : ℕ → Bool) (gs : List Claim). first_from funs counts 0 gs (lines_in c.args.text.now)) (ap (counts_in funs) c.deref.ensures.value ∙ fun_ext c.in_ok-marks.ensures.inert) c.in-Ok.ensures in
+    subst (λ (o : Option DeriveFault). IfOk c.take_lines-judged.result (λ _. o ≡ None)) same c.take_lines-judged.ensures.none
 
 pub returns-clause-first : goal.returns-clause-first
 returns-clause-first c =
     let funs = (core_of c.args.c.now).funs in
-    let same = ap₂ (λ (counts : ℕ → Bool) (gs : List Claim). first_from funs counts 0 gs (lines_in c.args.text.now)) (ap (counts_in funs) c.deref.ensures.value ∙ fun_ext c.in_ok-marks.ensures.inert) c.in_ok-goals.ensures in
-    subst (λ (o : Option DeriveFault). IfErr c.take_lines.result (λ f. TellsFirst f o)) same c.take_lines.ensures.first
+    let same = ap₂ (λ (counts : ℕ → Bool) (gs : List Claim). first_from funs counts 0 gs (lines_in c.args.text.now)) (ap (counts_in funs) c.deref.ensures.value ∙ fun_ext c.in_ok-marks.ensures.inert) c.in-Ok.ensures in
+    subst (λ (o : Option DeriveFault). IfErr c.take_lines-judged.result (λ f. TellsFirst f o)) same c.take_lines-judged.ensures.first

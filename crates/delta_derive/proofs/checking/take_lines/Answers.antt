@@ -11,6 +11,6 @@ lines-preserved c =
     let funs = (core_of c.args.c.now).funs in
     record {
       within = still_within c.args.text.now c.lines.rest.now c.lines.number c.in-Some.end c.lines.invariant.within (sym c.in-Some.ensures);
-      same = goes_on funs (counts_in funs c.args.marks.now) c.lines.number (claims_in c.lines.goals.items) c.lines.rest.now c.in-Some.end (claims_in c.take_piece.new.goals.items) (sym c.in-Some.ensures) c.in_ok-take_piece.ensures.on
+      same = goes_on funs (counts_in funs c.args.marks.now) c.lines.number (claims_in c.lines.goals.items) c.lines.rest.now c.in-Some.end (claims_in c.take_piece.new.goals.items) (sym c.in-Some.ensures) c.in-Ok.ensures.on
           ∙ c.lines.invariant.same;
     }
