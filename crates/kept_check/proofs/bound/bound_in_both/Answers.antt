@@ -1,5 +1,5 @@
 -- The names of the second stand behind those of the first.
-use Rattle.std.proofs.Common.{◌≡◌, ◌∙◌, ◌++◌, ap, append_assoc}
+use Rattle.std.proofs.Common.{◌∙◌, ◌++◌, ap, append_assoc}
 use Rattle.std.proofs.lemmas.Result.{IfOk-weaker}
 use Rattle.bunch.specs.Names.{numbers_of}
 use Rattle.core_term.specs.CoreTerm.{term_of}

@@ -1,5 +1,5 @@
 -- The states of a state in turn: those of its parts one after the other.
-use Rattle.std.proofs.Common.{◌≡◌, ◌∙◌, ℕ, ◌+◌, ◌-◌, List, ◌++◌, length, take, drop, ap, ap₂, sym, subst, append_assoc, arith, rules}
+use Rattle.std.proofs.Common.{◌≡◌, ◌∙◌, ℕ, ◌+◌, ◌-◌, List, ◌++◌, length, take, drop, ap, ap₂, sym, subst, arith, rules}
 use Rattle.std.specs.Prelude.{Err}
 use Rattle.stream_type.specs.StreamType.{type_of}
 use Rattle.bunch.specs.Facts.{Facts}
@@ -8,10 +8,10 @@ use Rattle.core_term.specs.CoreTerm.{node_count}
 use Rattle.core_term.specs.FreeNames.{is_distinct}
 use Rattle.core_term.specs.Typing.{Context, with_name}
 use Rattle.delta_check.specs.Scopes.{context_in, context_given, facts_given}
-use Rattle.delta_state.specs.StateTree.{StateTree, ArgumentTrees, par_state, cat_state, let_state, let_par_state, let_cat_state, frame_state, argument_before, argument_names}
+use Rattle.delta_state.specs.StateTree.{StateTree, par_state, cat_state, let_state, let_par_state, let_cat_state, frame_state, argument_before}
 use Rattle.delta_state.specs.StateTyping.{context_of_arguments}
 use Rattle.kept_state.specs.KeptBytes.{nodes_in_state, nodes_in_arguments}
-use Rattle.kept_rules.specs.InTurn.{own_names, names_in_turn, names_of_parts, names_of_arguments, state_at, states_in, states_of, states_of_arguments}
+use Rattle.kept_rules.specs.InTurn.{names_in_turn, states_of, states_of_arguments}
 use Rattle.kept_rules.specs.StateRules.{FollowsRule}
 use Rattle.delta_keep.specs.KeptView.{state_of, later_of}
 use Rattle.kept_check.specs.Arguments.{arguments_from}

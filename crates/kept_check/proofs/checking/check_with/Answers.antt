@@ -1,5 +1,5 @@
 -- It is good, and its names stand behind those before.
-use Rattle.std.proofs.Common.{◌≡◌, ◌∙◌, ◌++◌, true≢false, ap, refl, sym}
+use Rattle.std.proofs.Common.{◌∙◌, ◌++◌, true≢false, ap, refl, sym}
 use Rattle.bunch.specs.Names.{numbers_of}
 use Rattle.bunch.proofs.NameLists.{numbers_of-append}
 use Rattle.kept_check.proofs.checking.check_with.Goals as goal

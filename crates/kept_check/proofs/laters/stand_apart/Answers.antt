@@ -1,5 +1,5 @@
 -- They are distinct, neither bound nor used; else one of the three fails.
-use Rattle.std.proofs.Common.{◌∙◌, refl, sym}
+use Rattle.std.proofs.Common.{◌∙◌, sym}
 use Rattle.bunch.specs.Names.{numbers_of}
 use Rattle.delta_keep.specs.KeptView.{later_of}
 use Rattle.kept_check.proofs.LaterRules.{not_once, bound_twice, apart_if}
