@@ -7,6 +7,7 @@
 --   at most is the first that isn't typed (`OneFirst` of kept_rules). So no two of these answers fit the same bytes.
 use Rattle.std.specs.Prelude.{ℕ, ◌≡◌, ⊤, List, Some, None, Result, Ok, Err}
 use Rattle.core_term.specs.CoreTerm.{CoreProgram}
+use Rattle.kept_state.specs.KeptTyping.{IsTypedKept}
 use Rattle.kept_state.specs.KeptBytes.{kept_bytes}
 use Rattle.kept_state.specs.KeptForm.{form_fault, bad_form, bad_version}
 use Rattle.kept_rules.specs.FirstUntyped.{IsFirstUntyped}
@@ -45,3 +46,8 @@ TellsForm bytes (Err (Version n)) = form_fault bytes ≡ Some (bad_version n)
 abbrev pub TellsStop : CoreProgram → Kept → Stop → Type 0
 TellsStop c k NoMemory = ⊤
 TellsStop c k (At n) = IsFirstUntyped c (kept_of k) n
+
+-- the kept state is typed, or so it is told
+abbrev pub TellsTyped : CoreProgram → Kept → Result ℕ Stop → Type 0
+TellsTyped c k (Ok _) = IsTypedKept c (kept_of k)
+TellsTyped c k (Err e) = TellsStop c k e
