@@ -9,10 +9,11 @@ ghost use Rattle.core_term.specs.FreeNames.{IsCore};
 ghost use Rattle.core_term.specs.Params.{names_in, types_listed};
 ghost use Rattle.delta_state.specs.Stands.{depth_after};
 ghost use Rattle.kept_state.specs.KeptBytes.{kept_bytes};
+ghost use Rattle.kept_state.specs.KeptSizes.{HasSizes};
 ghost use Rattle.kept_state.specs.KeptPlace.{semi_count, IsPlace};
 ghost use Rattle.kept_state.specs.KeptTyping.{IsTypedKept, IsPlaced, types_kept};
 ghost use Rattle.delta_keep.specs.KeptView.{kept_of, places_kept};
-ghost use Rattle.kept_check.specs.Loading.{TellsKeepFault, TellsForm, TellsStop};
+ghost use Rattle.kept_check.specs.Loading.{TellsKeepFault, RefusesNone, TellsForm, TellsStop};
 ghost use Rattle.kept_check.specs.Sizes.{IsSmall};
 
 use crate::checking::check_state;
@@ -32,7 +33,9 @@ use stream_type::{Memory, Ty, copy, reach};
 pub fn load(alloc: Global, c: &Checked, bytes: &[u8]) -> Result<Kept, KeepFault>
     ensures bytes { IfOk result (λ k. bytes.now ≡ kept_bytes (kept_of k) (places_kept k)) }
     ensures typed { IfOk result (λ k. IsTypedKept (core_of c.now) (kept_of k)) }
+    ensures sizes { IfOk result (λ k. HasSizes (kept_of k)) }
     ensures fault { TellsKeepFault (core_of c.now) bytes.now result }
+    ensures untyped { IfErr result (λ e. RefusesNone (core_of c.now) bytes.now e) }
 {
     let k = read(alloc, bytes)?;
     match first_untyped(alloc, c.core(), &k) {
@@ -51,6 +54,7 @@ pub fn load(alloc: Global, c: &Checked, bytes: &[u8]) -> Result<Kept, KeepFault>
 // The kept state with these bytes, typed or not.
 fn read(alloc: Global, bytes: &[u8]) -> Result<Kept, KeepFault>
     ensures bytes { IfOk result (λ k. bytes.now ≡ kept_bytes (kept_of k) (places_kept k)) }
+    ensures sizes { IfOk result (λ k. HasSizes (kept_of k)) }
     ensures form { TellsForm bytes.now result }
     ensures small { IfOk result (λ k. IsSmall (kept_of k)) }
 {
