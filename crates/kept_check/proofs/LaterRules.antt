@@ -1,5 +1,5 @@
 -- What is asked of code that isn't reached, from what its parts are asked.
-use Rattle.std.proofs.Common.{◌≡◌, ◌∙◌, ◌↔◌, ◌≤◌, ℕ, Bool, ◌&&◌, not, IsTrue, List, ◌++◌, ap, sym, subst}
+use Rattle.std.proofs.Common.{◌≡◌, ◌∙◌, ◌↔◌, ◌≤◌, ℕ, Bool, not, IsTrue, List, ◌++◌, true, false, true≢false, refl, ap, sym, subst}
 use Rattle.std.specs.Prelude.{Result, IfOk}
 use Rattle.std.specs.List.{All, list_all}
 use Rattle.std.proofs.lemmas.Result.{IfOk-weaker}
@@ -12,33 +12,15 @@ use Rattle.core_term.specs.FreeNames.{is_distinct, bound_names, free_names, once
 use Rattle.core_term.specs.Inert.{is_inert_fun}
 use Rattle.core_term.specs.Typing.{Context, HasType}
 use Rattle.core_term.proofs.OnceEach.{holds-once}
-use Rattle.core_term.proofs.Sides.{and_first, and_second}
+use Rattle.delta_check.specs.declared.fault.TypeFault.{TypeFault}
+use Rattle.delta_check.specs.declared.fault.TypeFault.TheVariants.{Memory, Refused}
+use Rattle.delta_check.specs.Checking.{Denies}
 use Rattle.delta_state.specs.StateTree.{LaterTree}
 use Rattle.delta_state.specs.StateTyping.{with_past}
 use Rattle.kept_state.specs.KeptNames.{known_names, IsPastApart}
 use Rattle.kept_rules.specs.StateRules.{IsGoodLater}
 use Rattle.kept_check.specs.Laters.{IsFitLater, IsTypedAndFit}
-use Rattle.kept_check.proofs.SameNames.{and_both, apart_at, apart_of}
-
--- the names of values, where the names that are bound and those that are used are these
-module _ (others : List ℕ) (l : LaterTree) (names bound used : List ℕ) (e : names ≡ known_names l.past) (k : bound ≡ others ++ bound_names l.term) (m : used ≡ once (free_names l.term)) where
-  pub apart_where : IsTrue (is_distinct names && (list_all (λ x. not (holds x bound)) names && list_all (λ x. not (holds x used)) names)) ↔ IsPastApart others l
-  apart_where = (
-    λ t.
-        let rest = and_second (is_distinct names) (list_all (λ x. not (holds x bound)) names && list_all (λ x. not (holds x used)) names) t in
-        let first = and_first (list_all (λ x. not (holds x bound)) names) (list_all (λ x. not (holds x used)) names) rest in
-        let second = and_second (list_all (λ x. not (holds x bound)) names) (list_all (λ x. not (holds x used)) names) rest in
-        record {
-          are_once = ap is_distinct (sym e) ∙ and_first (is_distinct names) (list_all (λ x. not (holds x bound)) names && list_all (λ x. not (holds x used)) names) t;
-          not_bound = λ x h. ap (holds x) (sym k) ∙ apart_at names bound first x (ap (holds x) e ∙ h);
-          not_used = λ x h. sym (ap (holds x) m ∙ holds-once x (free_names l.term)) ∙ apart_at names used second x (ap (holds x) e ∙ h);
-        },
-    λ a.
-        and_both (is_distinct names) (list_all (λ x. not (holds x bound)) names && list_all (λ x. not (holds x used)) names) (ap is_distinct e ∙ a.are_once)
-        (and_both (list_all (λ x. not (holds x bound)) names) (list_all (λ x. not (holds x used)) names)
-        (apart_of names bound (λ x h. ap (holds x) k ∙ a.not_bound x (sym (ap (holds x) e) ∙ h)))
-        (apart_of names used (λ x h. (ap (holds x) m ∙ holds-once x (free_names l.term)) ∙ a.not_used x (sym (ap (holds x) e) ∙ h)))),
-  )
+use Rattle.kept_check.proofs.SameNames.{apart_at, apart_of}
 
 -- code is fit
 module _ (depth : ℕ) (others : List ℕ) (l : LaterTree) where
@@ -69,3 +51,36 @@ module _ (funs : List CoreBody) (depth : ℕ) (others : List ℕ) (l : LaterTree
         is_fit = record { has_values = g.has_values; is_apart = g.is_apart; is_deep = g.is_deep };
         has_type = subst (λ (k : Context). HasType funs (is_inert_fun funs) k l.term r) (sym e) g.has_type;
       }
+
+-- the names of values, which are these
+module _ (others : List ℕ) (l : LaterTree) (names : List ℕ) (e : names ≡ known_names l.past) where
+  -- one of them stands twice
+  pub not_once : is_distinct names ≡ false → IsTrue false ↔ IsPastApart others l
+  not_once d = (λ t. absurd (true≢false (sym t)), λ a. absurd (true≢false (sym (ap is_distinct e ∙ a.are_once) ∙ d)))
+
+  -- one of them is bound
+  pub bound_twice : false ≡ list_all (λ x. not (holds x (others ++ bound_names l.term))) names → IsTrue false ↔ IsPastApart others l
+  bound_twice d = (λ t. absurd (true≢false (sym t)), λ a. absurd (true≢false (sym (apart_of names (others ++ bound_names l.term) (λ x h. a.not_bound x (sym (ap (holds x) e) ∙ h))) ∙ sym d)))
+
+  -- they stand once and none is bound: whether one is used decides
+  pub apart_if : {E : Type 0} (r : Result Bool E) → is_distinct names ≡ true → list_all (λ x. not (holds x (others ++ bound_names l.term))) names ≡ true
+      → IfOk r (λ b. b ≡ list_all (λ x. not (holds x (once (free_names l.term)))) names) → IfOk r (λ b. IsTrue b ↔ IsPastApart others l)
+  apart_if r d u h =
+      IfOk-weaker r (λ b. b ≡ list_all (λ x. not (holds x (once (free_names l.term)))) names) (λ b. IsTrue b ↔ IsPastApart others l)
+      (λ b k. (
+        λ t. record {
+          are_once = ap is_distinct (sym e) ∙ d;
+          not_bound = λ x i. apart_at names (others ++ bound_names l.term) u x (ap (holds x) e ∙ i);
+          not_used = λ x i. sym (holds-once x (free_names l.term)) ∙ apart_at names (once (free_names l.term)) (sym k ∙ t) x (ap (holds x) e ∙ i);
+        },
+        λ a. k ∙ apart_of names (once (free_names l.term)) (λ x i. holds-once x (free_names l.term) ∙ a.not_used x (sym (ap (holds x) e) ∙ i)),
+      )) h
+
+-- a term that is found to have no type has none
+denies : (f : TypeFault) (P : Type 0) → Denies f P → (f ≡ Memory → ⊥) → P → ⊥
+denies Memory P d n p = n refl
+denies (Refused node at cause) P d n p = d p
+
+pub denied_rightly : {E : Type 0} (f : TypeFault) (P : Type 0) (r : Result Bool E) → Denies f P → IfOk r (λ b. (b ≡ false) × (f ≡ Memory → ⊥)) → IfOk r (λ b. IsTrue b ↔ P)
+denied_rightly f P r d h =
+    IfOk-weaker r (λ b. (b ≡ false) × (f ≡ Memory → ⊥)) (λ b. IsTrue b ↔ P) (λ b k. (λ t. absurd (true≢false (sym t ∙ k.0)), λ p. absurd (denies f P d k.1 p))) h

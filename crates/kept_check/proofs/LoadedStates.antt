@@ -1,6 +1,6 @@
 -- What is told of bytes, from what is found of the states that were read from them.
 use Rattle.std.proofs.Common.{◌≡◌, ◌∙◌, ℕ, Bool, false, true≢false, List, length, ap, sym, subst}
-use Rattle.std.specs.Prelude.{Result, Err, IsTrue, ◌↔◌}
+use Rattle.std.specs.Prelude.{Result, Ok, Err, IsTrue, ◌↔◌}
 use Rattle.std.proofs.lemmas.List.{length-map}
 use Rattle.stream_type.specs.declared.ty.Ty.{Ty}
 use Rattle.stream_type.specs.StreamType.{StreamType}
@@ -24,9 +24,9 @@ use Rattle.kept_check.specs.declared.fault.KeepFault.{KeepFault}
 use Rattle.kept_check.specs.declared.fault.KeepFault.TheVariants.{Memory as NoMemory, Form, Untyped, Version}
 use Rattle.kept_check.specs.declared.stop.Stop.{Stop}
 use Rattle.kept_check.specs.declared.stop.Stop.TheVariants.{Memory, At}
-use Rattle.kept_check.specs.Loading.{TellsKeepFault, TellsForm, TellsStop}
+use Rattle.kept_check.specs.Loading.{TellsKeepFault, TellsForm, TellsStop, TellsTyped}
 use Rattle.kept_check.specs.Walk.{FindsBad}
-use Rattle.kept_check.proofs.FirstStates.{unplaced_first, first_where}
+use Rattle.kept_check.proofs.FirstStates.{unplaced_first, first_where, typed_where}
 use Rattle.kept_check.proofs.InputContexts.{input_context}
 
 -- what is found in the scope of main's parameters is found of the states of the kept state
@@ -43,9 +43,14 @@ kept_found c k v before depth out names s q e f o d t n i h =
     subst T i (subst S n (subst R t (subst Q (input_context c k v before e f o) (subst P d h))))
 
 -- it is told which state isn't typed
-pub stop_told : (c : CoreProgram) (k : Kept) (e : Stop) → IsPlaced c (kept_of k) → FindsBad c.funs (depth_after k.events) 0 (states_kept c (kept_of k)) (Err e) → TellsStop c k e
+stop_told : (c : CoreProgram) (k : Kept) (e : Stop) → IsPlaced c (kept_of k) → FindsBad c.funs (depth_after k.events) 0 (states_kept c (kept_of k)) (Err e) → TellsStop c k e
 stop_told c k Memory p h = tt
 stop_told c k (At m) p h = first_where c (kept_of k) m p h
+
+-- or that it is typed
+pub typed_told : (c : CoreProgram) (k : Kept) (q : Result ℕ Stop) → IsPlaced c (kept_of k) → FindsBad c.funs (depth_after k.events) 0 (states_kept c (kept_of k)) q → TellsTyped c k q
+typed_told c k (Ok next) p h = typed_where c (kept_of k) 0 next p h
+typed_told c k (Err e) p h = stop_told c k e p h
 
 -- there aren't as many types as names
 pub types_missing : (c : CoreProgram) (k : KeptTree) (names : List Name) (m n : ℕ) → numbers_of names ≡ leaf_names c.main.params → m ≡ length names → n ≡ length k.ins → (m ≡ n → ⊥) → IsFirstUntyped c k 0

@@ -39,9 +39,13 @@ form_at c z s F e = subst (λ (o : Option StreamType). (s ≡ F s) ↔ (o ≡ So
 pub form_none : (c : Context) (z : ℕ) (s : StreamType) → c.types z ≡ None → HasForm c z s → ⊥
 form_none c z s e h = absurd (cc (sym e ∙ h))
 
--- each name of one list stands before each of another, whichever lists have these names
-pub before_like : (c : Context) (v w : List Name) (xs ys : List ℕ) → HasNames v xs → HasNames w ys → AllBefore c (numbers_of v) (numbers_of w) ↔ AllBefore c xs ys
-before_like c v w xs ys h k = (λ a x y m n. a x y (h x ∙ m) (k y ∙ n), λ a x y m n. a x y (sym (h x) ∙ m) (sym (k y) ∙ n))
+-- each name of one list stands before each of another, whichever list has the first of these names,
+pub before_like : (c : Context) (v : List Name) (xs ys : List ℕ) → HasNames v xs → AllBefore c (numbers_of v) ys ↔ AllBefore c xs ys
+before_like c v xs ys h = (λ a x y m n. a x y (h x ∙ m) n, λ a x y m n. a x y (sym (h x) ∙ m) n)
+
+-- and whichever has the second
+pub behind_like : (c : Context) (xs : List ℕ) (w : List Name) (ys : List ℕ) → HasNames w ys → AllBefore c xs (numbers_of w) ↔ AllBefore c xs ys
+behind_like c xs w ys k = (λ a x y m n. a x y m (k y ∙ n), λ a x y m n. a x y m (sym (k y) ∙ n))
 
 module _ (funs : List CoreBody) (depth : ℕ) (c : Context) (z : ℕ) where
   -- a case on a sum whose sides' types are known

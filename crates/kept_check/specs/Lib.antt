@@ -3,6 +3,7 @@ pub mod Arguments
 pub mod Free
 pub mod Given
 pub mod Holding
+pub mod Judging
 pub mod Laters
 pub mod Loading
 pub mod Sizes

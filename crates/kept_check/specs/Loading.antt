@@ -60,3 +60,8 @@ TellsForm bytes (Err (Version n)) = form_fault bytes ≡ Some (bad_version n)
 abbrev pub TellsStop : CoreProgram → Kept → Stop → Type 0
 TellsStop c k NoMemory = ⊤
 TellsStop c k (At n) = IsFirstUntyped c (kept_of k) n
+
+-- the kept state is typed, or so it is told
+abbrev pub TellsTyped : CoreProgram → Kept → Result ℕ Stop → Type 0
+TellsTyped c k (Ok _) = IsTypedKept c (kept_of k)
+TellsTyped c k (Err e) = TellsStop c k e

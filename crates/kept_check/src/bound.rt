@@ -1,6 +1,6 @@
 //! The names that terms and historical expressions bind.
 
-ghost use Rattle.std.specs.Prelude.{◌≡◌, ◌++◌, ◌∷◌, map, OnOk};
+ghost use Rattle.std.specs.Prelude.{◌≡◌, ◌++◌, ◌∷◌, map, IfOk, OnOk};
 ghost use Rattle.bunch.specs.Names.{numbers_of};
 ghost use Rattle.hist_value.specs.HistExpr.{expr_of};
 ghost use Rattle.core_term.specs.CoreTerm.{term_of, terms_from};
@@ -9,13 +9,51 @@ ghost use Rattle.core_term.specs.FreeNames.{bound_in_expr, bound_in_exprs, bound
 use bunch::Name;
 use core_term::{Node, Term};
 use hist_value::Expr;
+use std::alloc::Global;
 use stream_type::Memory;
 
-/// Adds the names that a term binds, in the order of reading: `bound_names` in the specs of core_term.
-/// Its only error is want of memory.
+/// Names, and behind them those that a term binds, in the order of reading. Its only error is want of
+/// memory.
+pub fn bound_in(alloc: Global, first: &[Name], n: &Node) -> Result<Vec<Name>, Memory>
+    ensures { IfOk result (λ v. numbers_of v.items ≡ numbers_of first.now ++ bound_names (term_of n.now)) }
+{
+    behind(Vec::new(alloc), first, n)
+}
+
+/// The same twice. Its only error is want of memory.
+pub fn bound_in_both(
+    alloc: Global,
+    first: &[Name],
+    n: &Node,
+    then: &[Name],
+    m: &Node,
+) -> Result<Vec<Name>, Memory>
+    ensures { IfOk result (λ v. numbers_of v.items ≡ numbers_of first.now ++ (bound_names (term_of n.now) ++ (numbers_of then.now ++ bound_names (term_of m.now)))) }
+{
+    match bound_in(alloc, first, n) {
+        Ok(names) => behind(names, then, m),
+        Err(_) => Err(Memory),
+    }
+}
+
+// Names, others behind them, and behind these those that a term binds.
+fn behind(names: Vec<Name>, more: &[Name], n: &Node) -> Result<Vec<Name>, Memory>
+    ensures { IfOk result (λ v. numbers_of v.items ≡ numbers_of names.items ++ (numbers_of more.now ++ bound_names (term_of n.now))) }
+{
+    let mut names = names;
+    match add_behind(more, n, &mut names) {
+        Ok(()) => Ok(names),
+        Err(_) => {
+            drop(names);
+            Err(Memory)
+        }
+    }
+}
+
+// Adds the names that a term binds, in the order of reading: `bound_names` in the specs of core_term.
 #[cycle(bound)]
 #[tactic(auto, using(core_term::proofs::Rows::rows, crate::proofs::NameLists::name_lists))]
-pub fn add_bound(n: &Node, found: &mut Vec<Name>) -> Result<(), Memory>
+fn add_bound(n: &Node, found: &mut Vec<Name>) -> Result<(), Memory>
     ensures { OnOk result (numbers_of found.new.items ≡ numbers_of found.old.items ++ bound_names (term_of n.now)) }
 {
     match &n.term {

@@ -4,29 +4,28 @@ ghost use Rattle.std.specs.Prelude.{◌≡◌, ◌↔◌, ◌==◌, ◌<◌, ◌
 ghost use Rattle.stream_type.specs.StreamType.{type_of, eps};
 ghost use Rattle.bunch.specs.Names.{numbers_of};
 ghost use Rattle.bunch.specs.Facts.{place_let};
-ghost use Rattle.core_term.specs.CoreTerm.{core_of, typed_names_of};
+ghost use Rattle.core_term.specs.CoreTerm.{typed_names_of};
 ghost use Rattle.core_term.specs.FreeNames.{bound_names, is_distinct};
-ghost use Rattle.core_term.specs.Inert.{is_inert_fun};
-ghost use Rattle.core_term.specs.Typing.{type_at, with_name};
-ghost use Rattle.delta_check.specs.Counting.{counts_in};
-ghost use Rattle.delta_check.specs.Scopes.{context_in, given_at, facts_given, place_known};
+ghost use Rattle.core_term.specs.Typing.{type_at};
+ghost use Rattle.delta_check.specs.Scopes.{context_in, context_given, given_at, facts_given, place_known};
 ghost use Rattle.delta_state.specs.StateTree.{argument_names, free_in_state};
 ghost use Rattle.delta_state.specs.StateTyping.{marks_of_arguments, facts_of_arguments, context_of_arguments};
 ghost use Rattle.kept_state.specs.KeptBytes.{nodes_in_state, nodes_in_arguments};
-ghost use Rattle.kept_rules.specs.InTurn.{own_names, names_in_turn, names_of_parts, names_of_arguments, state_at, states_of, states_in, states_of_arguments};
+ghost use Rattle.kept_rules.specs.InTurn.{own_names, names_in_turn, names_of_parts, names_of_arguments, state_at, states_of, states_in, states_of_arguments, with_state, with_sides, with_steps};
 ghost use Rattle.kept_rules.specs.StateRules.{FollowsRule, IsGood};
 ghost use Rattle.delta_keep.specs.KeptView.{state_of, later_of};
 ghost use Rattle.kept_check.specs.Arguments.{arguments_from, are_before, are_behind};
+ghost use Rattle.kept_check.specs.Judging.{funs_of, IsJudge};
 ghost use Rattle.kept_check.specs.Sizes.{states_number, states_of_parts, states_in_arguments};
-ghost use Rattle.kept_check.specs.Walk.{FindsBad};
+ghost use Rattle.kept_check.specs.Walk.{FindsBad, Finds, ChecksOwn};
 
-use crate::bound::add_bound;
+use crate::bound::{bound_in, bound_in_both};
 use crate::free::free_in;
+use crate::judge::Judge;
 use crate::names::{are_apart, are_distinct};
 use crate::rules::{all_before, follows_rule, parameters};
 use crate::stop::Stop;
 use bunch::Name;
-use core_term::Core;
 use core_term::parts::{cat_types, par_types};
 use delta_check::{Placed, Scope, place_of_let, stream_type};
 use delta_keep::{Argument, KeptState, Waiting};
@@ -40,9 +39,7 @@ use stream_type::{Memory, Ty, copy};
 #[cycle(walk)]
 pub fn check_state<'a>(
     alloc: Global,
-    c: &Core,
-    marks: &[bool],
-    depth: u64,
+    judge: &Judge<'_>,
     s: &KeptState,
     r: &Ty,
     scope: &'a Scope<'a>,
@@ -51,25 +48,72 @@ pub fn check_state<'a>(
 ) -> Result<u32, Stop>
     requires number { number + states_number (state_of s.now) < 2 ^ 32 }
     requires size { nodes_in_state (state_of s.now) < 2 ^ 32 }
-    requires marks { (f : ℕ) → counts_in (core_of c.now).funs marks.now f ≡ is_inert_fun (core_of c.now).funs f }
+    requires judge { IsJudge judge.now }
     requires once { IsTrue (is_distinct (numbers_of bound.old.items)) }
-    ensures found { FindsBad (core_of c.now).funs depth number (states_of (context_in scope.now) (type_of r.now) (numbers_of bound.old.items) (state_of s.now)) result }
-    ensures names { OnOk result (numbers_of bound.new.items ≡ numbers_of bound.old.items ++ names_in_turn (state_of s.now)) }
+    ensures { Finds (funs_of judge.now) judge.now.depth number (states_of (context_in scope.now) (type_of r.now) (numbers_of bound.old.items) (state_of s.now)) (numbers_of bound.old.items) (names_in_turn (state_of s.now)) (numbers_of bound.new.items) result }
 {
-    let own = own_names(alloc, s)?;
-    if !is_good(alloc, c, marks, depth, scope, s, r, bound, &own)? {
-        return Err(Stop::At(number));
+    match check_own(alloc, judge, s, r, scope, bound, number) {
+        Ok(()) => check_parts(alloc, judge, s, r, scope, bound, number + 1),
+        Err(stop) => Err(stop),
     }
-    bound.extend_from_slice(&own)?;
-    check_parts(alloc, c, marks, depth, s, r, scope, bound, number + 1)
+}
+
+// Checks a state with this number for itself, and puts the names that it binds behind those before.
+fn check_own(
+    alloc: Global,
+    judge: &Judge<'_>,
+    s: &KeptState,
+    r: &Ty,
+    scope: &Scope<'_>,
+    bound: &mut Vec<Name>,
+    number: u32,
+) -> Result<(), Stop>
+    requires size { nodes_in_state (state_of s.now) < 2 ^ 32 }
+    requires judge { IsJudge judge.now }
+    requires once { IsTrue (is_distinct (numbers_of bound.old.items)) }
+    ensures { ChecksOwn (funs_of judge.now) judge.now.depth number (state_at (context_in scope.now) (type_of r.now) (numbers_of bound.old.items) (state_of s.now)) (numbers_of bound.new.items) result }
+{
+    match own_names(alloc, s) {
+        Ok(own) => {
+            let checked = check_with(alloc, judge, s, r, scope, bound, &own, number);
+            drop(own);
+            checked
+        }
+        Err(_) => Err(Stop::Memory),
+    }
+}
+
+// The same, where `own` are the names that it binds.
+fn check_with(
+    alloc: Global,
+    judge: &Judge<'_>,
+    s: &KeptState,
+    r: &Ty,
+    scope: &Scope<'_>,
+    bound: &mut Vec<Name>,
+    own: &[Name],
+    number: u32,
+) -> Result<(), Stop>
+    requires size { nodes_in_state (state_of s.now) < 2 ^ 32 }
+    requires judge { IsJudge judge.now }
+    requires once { IsTrue (is_distinct (numbers_of bound.old.items)) }
+    requires own { numbers_of own.now ≡ own_names (state_of s.now) }
+    ensures { ChecksOwn (funs_of judge.now) judge.now.depth number (state_at (context_in scope.now) (type_of r.now) (numbers_of bound.old.items) (state_of s.now)) (numbers_of bound.new.items) result }
+{
+    match is_good(alloc, judge, scope, s, r, bound, own) {
+        Ok(true) => match bound.extend_from_slice(own) {
+            Ok(()) => Ok(()),
+            Err(_) => Err(Stop::Memory),
+        },
+        Ok(false) => Err(Stop::At(number)),
+        Err(_) => Err(Stop::Memory),
+    }
 }
 
 // Whether a state follows its rule and binds no name again, where `own` are the names that it binds.
 fn is_good(
     alloc: Global,
-    c: &Core,
-    marks: &[bool],
-    depth: u64,
+    judge: &Judge<'_>,
     scope: &Scope<'_>,
     s: &KeptState,
     r: &Ty,
@@ -77,13 +121,13 @@ fn is_good(
     own: &[Name],
 ) -> Result<bool, Memory>
     requires size { nodes_in_state (state_of s.now) < 2 ^ 32 }
-    requires marks { (f : ℕ) → counts_in (core_of c.now).funs marks.now f ≡ is_inert_fun (core_of c.now).funs f }
+    requires judge { IsJudge judge.now }
     requires once { IsTrue (is_distinct (numbers_of bound.now)) }
     requires own { numbers_of own.now ≡ own_names (state_of s.now) }
-    ensures { IfOk result (λ b. IsTrue b ↔ IsGood (core_of c.now).funs depth (state_at (context_in scope.now) (type_of r.now) (numbers_of bound.now) (state_of s.now))) }
+    ensures { IfOk result (λ b. IsTrue b ↔ IsGood (funs_of judge.now) judge.now.depth (state_at (context_in scope.now) (type_of r.now) (numbers_of bound.now) (state_of s.now))) }
 {
     if binds_once(bound, own) {
-        follows_rule(alloc, c, marks, depth, scope, s, r)
+        follows_rule(alloc, judge, scope, s, r)
     } else {
         Ok(false)
     }
@@ -102,42 +146,34 @@ fn own_names(alloc: Global, s: &KeptState) -> Result<Vec<Name>, Memory>
     ensures { IfOk result (λ v. numbers_of v.items ≡ own_names (state_of s.now)) }
 {
     match s {
-        KeptState::Cat(_, l) | KeptState::Wait(_, _, _, l) => bound_in(alloc, &[], l),
-        KeptState::Let(x, _, _, _) => Ok([*x].to_vec(alloc)?),
-        KeptState::LetPar(x, y, _, _) | KeptState::LetCat(x, y, _, _) => {
-            Ok([*x, *y].to_vec(alloc)?)
-        }
-        KeptState::CaseSum(_, _, _, x, l, y, m) => bound_in_both(alloc, &[*x], l, &[*y], m),
-        KeptState::CaseStar(_, _, _, l, y, ys, m) => bound_in_both(alloc, &[], l, &[*y, *ys], m),
+        KeptState::Cat(_, l) | KeptState::Wait(_, _, _, l) => bound_in(alloc, &[], &l.code),
+        KeptState::Let(x, _, _, _) => copied(alloc, &[*x]),
+        KeptState::LetPar(x, y, _, _) | KeptState::LetCat(x, y, _, _) => copied(alloc, &[*x, *y]),
+        KeptState::CaseSum(_, _, _, x, l, y, m) => bound_in_both(
+            alloc,
+            &[*x],
+            &l.code,
+            &[*y],
+            &m.code,
+        ),
+        KeptState::CaseStar(_, _, _, l, y, ys, m) => bound_in_both(
+            alloc,
+            &[],
+            &l.code,
+            &[*y, *ys],
+            &m.code,
+        ),
         KeptState::Sink(_) | KeptState::Var(_) | KeptState::Par(_, _) | KeptState::Frame(_, _) => {
             Ok(Vec::new(alloc))
         }
     }
 }
 
-// Names, and those that code binds.
-fn bound_in(alloc: Global, first: &[Name], l: &Waiting) -> Result<Vec<Name>, Memory>
-    ensures { IfOk result (λ v. numbers_of v.items ≡ numbers_of first.now ++ bound_names (later_of l.now).term) }
+// These names.
+fn copied(alloc: Global, names: &[Name]) -> Result<Vec<Name>, Memory>
+    ensures { IfOk result (λ v. numbers_of v.items ≡ numbers_of names.now) }
 {
-    let mut names = first.to_vec(alloc)?;
-    add_bound(&l.code, &mut names)?;
-    Ok(names)
-}
-
-// The same twice.
-fn bound_in_both(
-    alloc: Global,
-    first: &[Name],
-    l: &Waiting,
-    then: &[Name],
-    m: &Waiting,
-) -> Result<Vec<Name>, Memory>
-    ensures { IfOk result (λ v. numbers_of v.items ≡ numbers_of first.now ++ (bound_names (later_of l.now).term ++ (numbers_of then.now ++ bound_names (later_of m.now).term))) }
-{
-    let mut names = bound_in(alloc, first, l)?;
-    names.extend_from_slice(then)?;
-    add_bound(&m.code, &mut names)?;
-    Ok(names)
+    Ok(names.to_vec(alloc)?)
 }
 
 // The same of the states in a state.
@@ -145,9 +181,7 @@ fn bound_in_both(
 #[tactic(auto, using(crate::proofs::Arguments::rows))]
 fn check_parts<'a>(
     alloc: Global,
-    c: &Core,
-    marks: &[bool],
-    depth: u64,
+    judge: &Judge<'_>,
     s: &KeptState,
     r: &Ty,
     scope: &'a Scope<'a>,
@@ -156,11 +190,10 @@ fn check_parts<'a>(
 ) -> Result<u32, Stop>
     requires number { number + states_of_parts (state_of s.now) < 2 ^ 32 }
     requires size { nodes_in_state (state_of s.now) < 2 ^ 32 }
-    requires marks { (f : ℕ) → counts_in (core_of c.now).funs marks.now f ≡ is_inert_fun (core_of c.now).funs f }
+    requires judge { IsJudge judge.now }
     requires once { IsTrue (is_distinct (numbers_of bound.old.items)) }
-    requires rule { FollowsRule (core_of c.now).funs depth (context_in scope.now) (state_of s.now) (type_of r.now) }
-    ensures found { FindsBad (core_of c.now).funs depth number (states_in (context_in scope.now) (type_of r.now) (numbers_of bound.old.items) (state_of s.now)) result }
-    ensures names { OnOk result (numbers_of bound.new.items ≡ numbers_of bound.old.items ++ names_of_parts (state_of s.now)) }
+    requires rule { FollowsRule (funs_of judge.now) judge.now.depth (context_in scope.now) (state_of s.now) (type_of r.now) }
+    ensures { Finds (funs_of judge.now) judge.now.depth number (states_in (context_in scope.now) (type_of r.now) (numbers_of bound.old.items) (state_of s.now)) (numbers_of bound.old.items) (names_of_parts (state_of s.now)) (numbers_of bound.new.items) result }
 {
     match s {
         KeptState::Sink(_)
@@ -171,33 +204,77 @@ fn check_parts<'a>(
         KeptState::Par(a, b) => {
             let (left, right) = par_types(r, &Ty::Eps);
             check_two(
-                alloc, c, marks, depth, a, left, &*scope, b, right, &*scope, bound, number,
+                alloc, judge, a, left, &*scope, b, right, &*scope, bound, number,
             )
         }
         KeptState::Cat(a, _) => {
             let (first, _) = cat_types(r, &Ty::Eps);
-            check_state(alloc, c, marks, depth, a, first, scope, bound, number)
+            check_state(alloc, judge, a, first, scope, bound, number)
         }
         KeptState::Let(x, t, a, b) => {
-            check_let(alloc, c, marks, depth, *x, t, a, b, r, scope, bound, number)
+            check_let(alloc, judge, *x, t, a, b, r, scope, bound, number)
         }
         KeptState::LetPar(x, y, z, a) => {
-            let (left, right) = par_types(type_or(&*scope, *z, &Ty::Eps), &Ty::Eps);
-            let first = Scope::Like(*x, left, *z, &*scope);
-            let inner = Scope::Like(*y, right, *z, &first);
-            check_state(alloc, c, marks, depth, a, r, &inner, bound, number)
+            check_sides(alloc, judge, *x, *y, *z, a, r, scope, bound, number)
         }
         KeptState::LetCat(x, y, z, a) => {
-            let (left, right) = cat_types(type_or(&*scope, *z, &Ty::Eps), &Ty::Eps);
-            let first = Scope::Like(*x, left, *z, &*scope);
-            let second = Scope::Like(*y, right, *z, &first);
-            let inner = Scope::Fact(*x, *y, &second);
-            check_state(alloc, c, marks, depth, a, r, &inner, bound, number)
+            check_steps(alloc, judge, *x, *y, *z, a, r, scope, bound, number)
         }
-        KeptState::Frame(args, s) => {
-            check_frame(alloc, c, marks, depth, args, s, r, scope, bound, number)
-        }
+        KeptState::Frame(args, s) => check_frame(alloc, judge, args, s, r, scope, bound, number),
     }
+}
+
+// The same of the state behind `let (x, y) = z`, in which both sides are known.
+#[cycle(walk)]
+fn check_sides<'a>(
+    alloc: Global,
+    judge: &Judge<'_>,
+    x: Name,
+    y: Name,
+    z: Name,
+    a: &KeptState,
+    r: &Ty,
+    scope: &'a Scope<'a>,
+    bound: &mut Vec<Name>,
+    number: u32,
+) -> Result<u32, Stop>
+    requires number { number + states_number (state_of a.now) < 2 ^ 32 }
+    requires size { nodes_in_state (state_of a.now) < 2 ^ 32 }
+    requires judge { IsJudge judge.now }
+    requires once { IsTrue (is_distinct (numbers_of bound.old.items)) }
+    ensures { Finds (funs_of judge.now) judge.now.depth number (states_of (with_sides x.0 y.0 z.0 (context_in scope.now)) (type_of r.now) (numbers_of bound.old.items) (state_of a.now)) (numbers_of bound.old.items) (names_in_turn (state_of a.now)) (numbers_of bound.new.items) result }
+{
+    let (left, right) = par_types(type_or(&*scope, z, &Ty::Eps), &Ty::Eps);
+    let first = Scope::Like(x, left, z, &*scope);
+    let inner = Scope::Like(y, right, z, &first);
+    check_state(alloc, judge, a, r, &inner, bound, number)
+}
+
+// The same behind `let (x; y) = z`, in which both parts are known, and that the first stands before the second.
+#[cycle(walk)]
+fn check_steps<'a>(
+    alloc: Global,
+    judge: &Judge<'_>,
+    x: Name,
+    y: Name,
+    z: Name,
+    a: &KeptState,
+    r: &Ty,
+    scope: &'a Scope<'a>,
+    bound: &mut Vec<Name>,
+    number: u32,
+) -> Result<u32, Stop>
+    requires number { number + states_number (state_of a.now) < 2 ^ 32 }
+    requires size { nodes_in_state (state_of a.now) < 2 ^ 32 }
+    requires judge { IsJudge judge.now }
+    requires once { IsTrue (is_distinct (numbers_of bound.old.items)) }
+    ensures { Finds (funs_of judge.now) judge.now.depth number (states_of (with_steps x.0 y.0 z.0 (context_in scope.now)) (type_of r.now) (numbers_of bound.old.items) (state_of a.now)) (numbers_of bound.old.items) (names_in_turn (state_of a.now)) (numbers_of bound.new.items) result }
+{
+    let (left, right) = cat_types(type_or(&*scope, z, &Ty::Eps), &Ty::Eps);
+    let first = Scope::Like(x, left, z, &*scope);
+    let second = Scope::Like(y, right, z, &first);
+    let inner = Scope::Fact(x, y, &second);
+    check_state(alloc, judge, a, r, &inner, bound, number)
 }
 
 // The type of a stream variable; any other name counts as of type `eps`.
@@ -215,9 +292,7 @@ fn type_or<'a>(scope: &Scope<'a>, x: Name, other: &'a Ty) -> &'a Ty
 #[cycle(walk)]
 fn check_two<'a>(
     alloc: Global,
-    c: &Core,
-    marks: &[bool],
-    depth: u64,
+    judge: &Judge<'_>,
     a: &KeptState,
     s: &Ty,
     outer: &'a Scope<'a>,
@@ -229,23 +304,23 @@ fn check_two<'a>(
 ) -> Result<u32, Stop>
     requires number { number + (states_number (state_of a.now) + states_number (state_of b.now)) < 2 ^ 32 }
     requires size { nodes_in_state (state_of a.now) + nodes_in_state (state_of b.now) < 2 ^ 32 }
-    requires marks { (f : ℕ) → counts_in (core_of c.now).funs marks.now f ≡ is_inert_fun (core_of c.now).funs f }
+    requires judge { IsJudge judge.now }
     requires once { IsTrue (is_distinct (numbers_of bound.old.items)) }
-    ensures found { FindsBad (core_of c.now).funs depth number (states_of (context_in outer.now) (type_of s.now) (numbers_of bound.old.items) (state_of a.now)
-        ++ states_of (context_in inner.now) (type_of r.now) (numbers_of bound.old.items ++ names_in_turn (state_of a.now)) (state_of b.now)) result }
-    ensures names { OnOk result (numbers_of bound.new.items ≡ numbers_of bound.old.items ++ (names_in_turn (state_of a.now) ++ names_in_turn (state_of b.now))) }
+    ensures { Finds (funs_of judge.now) judge.now.depth number (states_of (context_in outer.now) (type_of s.now) (numbers_of bound.old.items) (state_of a.now)
+        ++ states_of (context_in inner.now) (type_of r.now) (numbers_of bound.old.items ++ names_in_turn (state_of a.now)) (state_of b.now))
+        (numbers_of bound.old.items) (names_in_turn (state_of a.now) ++ names_in_turn (state_of b.now)) (numbers_of bound.new.items) result }
 {
-    let next = check_state(alloc, c, marks, depth, a, s, outer, bound, number)?;
-    check_state(alloc, c, marks, depth, b, r, inner, bound, next)
+    match check_state(alloc, judge, a, s, outer, bound, number) {
+        Ok(next) => check_state(alloc, judge, b, r, inner, bound, next),
+        Err(stop) => Err(stop),
+    }
 }
 
 // The same of a let: its name is placed by the free names of what it is bound to.
 #[cycle(walk)]
 fn check_let<'a>(
     alloc: Global,
-    c: &Core,
-    marks: &[bool],
-    depth: u64,
+    judge: &Judge<'_>,
     x: Name,
     t: &Ty,
     a: &KeptState,
@@ -257,17 +332,21 @@ fn check_let<'a>(
 ) -> Result<u32, Stop>
     requires number { number + (states_number (state_of a.now) + states_number (state_of b.now)) < 2 ^ 32 }
     requires size { nodes_in_state (state_of a.now) + nodes_in_state (state_of b.now) < 2 ^ 32 }
-    requires marks { (f : ℕ) → counts_in (core_of c.now).funs marks.now f ≡ is_inert_fun (core_of c.now).funs f }
+    requires judge { IsJudge judge.now }
     requires once { IsTrue (is_distinct (numbers_of bound.old.items)) }
-    ensures found { FindsBad (core_of c.now).funs depth number (states_of (context_in scope.now) (type_of t.now) (numbers_of bound.old.items) (state_of a.now)
-        ++ states_of (with_name x.0 (type_of t.now) (place_let x.0 (free_in_state (state_of a.now)) true (context_in scope.now).order) (context_in scope.now)) (type_of r.now) (numbers_of bound.old.items ++ names_in_turn (state_of a.now)) (state_of b.now)) result }
-    ensures names { OnOk result (numbers_of bound.new.items ≡ numbers_of bound.old.items ++ (names_in_turn (state_of a.now) ++ names_in_turn (state_of b.now))) }
+    ensures { Finds (funs_of judge.now) judge.now.depth number (states_of (context_in scope.now) (type_of t.now) (numbers_of bound.old.items) (state_of a.now)
+        ++ states_of (with_state x.0 (type_of t.now) (state_of a.now) (context_in scope.now)) (type_of r.now) (numbers_of bound.old.items ++ names_in_turn (state_of a.now)) (state_of b.now))
+        (numbers_of bound.old.items) (names_in_turn (state_of a.now) ++ names_in_turn (state_of b.now)) (numbers_of bound.new.items) result }
 {
-    let placed = let_placed(alloc, &*scope, a, b)?;
-    let inner = Scope::Let(x, t, &placed, &*scope);
-    check_two(
-        alloc, c, marks, depth, a, t, &*scope, b, r, &inner, bound, number,
-    )
+    match let_placed(alloc, &*scope, a, b) {
+        Ok(placed) => {
+            let inner = Scope::Let(x, t, &placed, &*scope);
+            let found = check_two(alloc, judge, a, t, &*scope, b, r, &inner, bound, number);
+            drop(placed);
+            found
+        }
+        Err(_) => Err(Stop::Memory),
+    }
 }
 
 // Where the name of a let is placed, for what is asked in its body.
@@ -284,13 +363,11 @@ fn let_placed(
     place_of_let(alloc, scope, free, true, &others)
 }
 
-// The same of a frame: its arguments in turn, then its body among its own parameters.
+// The same of a frame: its arguments in turn, then its body.
 #[cycle(walk)]
 fn check_frame<'a>(
     alloc: Global,
-    c: &Core,
-    marks: &[bool],
-    depth: u64,
+    judge: &Judge<'_>,
     args: &[Argument],
     s: &KeptState,
     r: &Ty,
@@ -300,28 +377,52 @@ fn check_frame<'a>(
 ) -> Result<u32, Stop>
     requires number { number + (states_in_arguments (arguments_from args.now) + states_number (state_of s.now)) < 2 ^ 32 }
     requires size { nodes_in_arguments (arguments_from args.now) + nodes_in_state (state_of s.now) < 2 ^ 32 }
-    requires marks { (f : ℕ) → counts_in (core_of c.now).funs marks.now f ≡ is_inert_fun (core_of c.now).funs f }
+    requires judge { IsJudge judge.now }
     requires once { IsTrue (is_distinct (numbers_of bound.old.items)) }
     requires parameters { IsTrue (is_distinct (argument_names (arguments_from args.now))) }
-    ensures found { FindsBad (core_of c.now).funs depth number (states_of_arguments (context_in scope.now) (numbers_of bound.old.items) (arguments_from args.now)
-        ++ states_of (context_of_arguments (context_in scope.now) (arguments_from args.now)) (type_of r.now) (argument_names (arguments_from args.now)) (state_of s.now)) result }
-    ensures names { OnOk result (numbers_of bound.new.items ≡ numbers_of bound.old.items ++ names_of_arguments (arguments_from args.now)) }
+    ensures { Finds (funs_of judge.now) judge.now.depth number (states_of_arguments (context_in scope.now) (numbers_of bound.old.items) (arguments_from args.now)
+        ++ states_of (context_of_arguments (context_in scope.now) (arguments_from args.now)) (type_of r.now) (argument_names (arguments_from args.now)) (state_of s.now))
+        (numbers_of bound.old.items) (names_of_arguments (arguments_from args.now)) (numbers_of bound.new.items) result }
 {
-    let next = check_arguments(alloc, c, marks, depth, args, scope, bound, number)?;
-    let types = parameter_types(alloc, args)?;
-    let order = parameter_order(alloc, scope, args)?;
-    let inner = Scope::Among(&types, &order);
-    let mut inside = parameters(alloc, args)?;
-    check_state(alloc, c, marks, depth, s, r, &inner, &mut inside, next)
+    match check_arguments(alloc, judge, args, scope, bound, number) {
+        Ok(next) => check_body(alloc, judge, args, s, r, scope, next),
+        Err(stop) => Err(stop),
+    }
+}
+
+// The same of a frame's body, among its own parameters.
+#[cycle(walk)]
+fn check_body(
+    alloc: Global,
+    judge: &Judge<'_>,
+    args: &[Argument],
+    s: &KeptState,
+    r: &Ty,
+    scope: &Scope<'_>,
+    number: u32,
+) -> Result<u32, Stop>
+    requires number { number + states_number (state_of s.now) < 2 ^ 32 }
+    requires size { nodes_in_state (state_of s.now) < 2 ^ 32 }
+    requires judge { IsJudge judge.now }
+    requires parameters { IsTrue (is_distinct (argument_names (arguments_from args.now))) }
+    ensures { FindsBad (funs_of judge.now) judge.now.depth number (states_of (context_of_arguments (context_in scope.now) (arguments_from args.now)) (type_of r.now) (argument_names (arguments_from args.now)) (state_of s.now)) result }
+{
+    match inside_of(alloc, scope, args) {
+        Ok(mut inside) => {
+            let inner = Scope::Among(&inside.types, &inside.order);
+            let found = check_state(alloc, judge, s, r, &inner, &mut inside.names, number);
+            drop(inside);
+            found
+        }
+        Err(_) => Err(Stop::Memory),
+    }
 }
 
 // The same of arguments in turn, each at the type that is left of its parameter.
 #[cycle(walk)]
 fn check_arguments<'a>(
     alloc: Global,
-    c: &Core,
-    marks: &[bool],
-    depth: u64,
+    judge: &Judge<'_>,
     args: &[Argument],
     scope: &'a Scope<'a>,
     bound: &mut Vec<Name>,
@@ -329,20 +430,44 @@ fn check_arguments<'a>(
 ) -> Result<u32, Stop>
     requires number { number + states_in_arguments (arguments_from args.now) < 2 ^ 32 }
     requires size { nodes_in_arguments (arguments_from args.now) < 2 ^ 32 }
-    requires marks { (f : ℕ) → counts_in (core_of c.now).funs marks.now f ≡ is_inert_fun (core_of c.now).funs f }
+    requires judge { IsJudge judge.now }
     requires once { IsTrue (is_distinct (numbers_of bound.old.items)) }
-    ensures found { FindsBad (core_of c.now).funs depth number (states_of_arguments (context_in scope.now) (numbers_of bound.old.items) (arguments_from args.now)) result }
-    ensures names { OnOk result (numbers_of bound.new.items ≡ numbers_of bound.old.items ++ names_of_arguments (arguments_from args.now)) }
+    ensures { Finds (funs_of judge.now) judge.now.depth number (states_of_arguments (context_in scope.now) (numbers_of bound.old.items) (arguments_from args.now))
+        (numbers_of bound.old.items) (names_of_arguments (arguments_from args.now)) (numbers_of bound.new.items) result }
 {
     match args {
         [] => Ok(number),
         [arg, rest @ ..] => {
-            let next = check_state(
-                alloc, c, marks, depth, &arg.state, &arg.ty, scope, bound, number,
-            )?;
-            check_arguments(alloc, c, marks, depth, rest, scope, bound, next)
+            match check_state(alloc, judge, &arg.state, &arg.ty, scope, bound, number) {
+                Ok(next) => check_arguments(alloc, judge, rest, scope, bound, next),
+                Err(stop) => Err(stop),
+            }
         }
     }
+}
+
+// What a frame's body sees: the types that are left of the parameters, their order, and their names.
+#[derive(Drop)]
+struct Inside {
+    types: Vec<(Name, Ty)>,
+    order: Vec<(Name, Name)>,
+    names: Vec<Name>,
+}
+
+// What the body of a frame with these arguments sees.
+fn inside_of(alloc: Global, scope: &Scope<'_>, args: &[Argument]) -> Result<Inside, Memory>
+    requires { IsTrue (is_distinct (argument_names (arguments_from args.now))) }
+    ensures scope { IfOk result (λ i. context_given i.types.items (facts_given i.order.items) ≡ context_of_arguments (context_in scope.now) (arguments_from args.now)) }
+    ensures names { IfOk result (λ i. numbers_of i.names.items ≡ argument_names (arguments_from args.now)) }
+{
+    let names = parameters(alloc, args)?;
+    let order = parameter_order(alloc, scope, args)?;
+    let types = parameter_types(alloc, args)?;
+    Ok(Inside {
+        types,
+        order,
+        names,
+    })
 }
 
 // The types that are left of the parameters.

@@ -1,6 +1,6 @@
 //! The free stream names of states.
 
-ghost use Rattle.std.specs.Prelude.{◌≡◌, ◌==◌, ◌++◌, ◌∷◌, ◌||◌, ◌&&◌, not, ℕ, IfOk, OnOk};
+ghost use Rattle.std.specs.Prelude.{◌≡◌, ◌==◌, ◌++◌, ◌∷◌, ◌||◌, ◌&&◌, not, ℕ, List, [], IfOk, OnOk};
 ghost use Rattle.bunch.specs.Names.{numbers_of, holds};
 ghost use Rattle.core_term.specs.CoreTerm.{term_of};
 ghost use Rattle.core_term.specs.FreeNames.{free_names};
@@ -24,7 +24,7 @@ pub fn free_in(alloc: Global, s: &KeptState) -> Result<Vec<Name>, Memory>
 {
     match s {
         KeptState::Sink(_) => Ok(Vec::new(alloc)),
-        KeptState::Var(x) => beside(alloc, &[*x], &[], &[]),
+        KeptState::Var(x) => alone(alloc, *x),
         KeptState::Par(a, b) => free_in_two(alloc, a, b, &[]),
         KeptState::Let(x, _, a, b) => free_in_two(alloc, a, b, &[*x]),
         KeptState::Cat(a, l) => free_in_both(alloc, a, l),
@@ -40,13 +40,53 @@ pub fn free_in(alloc: Global, s: &KeptState) -> Result<Vec<Name>, Memory>
     }
 }
 
-// Names, and beside them others less some.
-fn beside(alloc: Global, first: &[Name], more: &[Name], less: &[Name]) -> Result<Vec<Name>, Memory>
-    ensures { IfOk result (λ v. HasNames v.items (numbers_of first.now ++ without_all (numbers_of less.now) (numbers_of more.now))) }
+// Names, and beside them those of a second list less some, where there is one.
+fn joined(
+    first: Vec<Name>,
+    second: Result<Vec<Name>, Memory>,
+    less: &[Name],
+) -> Result<Vec<Name>, Memory>
+    ensures { (xs zs : List ℕ) → HasNames first.items xs → IfOk second (λ v. HasNames v.items zs) → IfOk result (λ v. HasNames v.items (xs ++ without_all (numbers_of less.now) zs)) }
 {
-    let mut names = first.to_vec(alloc)?;
-    add_less(&mut names, more, less)?;
-    Ok(names)
+    match second {
+        Ok(more) => {
+            let all = and_less(first, &more, less);
+            drop(more);
+            all
+        }
+        Err(_) => {
+            drop(first);
+            Err(Memory)
+        }
+    }
+}
+
+// Names, and beside them others less some.
+fn and_less(names: Vec<Name>, more: &[Name], less: &[Name]) -> Result<Vec<Name>, Memory>
+    ensures { IfOk result (λ v. HasNames v.items (numbers_of names.items ++ without_all (numbers_of less.now) (numbers_of more.now))) }
+{
+    let mut names = names;
+    match add_less(&mut names, more, less) {
+        Ok(()) => Ok(names),
+        Err(_) => {
+            drop(names);
+            Err(Memory)
+        }
+    }
+}
+
+// A name alone.
+fn alone(alloc: Global, x: Name) -> Result<Vec<Name>, Memory>
+    ensures { IfOk result (λ v. HasNames v.items (x.0 ∷ [])) }
+{
+    Ok([x].to_vec(alloc)?)
+}
+
+// The free names of code.
+fn free_in_code(alloc: Global, l: &Waiting) -> Result<Vec<Name>, Memory>
+    ensures { IfOk result (λ v. HasNames v.items (free_names (later_of l.now).term)) }
+{
+    free(alloc, &l.code)
 }
 
 // Adds names less some.
@@ -80,9 +120,10 @@ fn free_in_two(
 ) -> Result<Vec<Name>, Memory>
     ensures { IfOk result (λ v. HasNames v.items (free_in_state (state_of a.now) ++ without_all (numbers_of less.now) (free_in_state (state_of b.now)))) }
 {
-    let first = free_in(alloc, a)?;
-    let second = free_in(alloc, b)?;
-    beside(alloc, &first, &second, less)
+    match free_in(alloc, a) {
+        Ok(first) => joined(first, free_in(alloc, b), less),
+        Err(_) => Err(Memory),
+    }
 }
 
 // Those of a state, and of code behind it.
@@ -90,9 +131,10 @@ fn free_in_two(
 fn free_in_both(alloc: Global, a: &KeptState, l: &Waiting) -> Result<Vec<Name>, Memory>
     ensures { IfOk result (λ v. HasNames v.items (free_in_state (state_of a.now) ++ free_names (later_of l.now).term)) }
 {
-    let first = free_in(alloc, a)?;
-    let second = free(alloc, &l.code)?;
-    beside(alloc, &first, &second, &[])
+    match free_in(alloc, a) {
+        Ok(first) => joined(first, free_in_code(alloc, l), &[]),
+        Err(_) => Err(Memory),
+    }
 }
 
 // A name, and those of a state less some.
@@ -100,8 +142,10 @@ fn free_in_both(alloc: Global, a: &KeptState, l: &Waiting) -> Result<Vec<Name>, 
 fn free_behind(alloc: Global, z: Name, a: &KeptState, less: &[Name]) -> Result<Vec<Name>, Memory>
     ensures { IfOk result (λ v. HasNames v.items (z.0 ∷ without_all (numbers_of less.now) (free_in_state (state_of a.now)))) }
 {
-    let inside = free_in(alloc, a)?;
-    beside(alloc, &[z], &inside, less)
+    match alone(alloc, z) {
+        Ok(subject) => joined(subject, free_in(alloc, a), less),
+        Err(_) => Err(Memory),
+    }
 }
 
 /// The free names of a case on `z`: those of its branches less the names that it binds for each. Its
@@ -116,18 +160,30 @@ pub fn free_of_case(
 ) -> Result<Vec<Name>, Memory>
     ensures { IfOk result (λ v. HasNames v.items (z.0 ∷ (without_all (numbers_of less.now) (free_names (later_of l.now).term) ++ without_all (numbers_of lesser.now) (free_names (later_of m.now).term)))) }
 {
-    let left = free(alloc, &l.code)?;
-    let right = free(alloc, &m.code)?;
-    let names = beside(alloc, &[z], &left, less)?;
-    beside(alloc, &names, &right, lesser)
+    match free_at_branch(alloc, z, l, less) {
+        Ok(names) => joined(names, free_in_code(alloc, m), lesser),
+        Err(_) => Err(Memory),
+    }
+}
+
+// The name z, and beside it the free names of a branch less some.
+fn free_at_branch(alloc: Global, z: Name, l: &Waiting, less: &[Name]) -> Result<Vec<Name>, Memory>
+    ensures { IfOk result (λ v. HasNames v.items (z.0 ∷ without_all (numbers_of less.now) (free_names (later_of l.now).term))) }
+{
+    match alone(alloc, z) {
+        Ok(subject) => joined(subject, free_in_code(alloc, l), less),
+        Err(_) => Err(Memory),
+    }
 }
 
 /// Those of a wait for `x`. Its only error is want of memory.
 pub fn free_of_wait(alloc: Global, x: Name, l: &Waiting) -> Result<Vec<Name>, Memory>
     ensures { IfOk result (λ v. HasNames v.items (free_in_wait x.0 (later_of l.now))) }
 {
-    let inside = free(alloc, &l.code)?;
-    beside(alloc, &[x], &inside, &[])
+    match alone(alloc, x) {
+        Ok(subject) => joined(subject, free_in_code(alloc, l), &[]),
+        Err(_) => Err(Memory),
+    }
 }
 
 // Those of the arguments of a frame.

@@ -4,20 +4,21 @@ ghost use Rattle.std.specs.Prelude.{◌≡◌, ◌==◌, ℕ, map, ◌&&◌, ◌
 ghost use Rattle.stream_prefix.specs.StreamPrefix.{eps_emp, is_maximal};
 ghost use Rattle.stream_prefix.specs.Tree.{prefix_of, end_of, star_of};
 ghost use Rattle.bunch.specs.Names.{numbers_of, holds};
-ghost use Rattle.delta_check.specs.Scopes.{context_in, facts_given};
+ghost use Rattle.delta_check.specs.Scopes.{context_in, context_given, facts_given};
 ghost use Rattle.delta_state.specs.StateTree.{held_names};
 ghost use Rattle.delta_state.specs.StateMeaning.{prefixes_held};
-ghost use Rattle.delta_state.specs.StateTyping.{is_empty, facts_held};
+ghost use Rattle.delta_state.specs.StateTyping.{is_empty, facts_held, context_held};
 ghost use Rattle.delta_state.specs.Settled.{has_tag};
 ghost use Rattle.delta_keep.specs.KeptView.{held_of};
 ghost use Rattle.kept_check.specs.Holding.{stays_before};
 
+use crate::values::{names_held, types_held};
 use bunch::Name;
 use delta_check::{Scope, before};
 use delta_keep::HeldName;
 use std::alloc::Global;
 use stream_prefix::{Prefix, StarEnd, maximal};
-use stream_type::Memory;
+use stream_type::{Memory, Ty};
 
 // Whether a prefix of a sum has its side, or one of a star an item or the end.
 #[tactic(auto, using(stream_prefix::proofs::Rows::rows))]
@@ -107,9 +108,29 @@ fn nothing_held(held: &[HeldName], x: Name) -> bool
     }
 }
 
-/// The order of names of which something is held, where these are the names: what stands before what
-/// in the scope, where the first is whole or of the second nothing came. Its only error is want of memory.
-pub fn order_held(
+/// The names of which something is held, from before anything was: their types, and which of them stand
+/// before which.
+#[derive(Drop)]
+pub struct Before {
+    /// The types.
+    pub types: Vec<(Name, Ty)>,
+    /// The order: the first name of each entry stands before the second.
+    pub order: Vec<(Name, Name)>,
+}
+
+/// The names of which something is held, from before anything was. Its only error is want of memory.
+pub fn before_held(alloc: Global, scope: &Scope<'_>, held: &[HeldName]) -> Result<Before, Memory>
+    ensures { IfOk result (λ b. context_given b.types.items (facts_given b.order.items) ≡ context_held (map held_of held.now) (context_in scope.now).order) }
+{
+    let names = names_held(alloc, held)?;
+    let order = order_held(alloc, scope, held, &names)?;
+    let types = types_held(alloc, held)?;
+    Ok(Before { types, order })
+}
+
+// The order of names of which something is held, where these are the names: what stands before what
+// in the scope, where the first is whole or of the second nothing came.
+fn order_held(
     alloc: Global,
     scope: &Scope<'_>,
     held: &[HeldName],

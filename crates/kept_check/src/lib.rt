@@ -6,6 +6,7 @@ mod checking;
 mod fault;
 mod free;
 mod holding;
+mod judge;
 mod laters;
 mod loading;
 mod names;

@@ -13,11 +13,13 @@ ghost use Rattle.kept_state.specs.KeptSizes.{HasSizes};
 ghost use Rattle.kept_state.specs.KeptPlace.{semi_count, IsPlace};
 ghost use Rattle.kept_state.specs.KeptTyping.{IsTypedKept, IsPlaced, types_kept};
 ghost use Rattle.delta_keep.specs.KeptView.{kept_of, places_kept};
-ghost use Rattle.kept_check.specs.Loading.{TellsKeepFault, RefusesNone, TellsForm, TellsStop};
+ghost use Rattle.kept_check.specs.Judging.{IsJudge};
+ghost use Rattle.kept_check.specs.Loading.{TellsKeepFault, RefusesNone, TellsForm, TellsTyped};
 ghost use Rattle.kept_check.specs.Sizes.{IsSmall};
 
 use crate::checking::check_state;
 use crate::fault::KeepFault;
+use crate::judge::Judge;
 use crate::placing::{has_cuts, is_place, reaches};
 use crate::stop::Stop;
 use bunch::{Name, Order, names};
@@ -39,7 +41,7 @@ pub fn load(alloc: Global, c: &Checked, bytes: &[u8]) -> Result<Kept, KeepFault>
 {
     let k = read(alloc, bytes)?;
     match first_untyped(alloc, c.core(), &k) {
-        Ok(()) => Ok(k),
+        Ok(_) => Ok(k),
         Err(Stop::Memory) => {
             drop(k);
             Err(KeepFault::Memory)
@@ -66,22 +68,75 @@ fn read(alloc: Global, bytes: &[u8]) -> Result<Kept, KeepFault>
     }
 }
 
-// Finds the first state of a kept state that isn't typed for the program. Its other error is want of memory.
-fn first_untyped(alloc: Global, c: &Core, k: &Kept) -> Result<(), Stop>
+// Finds the first state of a kept state that isn't typed for the program, and else how many it has. Its other
+// error is want of memory.
+fn first_untyped(alloc: Global, c: &Core, k: &Kept) -> Result<u32, Stop>
     requires core { IsCore (core_of c.now) }
     requires small { IsSmall (kept_of k.now) }
-    ensures typed { IfOk result (λ _. IsTypedKept (core_of c.now) (kept_of k.now)) }
-    ensures first { IfErr result (λ e. TellsStop (core_of c.now) k.now e) }
+    ensures { TellsTyped (core_of c.now) k.now result }
 {
-    let params = names(alloc, &c.main.params)?;
+    match names(alloc, &c.main.params) {
+        Ok(params) => {
+            let mut params = params;
+            let told = first_among(alloc, c, k, &mut params);
+            drop(params);
+            told
+        }
+        Err(_) => Err(Stop::Memory),
+    }
+}
+
+// The same, where these are the names of main's parameters.
+fn first_among(alloc: Global, c: &Core, k: &Kept, params: &mut Vec<Name>) -> Result<u32, Stop>
+    requires core { IsCore (core_of c.now) }
+    requires small { IsSmall (kept_of k.now) }
+    requires params { numbers_of params.old.items ≡ leaf_names (core_of c.now).main.params }
+    ensures { TellsTyped (core_of c.now) k.now result }
+{
     if params.len() != k.ins.len() {
         return Err(Stop::At(0));
     }
-    let left = types_left(alloc, &params, &k.ins)?;
-    if !is_placed(c, k, &left) {
+    match types_left(alloc, params, &k.ins) {
+        Ok(left) => {
+            let told = first_in_place(alloc, c, k, &left, params);
+            drop(left);
+            told
+        }
+        Err(_) => Err(Stop::Memory),
+    }
+}
+
+// The same, where these are the types that are left of them.
+fn first_in_place(
+    alloc: Global,
+    c: &Core,
+    k: &Kept,
+    left: &[(Name, Ty)],
+    params: &mut Vec<Name>,
+) -> Result<u32, Stop>
+    requires core { IsCore (core_of c.now) }
+    requires small { IsSmall (kept_of k.now) }
+    requires names { names_in left.now ≡ leaf_names (core_of c.now).main.params }
+    requires types { types_listed left.now ≡ map type_of k.now.ins.items }
+    requires params { numbers_of params.old.items ≡ leaf_names (core_of c.now).main.params }
+    ensures { TellsTyped (core_of c.now) k.now result }
+{
+    if !is_placed(c, k, left) {
         return Err(Stop::At(0));
     }
-    check_placed(alloc, c, k, &left, params)
+    match inert_funs(alloc, c) {
+        Ok(marks) => {
+            let judge = Judge {
+                program: c,
+                marks: &marks,
+                depth: depth_after(k.events),
+            };
+            let told = first_judged(alloc, &judge, k, left, params);
+            drop(marks);
+            told
+        }
+        Err(_) => Err(Stop::Memory),
+    }
 }
 
 // The names with the types that are left of them, in turn.
@@ -129,32 +184,33 @@ fn fits_input(c: &Core, k: &Kept, left: &[(Name, Ty)]) -> bool
     has_cuts(&c.main.params, cuts) && is_place(&c.main.params, left, cuts)
 }
 
-// The same of the states of a kept state that stands in some place of the input.
-fn check_placed(
+// The same, where it stands in some place of the input.
+fn first_judged(
     alloc: Global,
-    c: &Core,
+    judge: &Judge<'_>,
     k: &Kept,
     left: &[(Name, Ty)],
-    params: Vec<Name>,
-) -> Result<(), Stop>
-    requires core { IsCore (core_of c.now) }
+    params: &mut Vec<Name>,
+) -> Result<u32, Stop>
+    requires core { IsCore (core_of judge.now.program.now) }
+    requires judge { IsJudge judge.now }
+    requires depth { judge.now.depth ≡ depth_after k.now.events }
     requires small { IsSmall (kept_of k.now) }
-    requires placed { IsPlaced (core_of c.now) (kept_of k.now) }
-    requires names { names_in left.now ≡ leaf_names (core_of c.now).main.params }
+    requires placed { IsPlaced (core_of judge.now.program.now) (kept_of k.now) }
+    requires names { names_in left.now ≡ leaf_names (core_of judge.now.program.now).main.params }
     requires types { types_listed left.now ≡ map type_of k.now.ins.items }
-    requires params { numbers_of params.items ≡ leaf_names (core_of c.now).main.params }
-    ensures typed { IfOk result (λ _. IsTypedKept (core_of c.now) (kept_of k.now)) }
-    ensures first { IfErr result (λ e. TellsStop (core_of c.now) k.now e) }
+    requires params { numbers_of params.old.items ≡ leaf_names (core_of judge.now.program.now).main.params }
+    ensures { TellsTyped (core_of judge.now.program.now) k.now result }
 {
-    let marks = inert_funs(alloc, c)?;
-    let order = Order::of_bunch(alloc, &c.main.params)?;
-    let scope = Scope::Given(left, &order);
-    let depth = depth_after(k.events);
-    let mut bound = params;
-    check_state(
-        alloc, c, &marks, depth, &k.state, &k.out, &scope, &mut bound, 0,
-    )?;
-    Ok(())
+    match Order::of_bunch(alloc, &judge.program.main.params) {
+        Ok(order) => {
+            let scope = Scope::Given(left, &order);
+            let told = check_state(alloc, judge, &k.state, &k.out, &scope, params, 0);
+            drop(order);
+            told
+        }
+        Err(_) => Err(Stop::Memory),
+    }
 }
 
 // The depth that is left after so many events.

@@ -4,28 +4,28 @@ ghost use Rattle.std.specs.Prelude.{◌≡◌, ◌↔◌, ◌<◌, ◌^◌, ◌+
 ghost use Rattle.std.specs.List.{list_all};
 ghost use Rattle.stream_type.specs.StreamType.{type_of, cat, par, sum, star, null_of};
 ghost use Rattle.bunch.specs.Names.{numbers_of};
-ghost use Rattle.core_term.specs.CoreTerm.{core_of, node_count};
+ghost use Rattle.core_term.specs.CoreTerm.{node_count};
 ghost use Rattle.core_term.specs.FreeNames.{free_names, is_distinct};
-ghost use Rattle.core_term.specs.Inert.{is_inert_fun};
 ghost use Rattle.core_term.specs.Parts.{par_left, par_right, cat_first, cat_second};
 ghost use Rattle.core_term.specs.Typing.{AllBefore, HasForm, is_before, type_at};
-ghost use Rattle.delta_check.specs.Counting.{counts_in};
 ghost use Rattle.delta_check.specs.Scopes.{context_in};
-ghost use Rattle.delta_state.specs.StateTree.{cat_state, sum_state, star_state, wait_state, held_names, argument_names, free_in_state, free_in_wait};
+ghost use Rattle.delta_state.specs.StateTree.{cat_state, sum_state, star_state, wait_state, argument_names, free_in_state, free_in_wait};
 ghost use Rattle.delta_state.specs.StateTyping.{context_held, IsHeld};
 ghost use Rattle.delta_keep.specs.KeptView.{state_of, held_of, later_of};
 ghost use Rattle.kept_check.specs.Arguments.{arguments_from};
 ghost use Rattle.kept_rules.specs.StateRules.{FollowsRule, IsGoodSum, IsGoodStar, IsGoodWait};
 ghost use Rattle.kept_check.specs.Free.{without_all};
+ghost use Rattle.kept_check.specs.Judging.{funs_of, IsJudge};
 ghost use Rattle.kept_check.specs.Sizes.{codes_fit};
 
 use crate::free::{free_in, free_of_case, free_of_wait};
-use crate::holding::{order_held, tag_held, whole_held};
+use crate::holding::{before_held, tag_held, whole_held};
+use crate::judge::Judge;
 use crate::laters::{is_good, is_good_at_item, is_good_behind, is_good_with};
 use crate::names::{are_distinct, is_there};
-use crate::values::{is_held, names_held, types_held};
+use crate::values::{is_held, is_stream};
 use bunch::Name;
-use core_term::{Core, free};
+use core_term::free;
 use delta_check::{Scope, before, stream_type};
 use delta_keep::{Argument, HeldName, KeptState, Waiting};
 use std::alloc::Global;
@@ -35,34 +35,30 @@ use stream_type::{Memory, Ty, null, same};
 /// `specs/StateRules.antt`. Its only error is want of memory.
 pub fn follows_rule(
     alloc: Global,
-    c: &Core,
-    marks: &[bool],
-    depth: u64,
+    judge: &Judge<'_>,
     scope: &Scope<'_>,
     s: &KeptState,
     r: &Ty,
 ) -> Result<bool, Memory>
     requires size { codes_fit (state_of s.now) }
-    requires marks { (f : ℕ) → counts_in (core_of c.now).funs marks.now f ≡ is_inert_fun (core_of c.now).funs f }
-    ensures { IfOk result (λ b. IsTrue b ↔ FollowsRule (core_of c.now).funs depth (context_in scope.now) (state_of s.now) (type_of r.now)) }
+    requires judge { IsJudge judge.now }
+    ensures { IfOk result (λ b. IsTrue b ↔ FollowsRule (funs_of judge.now) judge.now.depth (context_in scope.now) (state_of s.now) (type_of r.now)) }
 {
     match s {
         KeptState::Sink(t) => Ok(is_finished(t, r)),
         KeptState::Var(x) => Ok(is_stream(scope, *x, r)),
         KeptState::Par(_, _) => Ok(has_sides(r)),
-        KeptState::Cat(a, l) => cat_rule(alloc, c, marks, depth, scope, a, l, r),
+        KeptState::Cat(a, l) => cat_rule(alloc, judge, scope, a, l, r),
         KeptState::Let(_, _, _, _) => Ok(true),
         KeptState::LetPar(_, _, z, _) => Ok(splits_in_sides(scope, *z)),
         KeptState::LetCat(_, _, z, _) => Ok(splits_in_steps(scope, *z)),
         KeptState::CaseSum(z, t, held, x, l, y, m) => sum_rule(
-            alloc, c, marks, depth, scope, *z, t, held, *x, l, *y, m, r,
+            alloc, judge, scope, *z, t, held, *x, l, *y, m, r,
         ),
         KeptState::CaseStar(z, t, held, l, y, ys, m) => star_rule(
-            alloc, c, marks, depth, scope, *z, t, held, l, *y, *ys, m, r,
+            alloc, judge, scope, *z, t, held, l, *y, *ys, m, r,
         ),
-        KeptState::Wait(x, t, held, l) => {
-            wait_rule(alloc, c, marks, depth, scope, *x, t, held, l, r)
-        }
+        KeptState::Wait(x, t, held, l) => { wait_rule(alloc, judge, scope, *x, t, held, l, r) }
         KeptState::Frame(args, _) => frame_rule(alloc, args),
     }
 }
@@ -72,16 +68,6 @@ fn is_finished(t: &Ty, r: &Ty) -> bool
     ensures { IsTrue result ↔ ((type_of t.now ≡ type_of r.now) × (null_of (type_of t.now) ≡ true)) }
 {
     same(t, r) && null(t)
-}
-
-// Whether the name is a stream of this type.
-fn is_stream(scope: &Scope<'_>, x: Name, r: &Ty) -> bool
-    ensures { IsTrue result ↔ ((context_in scope.now).types x.0 ≡ Some (type_of r.now)) }
-{
-    match stream_type(scope, x) {
-        Some(t) => same(t, r),
-        None => false,
-    }
 }
 
 // Whether it is a type of two sides.
@@ -121,20 +107,18 @@ fn splits_in_steps(scope: &Scope<'_>, z: Name) -> bool
 // A sequence: a first part that isn't null, and code behind it.
 fn cat_rule(
     alloc: Global,
-    c: &Core,
-    marks: &[bool],
-    depth: u64,
+    judge: &Judge<'_>,
     scope: &Scope<'_>,
     a: &KeptState,
     l: &Waiting,
     r: &Ty,
 ) -> Result<bool, Memory>
     requires size { node_count (later_of l.now).term < 2 ^ 32 }
-    requires marks { (f : ℕ) → counts_in (core_of c.now).funs marks.now f ≡ is_inert_fun (core_of c.now).funs f }
-    ensures { IfOk result (λ b. IsTrue b ↔ FollowsRule (core_of c.now).funs depth (context_in scope.now) (cat_state (state_of a.now) (later_of l.now)) (type_of r.now)) }
+    requires judge { IsJudge judge.now }
+    ensures { IfOk result (λ b. IsTrue b ↔ FollowsRule (funs_of judge.now) judge.now.depth (context_in scope.now) (cat_state (state_of a.now) (later_of l.now)) (type_of r.now)) }
 {
     match r {
-        Ty::Cat(s, t) => steps_rule(alloc, c, marks, depth, scope, a, s, l, t),
+        Ty::Cat(s, t) => steps_rule(alloc, judge, scope, a, s, l, t),
         _ => Ok(false),
     }
 }
@@ -142,9 +126,7 @@ fn cat_rule(
 // The same, where the types of both parts are known.
 fn steps_rule(
     alloc: Global,
-    c: &Core,
-    marks: &[bool],
-    depth: u64,
+    judge: &Judge<'_>,
     scope: &Scope<'_>,
     a: &KeptState,
     s: &Ty,
@@ -152,13 +134,13 @@ fn steps_rule(
     t: &Ty,
 ) -> Result<bool, Memory>
     requires size { node_count (later_of l.now).term < 2 ^ 32 }
-    requires marks { (f : ℕ) → counts_in (core_of c.now).funs marks.now f ≡ is_inert_fun (core_of c.now).funs f }
-    ensures { IfOk result (λ b. IsTrue b ↔ FollowsRule (core_of c.now).funs depth (context_in scope.now) (cat_state (state_of a.now) (later_of l.now)) (cat (type_of s.now) (type_of t.now))) }
+    requires judge { IsJudge judge.now }
+    ensures { IfOk result (λ b. IsTrue b ↔ FollowsRule (funs_of judge.now) judge.now.depth (context_in scope.now) (cat_state (state_of a.now) (later_of l.now)) (cat (type_of s.now) (type_of t.now))) }
 {
     if null(s) {
         return Ok(false);
     }
-    let good = is_good(alloc, c, marks, depth, scope, l, t)?;
+    let good = is_good(alloc, judge, scope, l, t)?;
     if !good {
         return Ok(false);
     }
@@ -169,9 +151,28 @@ fn steps_rule(
 fn is_behind(alloc: Global, scope: &Scope<'_>, a: &KeptState, l: &Waiting) -> Result<bool, Memory>
     ensures { IfOk result (λ b. IsTrue b ↔ AllBefore (context_in scope.now) (free_in_state (state_of a.now)) (free_names (later_of l.now).term)) }
 {
-    let first = free_in(alloc, a)?;
-    let second = free(alloc, &l.code)?;
-    Ok(all_before(scope, &first, &second))
+    match free_in(alloc, a) {
+        Ok(first) => {
+            let behind = are_behind(alloc, scope, &first, l);
+            drop(first);
+            behind
+        }
+        Err(_) => Err(Memory),
+    }
+}
+
+// Whether each of these names stands before each free name of the code.
+fn are_behind(alloc: Global, scope: &Scope<'_>, names: &[Name], l: &Waiting) -> Result<bool, Memory>
+    ensures { IfOk result (λ b. IsTrue b ↔ AllBefore (context_in scope.now) (numbers_of names.now) (free_names (later_of l.now).term)) }
+{
+    match free(alloc, &l.code) {
+        Ok(others) => {
+            let behind = all_before(scope, names, &others);
+            drop(others);
+            Ok(behind)
+        }
+        Err(_) => Err(Memory),
+    }
 }
 
 /// Whether each of the first names stands before each of the second.
@@ -215,9 +216,7 @@ fn is_before(scope: &Scope<'_>, x: Name, y: Name) -> bool
 // A case on a sum.
 fn sum_rule(
     alloc: Global,
-    c: &Core,
-    marks: &[bool],
-    depth: u64,
+    judge: &Judge<'_>,
     scope: &Scope<'_>,
     z: Name,
     t: &Ty,
@@ -230,8 +229,8 @@ fn sum_rule(
 ) -> Result<bool, Memory>
     requires left { node_count (later_of l.now).term < 2 ^ 32 }
     requires right { node_count (later_of m.now).term < 2 ^ 32 }
-    requires marks { (f : ℕ) → counts_in (core_of c.now).funs marks.now f ≡ is_inert_fun (core_of c.now).funs f }
-    ensures { IfOk result (λ b. IsTrue b ↔ FollowsRule (core_of c.now).funs depth (context_in scope.now)
+    requires judge { IsJudge judge.now }
+    ensures { IfOk result (λ b. IsTrue b ↔ FollowsRule (funs_of judge.now) judge.now.depth (context_in scope.now)
         (sum_state z.0 (type_of t.now) (map held_of held.now) x.0 (later_of l.now) y.0 (later_of m.now)) (type_of r.now)) }
 {
     if !same(t, r) {
@@ -240,14 +239,11 @@ fn sum_rule(
     if tag_held(held, z) {
         return Ok(false);
     }
-    let names = names_held(alloc, held)?;
-    let fits = is_held_case(alloc, scope, held, &names, z, l, &[x], m, &[y])?;
-    if !fits {
-        return Ok(false);
+    match is_held_case(alloc, scope, held, z, l, &[x], m, &[y]) {
+        Ok(true) => sum_branches(alloc, judge, scope, held, z, x, l, y, m, r),
+        Ok(false) => Ok(false),
+        Err(_) => Err(Memory),
     }
-    sum_branches(
-        alloc, c, marks, depth, scope, held, &names, z, x, l, y, m, r,
-    )
 }
 
 // Whether what is held is that of the free names of a case, whose branches bind these names.
@@ -255,30 +251,31 @@ fn is_held_case(
     alloc: Global,
     scope: &Scope<'_>,
     held: &[HeldName],
-    names: &[Name],
     z: Name,
     l: &Waiting,
     less: &[Name],
     m: &Waiting,
     lesser: &[Name],
 ) -> Result<bool, Memory>
-    requires { numbers_of names.now ≡ held_names (map held_of held.now) }
     ensures { IfOk result (λ b. IsTrue b ↔ IsHeld (context_in scope.now)
         (z.0 ∷ (without_all (numbers_of less.now) (free_names (later_of l.now).term) ++ without_all (numbers_of lesser.now) (free_names (later_of m.now).term))) (map held_of held.now)) }
 {
-    let free = free_of_case(alloc, z, l, less, m, lesser)?;
-    is_held(alloc, scope, held, names, &free)
+    match free_of_case(alloc, z, l, less, m, lesser) {
+        Ok(free) => {
+            let fits = is_held(alloc, scope, held, &free);
+            drop(free);
+            fits
+        }
+        Err(_) => Err(Memory),
+    }
 }
 
 // The branches of a case on a sum, over the types from before anything was held.
 fn sum_branches(
     alloc: Global,
-    c: &Core,
-    marks: &[bool],
-    depth: u64,
+    judge: &Judge<'_>,
     scope: &Scope<'_>,
     held: &[HeldName],
-    names: &[Name],
     z: Name,
     x: Name,
     l: &Waiting,
@@ -286,24 +283,26 @@ fn sum_branches(
     m: &Waiting,
     r: &Ty,
 ) -> Result<bool, Memory>
-    requires names { numbers_of names.now ≡ held_names (map held_of held.now) }
     requires left { node_count (later_of l.now).term < 2 ^ 32 }
     requires right { node_count (later_of m.now).term < 2 ^ 32 }
-    requires marks { (f : ℕ) → counts_in (core_of c.now).funs marks.now f ≡ is_inert_fun (core_of c.now).funs f }
-    ensures { IfOk result (λ b. IsTrue b ↔ IsGoodSum (core_of c.now).funs depth (context_held (map held_of held.now) (context_in scope.now).order) z.0 x.0 (later_of l.now) y.0 (later_of m.now) (type_of r.now)) }
+    requires judge { IsJudge judge.now }
+    ensures { IfOk result (λ b. IsTrue b ↔ IsGoodSum (funs_of judge.now) judge.now.depth (context_held (map held_of held.now) (context_in scope.now).order) z.0 x.0 (later_of l.now) y.0 (later_of m.now) (type_of r.now)) }
 {
-    let types = types_held(alloc, held)?;
-    let order = order_held(alloc, scope, held, names)?;
-    let inner = Scope::Among(&types, &order);
-    has_branches(alloc, c, marks, depth, &inner, z, x, l, y, m, r)
+    match before_held(alloc, scope, held) {
+        Ok(before) => {
+            let inner = Scope::Among(&before.types, &before.order);
+            let good = has_branches(alloc, judge, &inner, z, x, l, y, m, r);
+            drop(before);
+            good
+        }
+        Err(_) => Err(Memory),
+    }
 }
 
 // The same in a scope.
 fn has_branches(
     alloc: Global,
-    c: &Core,
-    marks: &[bool],
-    depth: u64,
+    judge: &Judge<'_>,
     scope: &Scope<'_>,
     z: Name,
     x: Name,
@@ -314,11 +313,11 @@ fn has_branches(
 ) -> Result<bool, Memory>
     requires left { node_count (later_of l.now).term < 2 ^ 32 }
     requires right { node_count (later_of m.now).term < 2 ^ 32 }
-    requires marks { (f : ℕ) → counts_in (core_of c.now).funs marks.now f ≡ is_inert_fun (core_of c.now).funs f }
-    ensures { IfOk result (λ b. IsTrue b ↔ IsGoodSum (core_of c.now).funs depth (context_in scope.now) z.0 x.0 (later_of l.now) y.0 (later_of m.now) (type_of r.now)) }
+    requires judge { IsJudge judge.now }
+    ensures { IfOk result (λ b. IsTrue b ↔ IsGoodSum (funs_of judge.now) judge.now.depth (context_in scope.now) z.0 x.0 (later_of l.now) y.0 (later_of m.now) (type_of r.now)) }
 {
     match stream_type(scope, z) {
-        Some(t) => on_sum(alloc, c, marks, depth, scope, z, t, x, l, y, m, r),
+        Some(t) => on_sum(alloc, judge, scope, z, t, x, l, y, m, r),
         None => Ok(false),
     }
 }
@@ -326,9 +325,7 @@ fn has_branches(
 // The same, where the subject's type is known.
 fn on_sum(
     alloc: Global,
-    c: &Core,
-    marks: &[bool],
-    depth: u64,
+    judge: &Judge<'_>,
     scope: &Scope<'_>,
     z: Name,
     of: &Ty,
@@ -341,11 +338,11 @@ fn on_sum(
     requires form { (context_in scope.now).types z.0 ≡ Some (type_of of.now) }
     requires left { node_count (later_of l.now).term < 2 ^ 32 }
     requires right { node_count (later_of m.now).term < 2 ^ 32 }
-    requires marks { (f : ℕ) → counts_in (core_of c.now).funs marks.now f ≡ is_inert_fun (core_of c.now).funs f }
-    ensures { IfOk result (λ b. IsTrue b ↔ IsGoodSum (core_of c.now).funs depth (context_in scope.now) z.0 x.0 (later_of l.now) y.0 (later_of m.now) (type_of r.now)) }
+    requires judge { IsJudge judge.now }
+    ensures { IfOk result (λ b. IsTrue b ↔ IsGoodSum (funs_of judge.now) judge.now.depth (context_in scope.now) z.0 x.0 (later_of l.now) y.0 (later_of m.now) (type_of r.now)) }
 {
     match of {
-        Ty::Sum(s, t) => on_sides(alloc, c, marks, depth, scope, z, x, s, l, y, t, m, r),
+        Ty::Sum(s, t) => on_sides(alloc, judge, scope, z, x, s, l, y, t, m, r),
         _ => Ok(false),
     }
 }
@@ -353,9 +350,7 @@ fn on_sum(
 // The same, where the types of both sides are known.
 fn on_sides(
     alloc: Global,
-    c: &Core,
-    marks: &[bool],
-    depth: u64,
+    judge: &Judge<'_>,
     scope: &Scope<'_>,
     z: Name,
     x: Name,
@@ -369,22 +364,20 @@ fn on_sides(
     requires form { (context_in scope.now).types z.0 ≡ Some (sum (type_of s.now) (type_of t.now)) }
     requires left { node_count (later_of l.now).term < 2 ^ 32 }
     requires right { node_count (later_of m.now).term < 2 ^ 32 }
-    requires marks { (f : ℕ) → counts_in (core_of c.now).funs marks.now f ≡ is_inert_fun (core_of c.now).funs f }
-    ensures { IfOk result (λ b. IsTrue b ↔ IsGoodSum (core_of c.now).funs depth (context_in scope.now) z.0 x.0 (later_of l.now) y.0 (later_of m.now) (type_of r.now)) }
+    requires judge { IsJudge judge.now }
+    ensures { IfOk result (λ b. IsTrue b ↔ IsGoodSum (funs_of judge.now) judge.now.depth (context_in scope.now) z.0 x.0 (later_of l.now) y.0 (later_of m.now) (type_of r.now)) }
 {
-    let left = is_good_with(alloc, c, marks, depth, scope, x, s, z, l, r)?;
+    let left = is_good_with(alloc, judge, scope, x, s, z, l, r)?;
     if !left {
         return Ok(false);
     }
-    is_good_with(alloc, c, marks, depth, scope, y, t, z, m, r)
+    is_good_with(alloc, judge, scope, y, t, z, m, r)
 }
 
 // A case on a star.
 fn star_rule(
     alloc: Global,
-    c: &Core,
-    marks: &[bool],
-    depth: u64,
+    judge: &Judge<'_>,
     scope: &Scope<'_>,
     z: Name,
     t: &Ty,
@@ -397,8 +390,8 @@ fn star_rule(
 ) -> Result<bool, Memory>
     requires left { node_count (later_of l.now).term < 2 ^ 32 }
     requires right { node_count (later_of m.now).term < 2 ^ 32 }
-    requires marks { (f : ℕ) → counts_in (core_of c.now).funs marks.now f ≡ is_inert_fun (core_of c.now).funs f }
-    ensures { IfOk result (λ b. IsTrue b ↔ FollowsRule (core_of c.now).funs depth (context_in scope.now)
+    requires judge { IsJudge judge.now }
+    ensures { IfOk result (λ b. IsTrue b ↔ FollowsRule (funs_of judge.now) judge.now.depth (context_in scope.now)
         (star_state z.0 (type_of t.now) (map held_of held.now) (later_of l.now) y.0 ys.0 (later_of m.now)) (type_of r.now)) }
 {
     if !same(t, r) {
@@ -407,25 +400,19 @@ fn star_rule(
     if tag_held(held, z) {
         return Ok(false);
     }
-    let names = names_held(alloc, held)?;
-    let fits = is_held_case(alloc, scope, held, &names, z, l, &[], m, &[y, ys])?;
-    if !fits {
-        return Ok(false);
+    match is_held_case(alloc, scope, held, z, l, &[], m, &[y, ys]) {
+        Ok(true) => star_branches(alloc, judge, scope, held, z, l, y, ys, m, r),
+        Ok(false) => Ok(false),
+        Err(_) => Err(Memory),
     }
-    star_branches(
-        alloc, c, marks, depth, scope, held, &names, z, l, y, ys, m, r,
-    )
 }
 
 // The branches of a case on a star, over the types from before anything was held.
 fn star_branches(
     alloc: Global,
-    c: &Core,
-    marks: &[bool],
-    depth: u64,
+    judge: &Judge<'_>,
     scope: &Scope<'_>,
     held: &[HeldName],
-    names: &[Name],
     z: Name,
     l: &Waiting,
     y: Name,
@@ -433,24 +420,26 @@ fn star_branches(
     m: &Waiting,
     r: &Ty,
 ) -> Result<bool, Memory>
-    requires names { numbers_of names.now ≡ held_names (map held_of held.now) }
     requires left { node_count (later_of l.now).term < 2 ^ 32 }
     requires right { node_count (later_of m.now).term < 2 ^ 32 }
-    requires marks { (f : ℕ) → counts_in (core_of c.now).funs marks.now f ≡ is_inert_fun (core_of c.now).funs f }
-    ensures { IfOk result (λ b. IsTrue b ↔ IsGoodStar (core_of c.now).funs depth (context_held (map held_of held.now) (context_in scope.now).order) z.0 (later_of l.now) y.0 ys.0 (later_of m.now) (type_of r.now)) }
+    requires judge { IsJudge judge.now }
+    ensures { IfOk result (λ b. IsTrue b ↔ IsGoodStar (funs_of judge.now) judge.now.depth (context_held (map held_of held.now) (context_in scope.now).order) z.0 (later_of l.now) y.0 ys.0 (later_of m.now) (type_of r.now)) }
 {
-    let types = types_held(alloc, held)?;
-    let order = order_held(alloc, scope, held, names)?;
-    let inner = Scope::Among(&types, &order);
-    has_items(alloc, c, marks, depth, &inner, z, l, y, ys, m, r)
+    match before_held(alloc, scope, held) {
+        Ok(before) => {
+            let inner = Scope::Among(&before.types, &before.order);
+            let good = has_items(alloc, judge, &inner, z, l, y, ys, m, r);
+            drop(before);
+            good
+        }
+        Err(_) => Err(Memory),
+    }
 }
 
 // The same in a scope.
 fn has_items(
     alloc: Global,
-    c: &Core,
-    marks: &[bool],
-    depth: u64,
+    judge: &Judge<'_>,
     scope: &Scope<'_>,
     z: Name,
     l: &Waiting,
@@ -461,11 +450,11 @@ fn has_items(
 ) -> Result<bool, Memory>
     requires left { node_count (later_of l.now).term < 2 ^ 32 }
     requires right { node_count (later_of m.now).term < 2 ^ 32 }
-    requires marks { (f : ℕ) → counts_in (core_of c.now).funs marks.now f ≡ is_inert_fun (core_of c.now).funs f }
-    ensures { IfOk result (λ b. IsTrue b ↔ IsGoodStar (core_of c.now).funs depth (context_in scope.now) z.0 (later_of l.now) y.0 ys.0 (later_of m.now) (type_of r.now)) }
+    requires judge { IsJudge judge.now }
+    ensures { IfOk result (λ b. IsTrue b ↔ IsGoodStar (funs_of judge.now) judge.now.depth (context_in scope.now) z.0 (later_of l.now) y.0 ys.0 (later_of m.now) (type_of r.now)) }
 {
     match stream_type(scope, z) {
-        Some(t) => on_star(alloc, c, marks, depth, scope, z, t, l, y, ys, m, r),
+        Some(t) => on_star(alloc, judge, scope, z, t, l, y, ys, m, r),
         None => Ok(false),
     }
 }
@@ -473,9 +462,7 @@ fn has_items(
 // The same, where the subject's type is known.
 fn on_star(
     alloc: Global,
-    c: &Core,
-    marks: &[bool],
-    depth: u64,
+    judge: &Judge<'_>,
     scope: &Scope<'_>,
     z: Name,
     t: &Ty,
@@ -488,11 +475,11 @@ fn on_star(
     requires form { (context_in scope.now).types z.0 ≡ Some (type_of t.now) }
     requires left { node_count (later_of l.now).term < 2 ^ 32 }
     requires right { node_count (later_of m.now).term < 2 ^ 32 }
-    requires marks { (f : ℕ) → counts_in (core_of c.now).funs marks.now f ≡ is_inert_fun (core_of c.now).funs f }
-    ensures { IfOk result (λ b. IsTrue b ↔ IsGoodStar (core_of c.now).funs depth (context_in scope.now) z.0 (later_of l.now) y.0 ys.0 (later_of m.now) (type_of r.now)) }
+    requires judge { IsJudge judge.now }
+    ensures { IfOk result (λ b. IsTrue b ↔ IsGoodStar (funs_of judge.now) judge.now.depth (context_in scope.now) z.0 (later_of l.now) y.0 ys.0 (later_of m.now) (type_of r.now)) }
 {
     match t {
-        Ty::Star(s) => on_items(alloc, c, marks, depth, scope, z, s, t, l, y, ys, m, r),
+        Ty::Star(s) => on_items(alloc, judge, scope, z, s, t, l, y, ys, m, r),
         _ => Ok(false),
     }
 }
@@ -500,9 +487,7 @@ fn on_star(
 // The same, where the type of an item is known, and that of the items after it.
 fn on_items(
     alloc: Global,
-    c: &Core,
-    marks: &[bool],
-    depth: u64,
+    judge: &Judge<'_>,
     scope: &Scope<'_>,
     z: Name,
     s: &Ty,
@@ -517,22 +502,20 @@ fn on_items(
     requires items { type_of t.now ≡ star (type_of s.now) }
     requires left { node_count (later_of l.now).term < 2 ^ 32 }
     requires right { node_count (later_of m.now).term < 2 ^ 32 }
-    requires marks { (f : ℕ) → counts_in (core_of c.now).funs marks.now f ≡ is_inert_fun (core_of c.now).funs f }
-    ensures { IfOk result (λ b. IsTrue b ↔ IsGoodStar (core_of c.now).funs depth (context_in scope.now) z.0 (later_of l.now) y.0 ys.0 (later_of m.now) (type_of r.now)) }
+    requires judge { IsJudge judge.now }
+    ensures { IfOk result (λ b. IsTrue b ↔ IsGoodStar (funs_of judge.now) judge.now.depth (context_in scope.now) z.0 (later_of l.now) y.0 ys.0 (later_of m.now) (type_of r.now)) }
 {
-    let at_end = is_good(alloc, c, marks, depth, scope, l, r)?;
+    let at_end = is_good(alloc, judge, scope, l, r)?;
     if !at_end {
         return Ok(false);
     }
-    is_good_at_item(alloc, c, marks, depth, scope, y, s, ys, t, z, m, r)
+    is_good_at_item(alloc, judge, scope, y, s, ys, t, z, m, r)
 }
 
 // A wait.
 fn wait_rule(
     alloc: Global,
-    c: &Core,
-    marks: &[bool],
-    depth: u64,
+    judge: &Judge<'_>,
     scope: &Scope<'_>,
     x: Name,
     t: &Ty,
@@ -541,8 +524,8 @@ fn wait_rule(
     r: &Ty,
 ) -> Result<bool, Memory>
     requires size { node_count (later_of l.now).term < 2 ^ 32 }
-    requires marks { (f : ℕ) → counts_in (core_of c.now).funs marks.now f ≡ is_inert_fun (core_of c.now).funs f }
-    ensures { IfOk result (λ b. IsTrue b ↔ FollowsRule (core_of c.now).funs depth (context_in scope.now)
+    requires judge { IsJudge judge.now }
+    ensures { IfOk result (λ b. IsTrue b ↔ FollowsRule (funs_of judge.now) judge.now.depth (context_in scope.now)
         (wait_state x.0 (type_of t.now) (map held_of held.now) (later_of l.now)) (type_of r.now)) }
 {
     if !same(t, r) {
@@ -551,12 +534,11 @@ fn wait_rule(
     if whole_held(held, x) {
         return Ok(false);
     }
-    let names = names_held(alloc, held)?;
-    let fits = is_held_wait(alloc, scope, held, &names, x, l)?;
-    if !fits {
-        return Ok(false);
+    match is_held_wait(alloc, scope, held, x, l) {
+        Ok(true) => wait_rest(alloc, judge, scope, held, x, l, r),
+        Ok(false) => Ok(false),
+        Err(_) => Err(Memory),
     }
-    wait_rest(alloc, c, marks, depth, scope, held, &names, x, l, r)
 }
 
 // Whether what is held is that of the free names of a wait.
@@ -564,58 +546,61 @@ fn is_held_wait(
     alloc: Global,
     scope: &Scope<'_>,
     held: &[HeldName],
-    names: &[Name],
     x: Name,
     l: &Waiting,
 ) -> Result<bool, Memory>
-    requires { numbers_of names.now ≡ held_names (map held_of held.now) }
     ensures { IfOk result (λ b. IsTrue b ↔ IsHeld (context_in scope.now) (free_in_wait x.0 (later_of l.now)) (map held_of held.now)) }
 {
-    let free = free_of_wait(alloc, x, l)?;
-    is_held(alloc, scope, held, names, &free)
+    match free_of_wait(alloc, x, l) {
+        Ok(free) => {
+            let fits = is_held(alloc, scope, held, &free);
+            drop(free);
+            fits
+        }
+        Err(_) => Err(Memory),
+    }
 }
 
 // What follows a wait, over the types from before anything was held.
 fn wait_rest(
     alloc: Global,
-    c: &Core,
-    marks: &[bool],
-    depth: u64,
+    judge: &Judge<'_>,
     scope: &Scope<'_>,
     held: &[HeldName],
-    names: &[Name],
     x: Name,
     l: &Waiting,
     r: &Ty,
 ) -> Result<bool, Memory>
-    requires names { numbers_of names.now ≡ held_names (map held_of held.now) }
     requires size { node_count (later_of l.now).term < 2 ^ 32 }
-    requires marks { (f : ℕ) → counts_in (core_of c.now).funs marks.now f ≡ is_inert_fun (core_of c.now).funs f }
-    ensures { IfOk result (λ b. IsTrue b ↔ IsGoodWait (core_of c.now).funs depth (context_held (map held_of held.now) (context_in scope.now).order) x.0 (later_of l.now) (type_of r.now)) }
+    requires judge { IsJudge judge.now }
+    ensures { IfOk result (λ b. IsTrue b ↔ IsGoodWait (funs_of judge.now) judge.now.depth (context_held (map held_of held.now) (context_in scope.now).order) x.0 (later_of l.now) (type_of r.now)) }
 {
-    let types = types_held(alloc, held)?;
-    let order = order_held(alloc, scope, held, names)?;
-    let inner = Scope::Among(&types, &order);
-    has_rest(alloc, c, marks, depth, &inner, x, l, r)
+    match before_held(alloc, scope, held) {
+        Ok(before) => {
+            let inner = Scope::Among(&before.types, &before.order);
+            let good = has_rest(alloc, judge, &inner, x, l, r);
+            drop(before);
+            good
+        }
+        Err(_) => Err(Memory),
+    }
 }
 
 // The same in a scope.
 fn has_rest(
     alloc: Global,
-    c: &Core,
-    marks: &[bool],
-    depth: u64,
+    judge: &Judge<'_>,
     scope: &Scope<'_>,
     x: Name,
     l: &Waiting,
     r: &Ty,
 ) -> Result<bool, Memory>
     requires size { node_count (later_of l.now).term < 2 ^ 32 }
-    requires marks { (f : ℕ) → counts_in (core_of c.now).funs marks.now f ≡ is_inert_fun (core_of c.now).funs f }
-    ensures { IfOk result (λ b. IsTrue b ↔ IsGoodWait (core_of c.now).funs depth (context_in scope.now) x.0 (later_of l.now) (type_of r.now)) }
+    requires judge { IsJudge judge.now }
+    ensures { IfOk result (λ b. IsTrue b ↔ IsGoodWait (funs_of judge.now) judge.now.depth (context_in scope.now) x.0 (later_of l.now) (type_of r.now)) }
 {
     match stream_type(scope, x) {
-        Some(t) => behind_wait(alloc, c, marks, depth, scope, x, t, l, r),
+        Some(t) => behind_wait(alloc, judge, scope, x, t, l, r),
         None => Ok(false),
     }
 }
@@ -623,9 +608,7 @@ fn has_rest(
 // The same, where the subject's type is known.
 fn behind_wait(
     alloc: Global,
-    c: &Core,
-    marks: &[bool],
-    depth: u64,
+    judge: &Judge<'_>,
     scope: &Scope<'_>,
     x: Name,
     t: &Ty,
@@ -634,8 +617,8 @@ fn behind_wait(
 ) -> Result<bool, Memory>
     requires form { (context_in scope.now).types x.0 ≡ Some (type_of t.now) }
     requires size { node_count (later_of l.now).term < 2 ^ 32 }
-    requires marks { (f : ℕ) → counts_in (core_of c.now).funs marks.now f ≡ is_inert_fun (core_of c.now).funs f }
-    ensures { IfOk result (λ b. IsTrue b ↔ IsGoodWait (core_of c.now).funs depth (context_in scope.now) x.0 (later_of l.now) (type_of r.now)) }
+    requires judge { IsJudge judge.now }
+    ensures { IfOk result (λ b. IsTrue b ↔ IsGoodWait (funs_of judge.now) judge.now.depth (context_in scope.now) x.0 (later_of l.now) (type_of r.now)) }
 {
     if null(t) {
         return Ok(false);
@@ -644,7 +627,7 @@ fn behind_wait(
     if is_there(&used, x) {
         return Ok(false);
     }
-    is_good_behind(alloc, c, marks, depth, scope, x, t, l, r)
+    is_good_behind(alloc, judge, scope, x, t, l, r)
 }
 
 // The parameters of a frame are distinct.

@@ -2,6 +2,7 @@
 
 ghost use Rattle.std.specs.Prelude.{◌≡◌, ◌↔◌, ℕ, map, Some, IsTrue, IfOk};
 ghost use Rattle.std.specs.List.{All};
+ghost use Rattle.stream_type.specs.StreamType.{type_of};
 ghost use Rattle.stream_prefix.specs.StreamPrefix.{der, IsPrefix};
 ghost use Rattle.bunch.specs.Names.{numbers_of};
 ghost use Rattle.hist_value.specs.HistType.{past};
@@ -93,6 +94,25 @@ pub fn is_held(
     alloc: Global,
     scope: &Scope<'_>,
     held: &[HeldName],
+    free: &[Name],
+) -> Result<bool, Memory>
+    ensures { IfOk result (λ b. IsTrue b ↔ IsHeld (context_in scope.now) (numbers_of free.now) (map held_of held.now)) }
+{
+    match names_held(alloc, held) {
+        Ok(names) => {
+            let fits = is_held_by(alloc, scope, held, &names, free);
+            drop(names);
+            fits
+        }
+        Err(_) => Err(Memory),
+    }
+}
+
+// The same, where these are the names of which something is held.
+fn is_held_by(
+    alloc: Global,
+    scope: &Scope<'_>,
+    held: &[HeldName],
     names: &[Name],
     free: &[Name],
 ) -> Result<bool, Memory>
@@ -127,9 +147,22 @@ fn is_left(alloc: Global, scope: &Scope<'_>, h: &HeldName) -> Result<bool, Memor
     if !is_prefix(&h.ty, &h.prefix) {
         return Ok(false);
     }
-    let left = derive(alloc, &h.ty, &h.prefix)?;
-    match stream_type(scope, h.name) {
-        Some(t) => Ok(same(t, &left)),
-        None => Ok(false),
+    match derive(alloc, &h.ty, &h.prefix) {
+        Ok(left) => {
+            let leaves = is_stream(scope, h.name, &left);
+            drop(left);
+            Ok(leaves)
+        }
+        Err(_) => Err(Memory),
+    }
+}
+
+/// Whether the name is a stream of this type.
+pub fn is_stream(scope: &Scope<'_>, x: Name, r: &Ty) -> bool
+    ensures { IsTrue result ↔ ((context_in scope.now).types x.0 ≡ Some (type_of r.now)) }
+{
+    match stream_type(scope, x) {
+        Some(t) => same(t, r),
+        None => false,
     }
 }

@@ -22,3 +22,12 @@ decreases-check_frame l = 6 * (states_in_arguments (arguments_from l.args.now) +
 
 abbrev pub decreases-check_arguments : goal.decreases-check_arguments
 decreases-check_arguments l = 6 * states_in_arguments (arguments_from l.args.now) + 1
+
+abbrev pub decreases-check_sides : goal.decreases-check_sides
+decreases-check_sides l = 6 * states_number (state_of l.a.now) + 1
+
+abbrev pub decreases-check_steps : goal.decreases-check_steps
+decreases-check_steps l = 6 * states_number (state_of l.a.now) + 1
+
+abbrev pub decreases-check_body : goal.decreases-check_body
+decreases-check_body l = 6 * states_number (state_of l.s.now) + 1

@@ -1,16 +1,16 @@
 -- Its values stand beside the context.
 use Rattle.std.proofs.Common.{◌≡◌, ◌∙◌, [], ap}
 use Rattle.stream_type.specs.StreamType.{type_of}
-use Rattle.core_term.specs.CoreTerm.{core_of}
 use Rattle.delta_check.specs.Scopes.{context_in, with_values}
 use Rattle.delta_state.specs.StateTyping.{with_past}
 use Rattle.delta_keep.specs.KeptView.{later_of}
+use Rattle.kept_check.specs.Judging.{funs_of}
 use Rattle.kept_check.proofs.LaterRules.{good_if}
 use Rattle.kept_check.proofs.laters.is_good.Goals as goal
 
-pub returns : goal.returns
-returns c =
+pub returns-in-Ok : goal.returns-in-Ok
+returns-in-Ok c =
     let d = context_in c.args.scope.now in
     let l = later_of c.args.l.now in
-    let beside : with_values c.deref-2.result.now d ≡ with_past l.past d = ap (λ v. with_values v d) c.deref-2.ensures.value ∙ (rw c.deref.ensures.value at (c.in_ok-types.ensures d)) in
-    good_if (core_of c.args.c.now).funs c.args.depth [] l (type_of c.args.r.now) d (with_values c.deref-2.result.now d) (λ e. e) c.is_good_inside.result beside c.is_good_inside.ensures
+    let beside : with_values c.deref-in-Ok.result.now d ≡ with_past l.past d = ap (λ v. with_values v d) c.deref-in-Ok.ensures.value ∙ (rw c.deref.ensures.value at (c.in-Ok.ensures d)) in
+    good_if (funs_of c.args.judge.now) c.args.judge.now.depth [] l (type_of c.args.r.now) d (with_values c.deref-in-Ok.result.now d) (λ e. e) c.is_good_inside-good.result beside c.is_good_inside-good.ensures

@@ -11,11 +11,11 @@ use Rattle.kept_check.specs.Free.{without_all}
 use Rattle.kept_check.proofs.SameNames.{held_like}
 use Rattle.kept_check.proofs.rules.is_held_case.Goals as goal
 
-pub returns : goal.returns
-returns c =
+pub returns-in-Ok : goal.returns-in-Ok
+returns-in-Ok c =
     let d = context_in c.args.scope.now in
     let held = map held_of c.args.held.now in
     let free = c.args.z.0 ∷ (without_all (numbers_of c.args.less.now) (free_names (later_of c.args.l.now).term) ++ without_all (numbers_of c.args.lesser.now) (free_names (later_of c.args.m.now).term)) in
-    let like = held_like d c.in_ok-free.free.items free held c.in_ok-free.ensures in
-    let test : IfOk c.is_held.result (λ b. IsTrue b ↔ IsHeld d (numbers_of c.in_ok-free.free.items) held) = rw c.deref.ensures.value at c.is_held.ensures in
-    IfOk-weaker c.is_held.result (λ b. IsTrue b ↔ IsHeld d (numbers_of c.in_ok-free.free.items) held) (λ b. IsTrue b ↔ IsHeld d free held) (λ b h. (λ t. like.0 (h.0 t), λ i. h.1 (like.1 i))) test
+    let like = held_like d c.in-Ok.free.items free held c.in-Ok.ensures in
+    let test : IfOk c.is_held-fits.result (λ b. IsTrue b ↔ IsHeld d (numbers_of c.in-Ok.free.items) held) = rw c.deref.ensures.value at c.is_held-fits.ensures in
+    IfOk-weaker c.is_held-fits.result (λ b. IsTrue b ↔ IsHeld d (numbers_of c.in-Ok.free.items) held) (λ b. IsTrue b ↔ IsHeld d free held) (λ b h. (λ t. like.0 (h.0 t), λ i. h.1 (like.1 i))) test

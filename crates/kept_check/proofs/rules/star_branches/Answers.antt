@@ -2,19 +2,18 @@
 use Rattle.std.proofs.Common.{◌≡◌, ◌↔◌, IsTrue, map, subst}
 use Rattle.std.specs.Prelude.{IfOk}
 use Rattle.stream_type.specs.StreamType.{type_of}
-use Rattle.core_term.specs.CoreTerm.{core_of}
 use Rattle.core_term.specs.Typing.{Context}
 use Rattle.delta_check.specs.Scopes.{context_in, context_given, facts_given}
 use Rattle.delta_state.specs.StateTyping.{context_held}
 use Rattle.delta_keep.specs.KeptView.{held_of, later_of}
 use Rattle.kept_rules.specs.StateRules.{IsGoodStar}
-use Rattle.kept_check.proofs.Contexts.{held_is}
+use Rattle.kept_check.specs.Judging.{funs_of}
 use Rattle.kept_check.proofs.rules.star_branches.Goals as goal
 
-pub returns : goal.returns
-returns c =
+pub returns-in-Ok : goal.returns-in-Ok
+returns-in-Ok c =
     let held = map held_of c.args.held.now in
     let before = (context_in c.args.scope.now).order in
-    let scope : context_given c.deref.result.now (facts_given c.deref-2.result.now) ≡ context_held held before =
-    rw (c.deref.ensures.value, c.deref-2.ensures.value) (held_is c.in_ok-types.types.items c.in_ok-order.order.items held before c.in_ok-types.ensures c.in_ok-order.ensures) in
-    subst (λ (d : Context). IfOk c.has_items.result (λ b. IsTrue b ↔ IsGoodStar (core_of c.args.c.now).funs c.args.depth d c.args.z.0 (later_of c.args.l.now) c.args.y.0 c.args.ys.0 (later_of c.args.m.now) (type_of c.args.r.now))) scope c.has_items.ensures
+    let scope : context_given c.deref.result.now (facts_given c.deref-in-Ok.result.now) ≡ context_held held before =
+    rw (c.deref.ensures.value, c.deref-in-Ok.ensures.value) c.in-Ok.ensures in
+    subst (λ (d : Context). IfOk c.has_items-good.result (λ b. IsTrue b ↔ IsGoodStar (funs_of c.args.judge.now) c.args.judge.now.depth d c.args.z.0 (later_of c.args.l.now) c.args.y.0 c.args.ys.0 (later_of c.args.m.now) (type_of c.args.r.now))) scope c.has_items-good.ensures

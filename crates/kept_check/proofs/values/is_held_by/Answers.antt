@@ -5,7 +5,7 @@ use Rattle.bunch.specs.Names.{numbers_of}
 use Rattle.delta_check.specs.Scopes.{context_in}
 use Rattle.delta_keep.specs.KeptView.{held_of}
 use Rattle.kept_check.proofs.SameNames.{held_where, held_once, held_free}
-use Rattle.kept_check.proofs.values.is_held.Goals as goal
+use Rattle.kept_check.proofs.values.is_held_by.Goals as goal
 
 pub returns-then-not-are_distinct : goal.returns-then-not-are_distinct
 returns-then-not-are_distinct c = (
