@@ -16,4 +16,4 @@ returns-in-Err-At-clause-untyped c =
 
 pub returns-in_err-k-clause-untyped : goal.returns-in_err-k-clause-untyped
 returns-in_err-k-clause-untyped c =
-    let exit = err_from_is_err_and c.from_residual.result c.from_residual.ensures.1 in rw (exit.1, exit.2) (form_refuses (core_of c.args.c.now) c.args.bytes.now c.in_err-k.field-0 c.in_err-k.ensures.form)
+    let exit = err_from_is_err_and c.from_residual.result c.from_residual.ensures.1 in rw (exit.1, exit.2) (form_refuses (core_of c.args.c.now) c.args.bytes.now c.in_err-k.field-0.0 c.in_err-k.ensures.form)
