@@ -7,7 +7,7 @@ use Rattle.core_term.specs.CoreTerm.{CoreProgram}
 use Rattle.delta_keep.specs.declared.kept.Kept.{Kept}
 use Rattle.kept_check.specs.declared.fault.KeepFault.{KeepFault}
 use Rattle.kept_check.specs.declared.fault.KeepFault.TheVariants as fault
-use Rattle.kept_check.specs.Loading.{TellsKeepFault}
+use Rattle.kept_check.specs.Loading.{TellsKeepFault, RefusesNone}
 use Rattle.delta_end.specs.declared.objection.Objection.TheVariants.{Derivation, Bound, Table, State}
 use Rattle.delta_end.specs.declared.end.End.{End}
 use Rattle.delta_end.specs.declared.end.End.TheVariants.{Done, Usage, Refused, Input, Budget, Deep, Open, FileFailed, ReadFailed, WriteFailed, Memory, Long, Objected}
@@ -29,11 +29,11 @@ is_small c bytes (fault.Version n) told = tt
 
 module _ (c : CoreProgram) (budget : ℕ) (v : Version) (bytes : List ℕ) (old new : Option (List Move)) (left0 left1 : Option (List ℕ)) where
   -- what is told is what is wrong first
-  pub refuses : (f : KeepFault) → TellsKeepFault c bytes (Err f) → IsUntouched old new left0 left1 → Resumes c budget v bytes old new left0 left1 (end_of f)
-  refuses fault.Memory told untouched = inl untouched
-  refuses (fault.Form at) told untouched = (told, untouched)
-  refuses (fault.Untyped n) told untouched = (told, untouched)
-  refuses (fault.Version n) told untouched = (told, untouched)
+  pub refuses : (f : KeepFault) → TellsKeepFault c bytes (Err f) → RefusesNone c bytes f → IsUntouched old new left0 left1 → Resumes c budget v bytes old new left0 left1 (end_of f)
+  refuses fault.Memory told none untouched = inl untouched
+  refuses (fault.Form at) told none untouched = (told, untouched)
+  refuses (fault.Untyped n) told none untouched = ((told, none), untouched)
+  refuses (fault.Version n) told none untouched = (told, untouched)
 
   -- a run that goes on ends as a run
   pub goes_on : (end : End) → GoesOn c budget v bytes old new left0 left1 end → Resumes c budget v bytes old new left0 left1 end

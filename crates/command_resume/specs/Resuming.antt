@@ -11,9 +11,10 @@ use Rattle.kept_state.specs.KeptTree.{KeptTree}
 use Rattle.kept_state.specs.KeptTyping.{IsTypedKept}
 use Rattle.kept_state.specs.KeptBytes.{kept_bytes, most_bytes}
 use Rattle.kept_state.specs.KeptForm.{form_fault, bad_form, bad_version}
+use Rattle.kept_state.specs.KeptSizes.{HasSizes}
 use Rattle.kept_check.specs.declared.fault.KeepFault.{KeepFault}
 use Rattle.kept_check.specs.declared.fault.KeepFault.TheVariants as fault
-use Rattle.kept_check.specs.Loading.{TellsUntyped}
+use Rattle.kept_check.specs.Loading.{TellsUntyped, IsOfNone}
 use Rattle.delta_end.specs.declared.objection.StateName.{StateName}
 use Rattle.delta_end.specs.declared.objection.StateName.TheVariants as state
 use Rattle.delta_end.specs.declared.objection.Objection.TheVariants.{State}
@@ -35,20 +36,23 @@ abbrev pub IsSmallFault : KeepFault → Type 0
 IsSmallFault (fault.Form at) = at ≤ most_bytes
 IsSmallFault _ = ⊤
 
--- this is wrong first with the bytes as those of a state of the program
+-- this is wrong first with the bytes as those of a state of the program; where that is a state of it which isn't typed,
+-- they are those of no typed one
 abbrev pub IsWrong : CoreProgram → List ℕ → StateName → ℕ → Type 0
 IsWrong c bytes state.Form at = form_fault bytes ≡ Some (bad_form at)
 IsWrong c bytes state.Version n = form_fault bytes ≡ Some (bad_version n)
-IsWrong c bytes state.Untyped n = TellsUntyped c bytes n
+IsWrong c bytes state.Untyped n = TellsUntyped c bytes n × IsOfNone c bytes
 IsWrong c bytes state.Large n = ⊥
 
--- the bytes have no fault of form and are those of a typed state of the program, and the run that goes on from it ended so
+-- the bytes have no fault of form and are those of a typed state of the program, whose numbers have their sizes, and the
+-- run that goes on from it ended so
 pub record GoesOn (c : CoreProgram) (budget : ℕ) (v : Version) (bytes : List ℕ) (old new : Option (List Move)) (left0 left1 : Option (List ℕ))
     (end : End) : Type 0 where
   pub kept : KeptTree
   pub places : List ℕ
   pub has_form : form_fault bytes ≡ None
   pub has_bytes : bytes ≡ kept_bytes kept places
+  pub sizes : HasSizes kept
   pub typed : IsTypedKept c kept
   pub ran : Ran (meaning_since v budget c kept) old new left0 left1 end
 

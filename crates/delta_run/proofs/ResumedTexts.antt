@@ -1,5 +1,5 @@
 -- From the end of a run that goes on from a state to what its caller may know.
-use Rattle.std.proofs.Common.{◌≡◌, ◌⊎◌, inl, inr, ℕ, ◌+◌, List, [], Option, Some, None, Result, ◌∙◌, ap, subst, refl, arith, take}
+use Rattle.std.proofs.Common.{◌≡◌, ◌⊎◌, inl, inr, ℕ, ◌+◌, List, [], Option, Some, None, Result, ◌∙◌, ap, sym, subst, refl, arith, take}
 use Rattle.port.specs.declared.link.Move.{Move}
 use Rattle.port.specs.declared.fault.IoFault.{IoFault}
 use Rattle.port.specs.Faults.{HasCause}
@@ -7,6 +7,8 @@ use Rattle.event_frame.specs.declared.version.Version.{Version}
 use Rattle.delta_tree.specs.SyntaxTree.{ProgramTree}
 use Rattle.core_term.specs.CoreTerm.{CoreProgram}
 use Rattle.kept_state.specs.KeptTree.{KeptTree}
+use Rattle.delta_end.specs.declared.objection.StateName.{StateName}
+use Rattle.delta_end.specs.declared.objection.StateName.TheVariants as state
 use Rattle.delta_end.specs.declared.objection.Objection.TheVariants.{Derivation, Bound, Table, State}
 use Rattle.delta_end.specs.declared.end.End.{End}
 use Rattle.delta_end.specs.declared.end.End.TheVariants.{Done, Usage, Refused, Input, Budget, Deep, Open, FileFailed, ReadFailed, WriteFailed, Memory, Long, Objected}
@@ -22,7 +24,7 @@ use Rattle.delta_loop.specs.Answer.{Adds, IsComplete}
 use Rattle.delta_loop.proofs.Returning.{adds_none, ran_prompt, returned}
 use Rattle.delta_loop.proofs.Completeness.{good_end, good_status}
 use Rattle.kept_runner.specs.KeptOneShot.{meaning_since}
-use Rattle.command_resume.specs.Resuming.{GoesOn, OfState}
+use Rattle.command_resume.specs.Resuming.{GoesOn, IsWrong, OfState}
 use Rattle.command_resume.specs.Texts.{ResumesIts, ResumesText}
 use Rattle.delta_run.specs.Settled.{IsOverInput}
 use Rattle.delta_run.specs.Evaluated.{RefusesUnwritable}
@@ -66,7 +68,7 @@ module _ (text : List ℕ) (budget : ℕ) (v : Version) (files : Option (List �
     since : (end : End) (p : ProgramTree) (c : CoreProgram) → IsWritable text v p c → GoesOn c budget v bytes old new left0 left1 end → WentOn end
     since end p c accepted on = (
       meaning_since v budget c on.kept,
-      record { program = p; core = c; accepted = accepted; state = on.kept; typed = record { places = on.places; has_form = on.has_form; has_bytes = on.has_bytes; typed = on.typed }; means = refl },
+      record { program = p; core = c; accepted = accepted; state = on.kept; typed = record { places = on.places; has_form = on.has_form; has_bytes = on.has_bytes; sizes = on.sizes; typed = on.typed }; means = refl },
       on.ran,
     )
 
@@ -143,6 +145,17 @@ module _ (text : List ℕ) (budget : ℕ) (v : Version) (files : Option (List �
     same_core : (p : ProgramTree) (c : CoreProgram) → IsWritable text v p c → {P : Meaning} (meant : IsMeantSince text bytes budget v P) → meant.core ≡ c
     same_core p c accepted meant = (accepted_is_one text meant.program p meant.core c meant.accepted.accepted accepted.accepted).1
 
+    -- and so is the one of which it is told what is wrong
+    no_core : (p : ProgramTree) (c : CoreProgram) → IsWritable text v p c → {what : StateName} {at : ℕ} (no : IsNoState text bytes v what at) → no.core ≡ c
+    no_core p c accepted no = (accepted_is_one text no.program p no.core c no.accepted.accepted accepted.accepted).1
+
+    -- bytes with which something is wrong are those of no typed state
+    no_typed : (c : CoreProgram) (what : StateName) (at : ℕ) → IsWrong c bytes what at → (k : KeptTree) → IsTypedAs c bytes k → ⊥
+    no_typed c state.Form at wrong k typed = let none : ⊥ = cc (sym typed.has_form ∙ wrong) in none
+    no_typed c state.Version n wrong k typed = let none : ⊥ = cc (sym typed.has_form ∙ wrong) in none
+    no_typed c state.Untyped n wrong k typed = wrong.1 k typed.places typed.sizes typed.typed typed.has_bytes
+    no_typed c state.Large n wrong k typed = wrong
+
     typed_as : (p : ProgramTree) (c : CoreProgram) → IsWritable text v p c → {P : Meaning} (meant : IsMeantSince text bytes budget v P) → IsTypedAs c bytes meant.state
     typed_as p c accepted meant = subst (λ (d : CoreProgram). IsTypedAs d bytes meant.state) (same_core p c accepted meant) meant.typed
 
@@ -198,10 +211,9 @@ module _ (text : List ℕ) (budget : ℕ) (v : Version) (files : Option (List �
               (good_end (meaning_since v budget c on.1.state) w all word good cheap old new left0 left1 tells end loop (of_this p c accepted end on) read0 read1 write0 write1 read_still write_still read write),
         ))
 
-        refused_so : (status ≡ 8) ⊎ (status ≡ 10) → (p : ProgramTree) (c : CoreProgram) → IsWritable text v p c
-            → (status ≡ 8) ⊎ (status ≡ 10) ⊎ ((k : KeptTree) × IsTypedAs c bytes k × IsComplete (meaning_since v budget c k) left0 old new status)
-        refused_so (inl eight) p c accepted = inl eight
-        refused_so (inr ten) p c accepted = inr (inl ten)
+        refused_so : (what : StateName) (at : ℕ) → IsNoState text bytes v what at → (status ≡ 8) ⊎ (status ≡ 10) → ResumesWell text bytes budget v left0 old new status
+        refused_so what at no (inl eight) p c accepted = inl eight
+        refused_so what at no (inr ten) p c accepted = inr (inl (ten, λ k typed. no_typed no.core what at no.wrong k (subst (λ (d : CoreProgram). IsTypedAs d bytes k) (sym (no_core p c accepted no)) typed)))
 
         -- a run over a good input ends well
         pub resumed_complete : (end : End) → ResumedText text budget v files name old new left0 left1 end → FileCause end file0 file1 → ReadCause end read0 read1 → WriteCause end write0 write1
@@ -211,7 +223,7 @@ module _ (text : List ℕ) (budget : ℕ) (v : Version) (files : Option (List �
             by_way : (end : End) → Went end → FileCause end file0 file1 → ReadCause end read0 read1 → WriteCause end write0 write1 → AnswerOf end said status → ResumesWell text bytes budget v left0 old new status
             by_way _ (no_file untouched) file read write is = λ p c accepted. absurd (not_rose file0 file1 file file_still)
             by_way _ (no_text why r untouched) file read write is = λ p c accepted. absurd (writing_is_judged.not_refused text v p c why accepted r)
-            by_way _ (no_state what at r untouched) file read write is = refused_so (answered (Objected (State what at)) said status note0 note1 is cause note_still)
+            by_way _ (no_state what at r untouched) file read write is = refused_so what at r (answered (Objected (State what at)) said status note0 note1 is cause note_still)
             by_way _ (no_memory untouched) file read write is = λ p c accepted. inl (wanting is)
             by_way _ (went_on end loop on) file read write is = went_well end loop on read write is
 

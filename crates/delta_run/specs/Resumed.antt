@@ -12,6 +12,7 @@ use Rattle.kept_state.specs.KeptTree.{KeptTree}
 use Rattle.kept_state.specs.KeptTyping.{IsTypedKept}
 use Rattle.kept_state.specs.KeptBytes.{kept_bytes}
 use Rattle.kept_state.specs.KeptForm.{form_fault}
+use Rattle.kept_state.specs.KeptSizes.{HasSizes}
 use Rattle.delta_end.specs.declared.objection.StateName.{StateName}
 use Rattle.delta_end.specs.declared.objection.Objection.TheVariants.{State}
 use Rattle.delta_end.specs.declared.end.End.{End}
@@ -33,11 +34,13 @@ abbrev pub ResumedText : List ℕ → ℕ → Version → Option (List ℕ → L
 ResumedText text budget v files name old new left0 left1 FileFailed = IsUntouched old new left0 left1
 ResumedText text budget v files name old new left0 left1 end = ResumesText text budget v files name old new left0 left1 end
 
--- the bytes have no fault of form and are those of this state, which is typed for the program
+-- the bytes have no fault of form and are those of this state, which is typed for the program, and whose numbers have
+-- their sizes. There is one such state at most
 pub record IsTypedAs (c : CoreProgram) (bytes : List ℕ) (k : KeptTree) : Type 0 where
   pub places : List ℕ
   pub has_form : form_fault bytes ≡ None
   pub has_bytes : bytes ≡ kept_bytes k places
+  pub sizes : HasSizes k
   pub typed : IsTypedKept c k
 
 -- the text is accepted and the bytes are those of a typed state of its program, and this is what the program means to
@@ -78,13 +81,14 @@ ResumesMoves text bytes budget v (Objected what) moves = ⊥
 ResumesMoves text bytes budget v Memory moves = (moves ≡ []) ⊎ GoesOnSo text bytes budget v Memory moves
 ResumesMoves text bytes budget v end moves = GoesOnSo text bytes budget v end moves
 
--- an accepted text: memory ran out, or the state is refused, or its bytes are those of a typed state of the program; and
--- then, over an input that is good in whole for that state, with no event that stops it, the status is 0 or 6 with all of
+-- an accepted text: memory ran out, or the state is refused, and then its bytes are those of no typed state of the
+-- program, or they are those of one; and then, over an input that is good in whole for that state, with no event that stops it, the status is 0 or 6 with all of
 -- the output written, or 8
 abbrev pub ResumesWell : List ℕ → List ℕ → ℕ → Version → Option (List ℕ) → Option (List Move) → Option (List Move) → ℕ → Type 0
 ResumesWell text bytes budget v left old new status =
     (p : ProgramTree) (c : CoreProgram) → IsWritable text v p c
-    → (status ≡ 8) ⊎ (status ≡ 10) ⊎ ((k : KeptTree) × IsTypedAs c bytes k × IsComplete (meaning_since v budget c k) left old new status)
+    → (status ≡ 8) ⊎ ((status ≡ 10) × ((k : KeptTree) → IsTypedAs c bytes k → ⊥))
+    ⊎ ((k : KeptTree) × IsTypedAs c bytes k × IsComplete (meaning_since v budget c k) left old new status)
 
 -- an accepted text with bytes that are those of no typed state of its program: status 10, or 8
 abbrev pub RefusesState : List ℕ → List ℕ → Version → ℕ → Type 0

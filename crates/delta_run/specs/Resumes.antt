@@ -18,9 +18,9 @@ pub record Resumes (file state : List ℕ) (budget : ℕ) (v : Version) (before 
   -- the end is shown by the bytes that were read and written; where the text or the state is refused for what is wrong
   -- first, there are none
   pub ends : OfFile before.files file (λ text. OfFile before.files state (λ bytes. Adds before.log after.log (ResumesMoves text bytes budget v end)))
-  -- an accepted text, with no fault counted: the state is refused, or it is typed, and over an input that is good in
-  -- whole, with no event that makes too many calls or one at too great a level, it is done or open with all written; or
-  -- memory is wanting
+  -- an accepted text, with no fault counted: the state is refused, and then it is no typed one; or it is typed, and over
+  -- an input that is good in whole, with no event that makes too many calls or one at too great a level, it is done or
+  -- open with all written; or memory is wanting
   pub complete : OfFile before.files file
       (λ text. OfFile before.files state
       (λ bytes. IsStill before.file_faults after.file_faults → IsStill before.read_faults after.read_faults → IsStill before.write_faults after.write_faults

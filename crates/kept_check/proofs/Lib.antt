@@ -12,6 +12,8 @@ pub mod InputContexts
 pub mod Placed
 pub mod FirstStates
 pub mod LoadedStates
+pub mod ReadShapes
+pub mod UntypedBytes
 pub mod HeldFacts
 pub mod Gathered
 pub mod Contexts

@@ -4,11 +4,14 @@
 -- - What is wrong with the form comes first (`form_fault`): too many bytes, then the version, then a byte that can't
 --   stand in its place. So a state that isn't typed is told only where the bytes are those of some kept state.
 -- - Bytes are those of one kept state of the program's trees at most (`OneSpelling` of kept_state), and one state of it
---   at most is the first that isn't typed (`OneFirst` of kept_rules). So no two of these answers fit the same bytes.
+--   at most is the first that isn't typed (`OneFirst` of kept_rules). So no two of these answers fit the same bytes, and
+--   those of a typed kept state are never refused as untyped.
 use Rattle.std.specs.Prelude.{ℕ, ◌≡◌, ⊤, List, Some, None, Result, Ok, Err}
 use Rattle.core_term.specs.CoreTerm.{CoreProgram}
+use Rattle.kept_state.specs.KeptTree.{KeptTree}
 use Rattle.kept_state.specs.KeptTyping.{IsTypedKept}
 use Rattle.kept_state.specs.KeptBytes.{kept_bytes}
+use Rattle.kept_state.specs.KeptSizes.{HasSizes}
 use Rattle.kept_state.specs.KeptForm.{form_fault, bad_form, bad_version}
 use Rattle.kept_rules.specs.FirstUntyped.{IsFirstUntyped}
 use Rattle.delta_keep.specs.declared.kept.Kept.{Kept}
@@ -33,6 +36,17 @@ TellsKeepFault c bytes (Err Memory) = ⊤
 TellsKeepFault c bytes (Err (Form at)) = form_fault bytes ≡ Some (bad_form at)
 TellsKeepFault c bytes (Err (Untyped n)) = TellsUntyped c bytes n
 TellsKeepFault c bytes (Err (Version n)) = form_fault bytes ≡ Some (bad_version n)
+
+-- the bytes are those of no typed kept state of the program whose numbers have their sizes
+abbrev pub IsOfNone : CoreProgram → List ℕ → Type 0
+IsOfNone c bytes = (k : KeptTree) (places : List ℕ) → HasSizes k → IsTypedKept c k → bytes ≡ kept_bytes k places → ⊥
+
+-- so it is where a state is told that isn't typed: no bytes of a typed one are refused for that
+abbrev pub RefusesNone : CoreProgram → List ℕ → KeepFault → Type 0
+RefusesNone c bytes Memory = ⊤
+RefusesNone c bytes (Form at) = ⊤
+RefusesNone c bytes (Untyped n) = IsOfNone c bytes
+RefusesNone c bytes (Version n) = ⊤
 
 -- the same before the states are looked at
 abbrev pub TellsForm : List ℕ → Result Kept KeepFault → Type 0

@@ -1,6 +1,6 @@
 //! Kept states read from bytes, typed ones alone.
 
-ghost use Rattle.std.specs.Prelude.{◌≡◌, ◌↔◌, ◌-◌, ◌*◌, ◌≤◌, ◌<◌, ◌^◌, length, map, IsTrue, IfOk};
+ghost use Rattle.std.specs.Prelude.{◌≡◌, ◌↔◌, ◌-◌, ◌*◌, ◌≤◌, ◌<◌, ◌^◌, length, map, IsTrue, IfOk, IfErr};
 ghost use Rattle.stream_type.specs.StreamType.{type_of, size_of, reach_of};
 ghost use Rattle.bunch.specs.BunchTree.{leaf_names};
 ghost use Rattle.bunch.specs.Names.{numbers_of};
@@ -9,11 +9,12 @@ ghost use Rattle.core_term.specs.FreeNames.{IsCore};
 ghost use Rattle.core_term.specs.Params.{names_in, types_listed};
 ghost use Rattle.delta_state.specs.Stands.{depth_after};
 ghost use Rattle.kept_state.specs.KeptBytes.{kept_bytes};
+ghost use Rattle.kept_state.specs.KeptSizes.{HasSizes};
 ghost use Rattle.kept_state.specs.KeptPlace.{semi_count, IsPlace};
 ghost use Rattle.kept_state.specs.KeptTyping.{IsTypedKept, IsPlaced, types_kept};
 ghost use Rattle.delta_keep.specs.KeptView.{kept_of, places_kept};
 ghost use Rattle.kept_check.specs.Judging.{IsJudge};
-ghost use Rattle.kept_check.specs.Loading.{TellsKeepFault, TellsForm, TellsTyped};
+ghost use Rattle.kept_check.specs.Loading.{TellsKeepFault, RefusesNone, TellsForm, TellsTyped};
 ghost use Rattle.kept_check.specs.Sizes.{IsSmall};
 
 use crate::checking::check_state;
@@ -34,7 +35,9 @@ use stream_type::{Memory, Ty, copy, reach};
 pub fn load(alloc: Global, c: &Checked, bytes: &[u8]) -> Result<Kept, KeepFault>
     ensures bytes { IfOk result (λ k. bytes.now ≡ kept_bytes (kept_of k) (places_kept k)) }
     ensures typed { IfOk result (λ k. IsTypedKept (core_of c.now) (kept_of k)) }
+    ensures sizes { IfOk result (λ k. HasSizes (kept_of k)) }
     ensures fault { TellsKeepFault (core_of c.now) bytes.now result }
+    ensures untyped { IfErr result (λ e. RefusesNone (core_of c.now) bytes.now e) }
 {
     let k = read(alloc, bytes)?;
     match first_untyped(alloc, c.core(), &k) {
@@ -53,6 +56,7 @@ pub fn load(alloc: Global, c: &Checked, bytes: &[u8]) -> Result<Kept, KeepFault>
 // The kept state with these bytes, typed or not.
 fn read(alloc: Global, bytes: &[u8]) -> Result<Kept, KeepFault>
     ensures bytes { IfOk result (λ k. bytes.now ≡ kept_bytes (kept_of k) (places_kept k)) }
+    ensures sizes { IfOk result (λ k. HasSizes (kept_of k)) }
     ensures form { TellsForm bytes.now result }
     ensures small { IfOk result (λ k. IsSmall (kept_of k)) }
 {
