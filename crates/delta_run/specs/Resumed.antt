@@ -82,8 +82,8 @@ ResumesMoves text bytes budget v Memory moves = (moves ≡ []) ⊎ GoesOnSo text
 ResumesMoves text bytes budget v end moves = GoesOnSo text bytes budget v end moves
 
 -- an accepted text: memory ran out, or the state is refused, and then its bytes are those of no typed state of the
--- program, or they are those of one; and then, over an input that is good in whole for that state, with no event that stops it, the status is 0 or 6 with all of
--- the output written, or 8
+-- program, or they are those of one; and then, over an input that is good in whole for that state, with no event that
+-- stops it, the status is 0 or 6 with all of the output written, or 8
 abbrev pub ResumesWell : List ℕ → List ℕ → ℕ → Version → Option (List ℕ) → Option (List Move) → Option (List Move) → ℕ → Type 0
 ResumesWell text bytes budget v left old new status =
     (p : ProgramTree) (c : CoreProgram) → IsWritable text v p c

@@ -12,7 +12,6 @@ pub mod InputContexts
 pub mod Placed
 pub mod FirstStates
 pub mod LoadedStates
-pub mod ReadShapes
 pub mod UntypedBytes
 pub mod HeldFacts
 pub mod Gathered
