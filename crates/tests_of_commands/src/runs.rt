@@ -68,6 +68,20 @@ const DEEP_CHAINS: &str = "fun nest{n : Int}(u : 1) : Int* =
   else {1} :: {2} :: {3} :: {4} :: {5} :: {6} :: {7} :: {8} :: (nest{n - 1}(u) : Int*)
 main(x : Int) : Int = let y = nest{999}(()) in x";
 
+// The same with lets and an `if` after another in front of each call, and with the call in an argument.
+const DEEP_CHOICES: &str = "fun nest{n : Int}(x : Int) : Int =
+  let a = x in let b = x in let c = x in let d = x in
+  if n < 1 then a
+  else if n < 0 then b
+  else if n < -1 then c
+  else if n < -2 then d
+  else let y = nest{n - 1}(x) in y
+main(x : Int) : Int = nest{1000}(x)";
+
+const DEEP_ARGUMENTS: &str = "fun same(x : Int) : Int = x
+fun nest{n : Int}(x : Int) : Int = if n < 1 then x else same(nest{n - 1}(x))
+main(x : Int) : Int = nest{1000}(x)";
+
 const AFTER_NOTHING: &str = "main(x : eps; y : Int) : Int = y";
 
 const THREE: &str = "item\nF int 3\ncut\nend\n";
@@ -389,6 +403,18 @@ const NESTS: &[Row] = &[
     },
     Row {
         text: DEEP_CHAINS,
+        input: "int 4\n",
+        output: Some("int 4\n"),
+        ..ROW
+    },
+    Row {
+        text: DEEP_CHOICES,
+        input: "int 4\n",
+        output: Some("int 4\n"),
+        ..ROW
+    },
+    Row {
+        text: DEEP_ARGUMENTS,
         input: "int 4\n",
         output: Some("int 4\n"),
         ..ROW
