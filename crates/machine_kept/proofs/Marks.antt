@@ -45,7 +45,3 @@ both_are a b T cuts rest x y e f g = ap₂ both_awaited (e ∙ sym (awaited_cut 
 
 pub turns_are : (a b : BunchTree) (T : NameTypes) (cut : Bool) (cuts rest : List Bool) (x y : AwaitedTree) → x ≡ awaited_left a T cuts → rest ≡ drop (semi_count a) cuts → y ≡ awaited_left b T rest → turns_awaited cut x y ≡ awaited_left (semi a b) T (cut ∷ cuts)
 turns_are a b T cut cuts rest x y e f g = ap₂ (turns_awaited cut) (e ∙ sym (awaited_cut a T cuts)) (g ∙ ap (awaited_left b T) f)
-
--- the marks behind both
-pub behind_both : (n m : ℕ) (cuts mid rest : List Bool) → mid ≡ drop n cuts → rest ≡ drop m mid → rest ≡ drop (n + m) cuts
-behind_both n m cuts mid rest e f = f ∙ (ap (drop m) e ∙ drop_both n m cuts)

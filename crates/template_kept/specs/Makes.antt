@@ -1,7 +1,7 @@
 -- What it is for a result to be what was to be made.
 use Rattle.std.specs.Prelude.{◌≡◌, Result, IfOk}
-use Rattle.std.specs.declared.alloc.Global.{Global}
 use Rattle.std.specs.declared.boxed.Box.{Box}
+use Rattle.std.specs.declared.alloc.Global.{Global}
 use Rattle.delta_state.specs.StateTree.{StateTree}
 use Rattle.delta_keep.specs.declared.kept.KeptState.{KeptState}
 use Rattle.delta_keep.specs.KeptView.{state_of}

@@ -1,7 +1,6 @@
 -- The template of each form.
-use Rattle.std.proofs.Common.{sym, ap, map, ◌∙◌}
-use Rattle.hist_value.specs.HistExpr.{expr_of}
-use Rattle.core_term.specs.CoreTerm.{term_in, term_of, terms_from}
+use Rattle.std.proofs.Common.{sym, ap, ◌∙◌}
+use Rattle.core_term.specs.CoreTerm.{term_in}
 use Rattle.core_term.proofs.Rows.{term_in-call}
 use Rattle.template_state.specs.Readers.{shared_term}
 use Rattle.template_kept.proofs.Making.{makes_same}
