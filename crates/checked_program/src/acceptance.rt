@@ -93,3 +93,9 @@ pub fn accept_to_write(alloc: Global, text: &[u8], version: Version) -> Result<A
     }
     Ok(accepted)
 }
+
+/// Drops what was accepted. The crates above call this: one that drops a program by itself has the drop of
+/// each form of its trees proved once more.
+pub fn dismiss(accepted: Accepted) {
+    drop(accepted)
+}

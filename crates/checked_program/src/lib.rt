@@ -7,5 +7,5 @@ mod elaborated;
 pub mod laws;
 mod naming;
 
-pub use acceptance::{Accepted, accept, accept_to_write};
+pub use acceptance::{Accepted, accept, accept_to_write, dismiss};
 pub use elaborated::elaborate_text;

@@ -12,7 +12,7 @@ ghost use Rattle.delta_bound.specs.Refusals.{Refuses};
 ghost use Rattle.delta_loop.specs.History.{Writes};
 ghost use Rattle.command_bound.specs.Bounding.{bound_line, Tells, TellsAll};
 
-use checked_program::accept;
+use checked_program::{accept, dismiss};
 use core_term::Checked;
 use delta_bound::{BoundRefusal, bound};
 use delta_end::{BoundName, End, Objection};
@@ -68,7 +68,7 @@ fn line_of_text(alloc: Global, text: &[u8]) -> Result<String, End>
     match accept(alloc, text) {
         Ok(accepted) => {
             let told = line_of_program(alloc, &accepted.checked);
-            drop(accepted);
+            dismiss(accepted);
             told
         }
         Err(TextFault::Memory) => Err(End::Memory),

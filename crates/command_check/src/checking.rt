@@ -2,7 +2,7 @@
 
 ghost use Rattle.command_check.specs.Checking.{Checks};
 
-use checked_program::accept;
+use checked_program::{accept, dismiss};
 use delta_end::End;
 use program_text::TextFault;
 use std::alloc::Global;
@@ -14,7 +14,7 @@ pub fn check_source(alloc: Global, text: &[u8]) -> End
 {
     match accept(alloc, text) {
         Ok(accepted) => {
-            drop(accepted);
+            dismiss(accepted);
             End::Done
         }
         Err(TextFault::Memory) => End::Memory,

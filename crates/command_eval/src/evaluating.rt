@@ -15,7 +15,7 @@ ghost use Rattle.delta_loop.specs.History.{Writes};
 ghost use Rattle.command_eval.specs.Evaluating.{input_of, meaning, evaluation, calls_on, ends_well, end_of, Evaluates, EvaluatesText};
 
 use crate::gathering::Gathering;
-use checked_program::{Accepted, accept_to_write};
+use checked_program::{Accepted, accept_to_write, dismiss};
 use delta_end::End;
 use delta_loop::{canonical_frames, run_machine, send};
 use delta_meaning::{EvalRefusal, eval};
@@ -179,7 +179,7 @@ pub fn eval_source<L: Link>(
     match accept_to_write(alloc, text, version) {
         Ok(accepted) => {
             let end = eval_program(alloc, &accepted, budget, version, link);
-            drop(accepted);
+            dismiss(accepted);
             end
         }
         Err(TextFault::Memory) => End::Memory,

@@ -8,7 +8,7 @@ ghost use Rattle.command_feed.specs.Feeding.{Tells, IsFed, IsOfFeed};
 ghost use Rattle.command_feed.specs.Given.{AreHeld, IsUnwritten};
 
 use crate::running::text_given;
-use checked_program::accept;
+use checked_program::{accept, dismiss};
 use delta_end::End;
 use delta_loop::send;
 use delta_state::Machine;
@@ -42,7 +42,7 @@ fn text_fed<M: Machine, S: Shelf>(
                 budget,
                 shelf,
             );
-            drop(accepted);
+            dismiss(accepted);
             given
         }
         Err(TextFault::Memory) => Err(End::Memory),

@@ -7,7 +7,7 @@ ghost use Rattle.delta_loop.specs.Answer.{Adds, ReadsWell};
 ghost use Rattle.command_resume.specs.Texts.{ResumesText};
 
 use crate::resuming::resume_checked;
-use checked_program::accept_to_write;
+use checked_program::{accept_to_write, dismiss};
 use delta_end::End;
 use event_frame::Version;
 use machine_kept::Keeping;
@@ -50,7 +50,7 @@ pub fn resume_source<M: Keeping, L: Link, S: Shelf>(
                 link,
                 shelf,
             );
-            drop(accepted);
+            dismiss(accepted);
             end
         }
         Err(TextFault::Memory) => End::Memory,

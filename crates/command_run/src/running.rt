@@ -4,7 +4,7 @@ ghost use Rattle.std.specs.Prelude.{◌≤◌};
 ghost use Rattle.delta_end.specs.End.{ReadCause, WriteCause};
 ghost use Rattle.command_run.specs.Running.{RunsText};
 
-use checked_program::accept_to_write;
+use checked_program::{accept_to_write, dismiss};
 use delta_end::End;
 use delta_runner::run_checked;
 use delta_state::Machine;
@@ -31,7 +31,7 @@ pub fn run_source<M: Machine, L: Link>(
     match accept_to_write(alloc, text, version) {
         Ok(accepted) => {
             let end = run_checked::<M, L>(alloc, &accepted.checked, budget, version, link);
-            drop(accepted);
+            dismiss(accepted);
             end
         }
         Err(TextFault::Memory) => End::Memory,

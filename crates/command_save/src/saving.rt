@@ -5,7 +5,7 @@ ghost use Rattle.delta_end.specs.End.{FileCause, ReadCause, WriteCause};
 ghost use Rattle.command_save.specs.Saving.{SavesText};
 
 use crate::keeping::save_checked;
-use checked_program::accept_to_write;
+use checked_program::{accept_to_write, dismiss};
 use delta_end::End;
 use event_frame::Version;
 use machine_kept::Keeping;
@@ -44,7 +44,7 @@ pub fn save_source<M: Keeping, L: Link, S: Shelf>(
                 link,
                 shelf,
             );
-            drop(accepted);
+            dismiss(accepted);
             end
         }
         Err(TextFault::Memory) => End::Memory,

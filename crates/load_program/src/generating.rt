@@ -9,7 +9,7 @@ ghost use Rattle.delta_load.specs.Counting.{totals_of};
 ghost use Rattle.delta_load.specs.Summary.{summary_of};
 ghost use Rattle.load_program.specs.LoadCore.{load_core};
 
-use checked_program::accept;
+use checked_program::{accept, dismiss};
 use core_term::Checked;
 use delta_load::{LoadFault, Totals, run_load, summary_line};
 use delta_state::Machine;
@@ -52,7 +52,7 @@ pub fn count_output<M: Machine>(alloc: Global, start: u64, items: u64) -> Result
     match accept(alloc, LOAD_TEXT) {
         Ok(accepted) => {
             let counted = count_checked::<M>(alloc, &accepted.checked, start, items);
-            drop(accepted);
+            dismiss(accepted);
             counted
         }
         Err(TextFault::Memory) => Err(Memory),

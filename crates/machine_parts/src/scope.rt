@@ -53,7 +53,11 @@ fn type_over<'a>(entries: &'a [Entry], x: Name, below: &'a Ty) -> &'a Ty
     match entries.split_first() {
         None => below,
         Some((first, rest)) => {
-            let found = if x.0 == first.name.0 { &first.ty } else { below };
+            let found = if x.0 == first.name.0 {
+                &first.ty
+            } else {
+                below
+            };
             type_over(rest, x, found)
         }
     }
@@ -101,7 +105,11 @@ fn stream_over<'a>(entries: &'a [Entry], x: Name, below: &'a Prefix) -> &'a Pref
     match entries.split_first() {
         None => below,
         Some((first, rest)) => {
-            let found = if x.0 == first.name.0 { &first.prefix } else { below };
+            let found = if x.0 == first.name.0 {
+                &first.prefix
+            } else {
+                below
+            };
             stream_over(rest, x, found)
         }
     }
