@@ -1,9 +1,15 @@
 -- Where going over bytes ends is where their fault of form is.
-use Rattle.std.proofs.Common.{◌≡◌, ◌∙◌, ◌<◌, ◌≤◌, ◌+◌, ◌-◌, ℕ, suc, Bool, true, false, List, [], ◌∷◌, length, ap, refl, subst, arith}
-use Rattle.std.specs.Prelude.{Option, Some, None, nat_lt, if◌then◌else◌, option_map}
+use Rattle.std.proofs.Common.{◌≡◌, ◌∙◌, ◌<◌, ◌≤◌, ◌+◌, ◌-◌, ℕ, suc, Bool, true, false, List, [], ◌∷◌, ◌++◌, length, ap, refl, subst, arith}
+use Rattle.std.specs.Prelude.{Option, Some, None, Err, nat_lt, if◌then◌else◌, option_map}
+use Rattle.std.proofs.lemmas.List.{append-nil}
 use Rattle.std.proofs.lemmas.Bool.{ltb-true, ltb-false}
 use Rattle.kept_state.specs.KeptBytes.{most_bytes}
 use Rattle.kept_state.specs.KeptForm.{Part, settle, after_byte, is_whole, go_on, fault_from, kept_parts, bad_form, bad_version, version_fault, or_else, form_fault}
+use Rattle.delta_keep.specs.declared.halt.Halt.{Halt}
+use Rattle.delta_keep.specs.declared.halt.Halt.TheVariants.{Memory, At}
+use Rattle.delta_keep.specs.declared.kept.Kept.{Kept}
+use Rattle.delta_keep.specs.Reading.{Ends}
+use Rattle.delta_keep.specs.Reads.{Stops}
 use Rattle.delta_keep.specs.Walking.{Walk, passed, stuck, walk_on, walk}
 
 -- how many bytes are left
@@ -74,6 +80,16 @@ ends_stopped bytes left h = (
   subst (λ w. left_of w ≤ length bytes) h (left_within kept_parts bytes),
   fault_is kept_parts 0 bytes ∙ (ap (place_of 0 (length bytes)) h ∙ ap Some (let e : 0 + (length bytes - left) ≡ length bytes - left = omega arith in e)),
 )
+
+-- whatever stopped it
+pub ends_so : (bytes : List ℕ) (e : Halt) → Stops kept_parts bytes e → Ends {K = Kept} bytes (Err e) (fault_from kept_parts 0 bytes)
+ends_so bytes Memory h = tt
+ends_so bytes (At left) h = ends_stopped bytes left h
+
+-- nothing stands behind
+pub whole : (bytes w rest : List ℕ) → bytes ≡ w ++ rest → length rest ≡ 0 → bytes ≡ w
+whole bytes w [] h e = h ∙ append-nil w
+whole bytes w (b ∷ rest) h e = absurd (omega (arith, e))
 
 -- a comparison by its outcome
 not_below : (n : ℕ) → n ≤ most_bytes → nat_lt most_bytes n ≡ false

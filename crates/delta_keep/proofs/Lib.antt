@@ -1,10 +1,12 @@
 -- The lemmas.
 pub mod Joined
 pub mod Lists
+pub mod PutInTurn
 pub mod Trees
 pub mod PlacedBytes
 pub mod Walks
+pub mod Pieces
 pub mod ReadLists
-pub mod Passing
-pub mod ReadCases
+pub mod Sizes
+pub mod Shapes
 pub mod Faults

@@ -1,81 +1,99 @@
--- Lists read item by item, and a node read with its term.
-use Rattle.std.proofs.Common.{◌≡◌, ◌∙◌, ◌<◌, ◌≤◌, ◌^◌, ◌+◌, ◌-◌, ℕ, suc, List, [], ◌∷◌, ◌++◌, map, length, ap, sym, refl, arith, append_assoc}
-use Rattle.core_term.specs.declared.term.Node.{Node}
-use Rattle.core_term.specs.declared.term.Term.{Term}
+-- Lists read item by item.
+use Rattle.std.proofs.Common.{◌≡◌, ◌∙◌, ◌<◌, ◌+◌, ◌-◌, ℕ, suc, List, [], ◌∷◌, ◌++◌, map, length, ap, sym, refl, arith, subst}
+use Rattle.std.specs.List.{AllByRecursion}
+use Rattle.std.proofs.lemmas.List.{map-append, length-map}
 use Rattle.kept_state.specs.KeptBytes.{short_bytes, list_bytes}
-use Rattle.kept_state.specs.KeptForm.{Item, any, items, list_part, item_parts, settle}
-use Rattle.std.specs.Prelude.{Err}
+use Rattle.kept_state.specs.KeptForm.{Item, bool_item, type_item, prefix_item, value_item, expr_item, node_item, known_item, held_item, argument_item, any, items, list_part, item_parts, settle}
+use Rattle.kept_state.specs.KeptSizes.{FitsShort}
 use Rattle.delta_keep.specs.declared.halt.Halt.{Halt}
 use Rattle.delta_keep.specs.declared.halt.Halt.TheVariants.{Memory, At}
-use Rattle.delta_keep.specs.Written.{written_term, written_node}
-use Rattle.delta_keep.specs.Walking.{walk, passed, stuck, Walks}
+use Rattle.delta_keep.specs.Walking.{Walk, walk, passed, stuck}
+use Rattle.delta_keep.specs.Reads.{Read, Stops, FitsList}
 use Rattle.delta_keep.proofs.Lists.{items_bytes, read_next, read_all, count_next}
 use Rattle.delta_keep.proofs.Walks.{◌>>=◌, next_item, listed}
-use Rattle.delta_keep.proofs.Passing.{Halts}
 
 -- of a list of so many items, whose bytes begin here, these n are read, and these bytes are left
-pub record ReadSome {A B : Type 0} (item : Item) (f : B → List ℕ) (g : A → B) (many : ℕ) (start : List ℕ) (n : ℕ) (xs : List A) (rest : List ℕ) : Type 0 where
+pub record ReadSome {A B : Type 0} (item : Item) (f : B → List ℕ) (g : A → B) (Fits : B → Type 0) (many : ℕ) (start : List ℕ) (n : ℕ) (xs : List A) (rest : List ℕ) : Type 0 where
   pub spelled : start ≡ items_bytes f g xs ++ rest
-  pub within : length rest ≤ length start
   pub counted : length xs ≡ n
   pub walked : walk (settle (items many item ∷ [])) start ≡ walk (settle (items (many - n) item ∷ [])) rest
+  pub sizes : AllByRecursion Fits (map g xs)
+
+-- a fact of all is one of one more
+all_more : {B : Type 0} (Fits : B → Type 0) (ys : List B) (y : B) → AllByRecursion Fits ys → Fits y → AllByRecursion Fits (ys ++ y ∷ [])
+all_more Fits [] y h k = (k, tt)
+all_more Fits (z ∷ ys) y (h, hs) k = (h, all_more Fits ys y hs k)
+
+-- the parts of an item begin with a byte
+settled : (item : Item) → settle (item_parts item) ≡ item_parts item
+settled bool_item = refl
+settled type_item = refl
+settled prefix_item = refl
+settled value_item = refl
+settled expr_item = refl
+settled node_item = refl
+settled known_item = refl
+settled held_item = refl
+settled argument_item = refl
+
+item_walk : (item : Item) (rest : List ℕ) (w : Walk) → walk (settle (item_parts item)) rest ≡ w → walk (item_parts item) rest ≡ w
+item_walk item rest w h = ap (λ ps. walk ps rest) (sym (settled item)) ∙ h
+
+-- none are read yet
+pub none_read : {A B : Type 0} (item : Item) (f : B → List ℕ) (g : A → B) (Fits : B → Type 0) (many : ℕ) (start : List ℕ) (xs : List A) → xs ≡ [] → ReadSome item f g Fits many start 0 xs start
+none_read item f g Fits many start xs q = rw q (record { spelled = refl; counted = refl; walked = ap (λ m. walk (settle (items m item ∷ [])) start) (let k : many ≡ many - 0 = omega arith in k); sizes = tt })
 
 -- with one more
-pub read_one_more : {A B : Type 0} (item : Item) (f : B → List ℕ) (g : A → B) (many : ℕ) (start : List ℕ) (n : ℕ) (xs next : List A) (x y : A) (rest behind : List ℕ) → ReadSome item f g many start n xs rest → n < many → next ≡ xs ++ x ∷ [] → x ≡ y
-    → rest ≡ f (g y) ++ behind → length behind < length rest → walk (item_parts item) rest ≡ passed behind → ReadSome item f g many start (n + 1) next behind
-read_one_more item f g many start n xs next x y rest behind h l p q e s w = record {
-  spelled = read_next f g xs next x y start rest behind p q h.spelled e;
-  within = let k = h.within in omega (arith, k, s);
+pub read_one_more : {A B : Type 0} {item : Item} {f : B → List ℕ} {g : A → B} {Fits : B → Type 0} {many n : ℕ} {start rest behind : List ℕ} {xs next : List A} {x y : A} → ReadSome item f g Fits many start n xs rest → n < many → next ≡ xs ++ x ∷ [] → x ≡ y
+    → Read (item_parts item) rest (f (g y)) behind (Fits (g y)) → ReadSome item f g Fits many start (n + 1) next behind
+read_one_more {A} {B} {item} {f} {g} {Fits} {many} {n} {start} {rest} {behind} {xs} {next} {x} {y} h l p q r = record {
+  spelled = read_next f g xs next x y start rest behind p q h.spelled r.spelled;
   counted = count_next xs next x n p h.counted;
   walked =
       h.walked
       ∙ (ap (λ m. walk (settle (items m item ∷ [])) rest) (let k : many - n ≡ suc (many - (n + 1)) = omega (arith, l) in k)
-      ∙ (next_item item (many - (n + 1)) rest ∙ ap (λ v. v >>= λ r. walk (settle (items (many - (n + 1)) item ∷ [])) r) w));
+      ∙ (next_item item (many - (n + 1)) rest ∙ ap (λ v. v >>= λ s. walk (settle (items (many - (n + 1)) item ∷ [])) s) (item_walk item rest (passed behind) r.walked)));
+  sizes =
+      subst (AllByRecursion Fits)
+      (sym (map-append g xs (y ∷ [])) ∙ ap (map g) (ap (λ z. xs ++ z ∷ []) (sym q) ∙ sym p))
+      (all_more Fits (map g xs) (g y) h.sizes r.sizes);
 }
 
 -- where it stops at the next
-pub list_stuck : {A B : Type 0} (item : Item) (f : B → List ℕ) (g : A → B) (many : ℕ) (bytes start : List ℕ) (n : ℕ) (xs : List A) (rest : List ℕ) (left : ℕ) → many < 2 ^ 32 → bytes ≡ short_bytes many ++ start → ReadSome item f g many start n xs rest → n < many
-    → walk (item_parts item) rest ≡ stuck left → walk (list_part item ∷ []) bytes ≡ stuck left
-list_stuck item f g many bytes start n xs rest left small e h l w =
-    listed item many bytes start small e
+pub list_stops : {A B : Type 0} (item : Item) {f : B → List ℕ} {g : A → B} {Fits : B → Type 0} {many n : ℕ} {bytes start rest : List ℕ} {xs : List A} (e : Halt) → Read (any 4 ∷ []) bytes (short_bytes many) start (FitsShort many) → ReadSome item f g Fits many start n xs rest → n < many
+    → Stops (item_parts item) rest e → Stops (list_part item ∷ []) bytes e
+list_stops item Memory c h l w = tt
+list_stops {A} {B} item {f} {g} {Fits} {many} {n} {bytes} {start} {rest} {xs} (At left) c h l w =
+    listed item many bytes start c.sizes c.spelled
     ∙ (h.walked
     ∙ (ap (λ m. walk (settle (items m item ∷ [])) rest) (let k : many - n ≡ suc (many - (n + 1)) = omega (arith, l) in k)
-    ∙ (next_item item (many - (n + 1)) rest ∙ ap (λ v. v >>= λ r. walk (settle (items (many - (n + 1)) item ∷ [])) r) w)))
-
--- so it does whatever stopped it
-pub list_halts : {A B : Type 0} (item : Item) (f : B → List ℕ) (g : A → B) (many : ℕ) (bytes start : List ℕ) (n : ℕ) (xs : List A) (rest : List ℕ) (e : Halt) → many < 2 ^ 32 → bytes ≡ short_bytes many ++ start → ReadSome item f g many start n xs rest → n < many
-    → Walks {V = List ℕ} (λ x. x) (Err e) (walk (item_parts item) rest) → Walks {V = List ℕ} (λ x. x) (Err e) (walk (list_part item ∷ []) bytes)
-list_halts item f g many bytes start n xs rest Memory small h k l w = tt
-list_halts item f g many bytes start n xs rest (At left) small h k l w = list_stuck item f g many bytes start n xs rest left small h k l w
-
--- when all are read
-pub list_walked : {A B : Type 0} (item : Item) (f : B → List ℕ) (g : A → B) (many : ℕ) (bytes start : List ℕ) (n : ℕ) (xs : List A) (rest : List ℕ) → many < 2 ^ 32 → bytes ≡ short_bytes many ++ start → ReadSome item f g many start n xs rest → many ≤ n
-    → walk (list_part item ∷ []) bytes ≡ passed rest
-list_walked item f g many bytes start n xs rest small e h l =
-    listed item many bytes start small e ∙ (h.walked ∙ ap (λ m. walk (settle (items m item ∷ [])) rest) (let k : many - n ≡ 0 = omega (arith, l) in k))
-
--- a node that has a term which was read
-pub read_node_is : (at : ℕ) (n : Node) (t : Term) (bytes rest : List ℕ) → n ≡ record { at = at; term = t } → bytes ≡ written_term t ++ rest → short_bytes at ++ bytes ≡ written_node n ++ rest
-read_node_is at n t bytes rest is h = ap (λ bs. short_bytes at ++ bs) h ∙ (sym (append_assoc (short_bytes at) (written_term t) rest) ∙ ap (λ m. written_node m ++ rest) (sym is))
+    ∙ (next_item item (many - (n + 1)) rest ∙ ap (λ v. v >>= λ s. walk (settle (items (many - (n + 1)) item ∷ [])) s) (item_walk item rest (stuck left) w))))
 
 -- where its count isn't read
-pub count_halts : (item : Item) (bytes : List ℕ) (e : Halt) → Halts e (walk (any 4 ∷ []) bytes) → Halts e (walk (list_part item ∷ []) bytes)
-count_halts item [] e h = h
-count_halts item (a ∷ []) e h = h
-count_halts item (a ∷ b ∷ []) e h = h
-count_halts item (a ∷ b ∷ c ∷ []) e h = h
-count_halts item (a ∷ b ∷ c ∷ d ∷ bs) Memory h = tt
-count_halts item (a ∷ b ∷ c ∷ d ∷ bs) (At left) h = cc
+pub count_stops : (item : Item) (bytes : List ℕ) (e : Halt) → Stops (any 4 ∷ []) bytes e → Stops (list_part item ∷ []) bytes e
+count_stops item [] e h = h
+count_stops item (a ∷ []) e h = h
+count_stops item (a ∷ b ∷ []) e h = h
+count_stops item (a ∷ b ∷ c ∷ []) e h = h
+count_stops item (a ∷ b ∷ c ∷ d ∷ bs) Memory h = tt
+count_stops item (a ∷ b ∷ c ∷ d ∷ bs) (At left) h = cc
 
--- what is left is less than there was
-pub list_less : {A B : Type 0} (item : Item) (f : B → List ℕ) (g : A → B) (many : ℕ) (bytes start : List ℕ) (n : ℕ) (xs : List A) (rest : List ℕ) → length start < length bytes → ReadSome item f g many start n xs rest → length rest < length bytes
-list_less item f g many bytes start n xs rest l h = let k = h.within in omega (arith, k, l)
+-- when all are read
+pub list_read : {A B : Type 0} {item : Item} {f : B → List ℕ} {g : A → B} {Fits : B → Type 0} {many n : ℕ} {bytes start rest : List ℕ} {xs : List A} → Read (any 4 ∷ []) bytes (short_bytes many) start (FitsShort many) → ReadSome item f g Fits many start n xs rest → n ≡ many
+    → Read (list_part item ∷ []) bytes (list_bytes f (map g xs)) rest (FitsList Fits (map g xs))
+list_read {A} {B} {item} {f} {g} {Fits} {many} {n} {bytes} {start} {rest} {xs} c h q = record {
+  spelled = read_all f g xs many bytes start rest c.spelled h.spelled (h.counted ∙ q);
+  walked =
+      listed item many bytes start c.sizes c.spelled
+      ∙ (h.walked ∙ ap (λ m. walk (settle (items m item ∷ [])) rest) (let k : many - n ≡ 0 = omega (arith, q) in k));
+  sizes = (subst FitsShort (sym (length-map xs g ∙ (h.counted ∙ q))) c.sizes, h.sizes);
+}
 
--- the bytes of all that were read
-pub list_spelled : {A B : Type 0} (item : Item) (f : B → List ℕ) (g : A → B) (many : ℕ) (bytes start : List ℕ) (n : ℕ) (xs : List A) (rest : List ℕ) → bytes ≡ short_bytes many ++ start → ReadSome item f g many start n xs rest → n ≡ many
-    → bytes ≡ list_bytes f (map g xs) ++ rest
-list_spelled item f g many bytes start n xs rest e h q = read_all f g xs many bytes start rest e h.spelled (h.counted ∙ q)
+-- where the items are told as they are
+map_same : {A : Type 0} (xs : List A) → map (λ x. x) xs ≡ xs
+map_same [] = refl
+map_same (x ∷ xs) = ap (λ ys. x ∷ ys) (map_same xs)
 
--- none are read yet
-pub none_read : {A B : Type 0} (item : Item) (f : B → List ℕ) (g : A → B) (many : ℕ) (start : List ℕ) (xs : List A) → xs ≡ [] → ReadSome item f g many start 0 xs start
-none_read item f g many start xs q = rw q (record { spelled = refl; within = omega arith; counted = refl; walked = ap (λ m. walk (settle (items m item ∷ [])) start) (let k : many ≡ many - 0 = omega arith in k) })
+pub list_read_same : {A : Type 0} {item : Item} {f : A → List ℕ} {Fits : A → Type 0} {many n : ℕ} {bytes start rest : List ℕ} {xs : List A} → Read (any 4 ∷ []) bytes (short_bytes many) start (FitsShort many) → ReadSome item f (λ x. x) Fits many start n xs rest → n ≡ many
+    → Read (list_part item ∷ []) bytes (list_bytes f xs) rest (FitsList Fits xs)
+list_read_same {A} {item} {f} {Fits} {many} {n} {bytes} {start} {rest} {xs} c h q = subst (λ ys. Read (list_part item ∷ []) bytes (list_bytes f ys) rest (FitsList Fits ys)) (map_same xs) (list_read c h q)

@@ -29,7 +29,7 @@ use Rattle.delta_keep.specs.declared.kept.KeptState.TheVariants.{Frame}
 use Rattle.delta_keep.specs.Written.{written_term, written_nodes, nodes_of, written_node, written_state, written_arguments, arguments_in, written_argument}
 
 -- a star's items, and what stands after them
-whole-star_of : (ps : List StreamPrefix) (e : StarEnd) → whole_items (star_of ps (end_of e)) ≡ length ps
+pub whole-star_of : (ps : List StreamPrefix) (e : StarEnd) → whole_items (star_of ps (end_of e)) ≡ length ps
 whole-star_of [] Emp = refl
 whole-star_of [] Done = refl
 whole-star_of [] (First' x p) = refl
@@ -50,7 +50,7 @@ pub star_bytes : (v : Vec Prefix Global) (e : StarEnd) → prefix_bytes (prefix_
 star_bytes v e = ap prefix_bytes (prefix_of-star v e) ∙ bytes-star_of (map prefix_of v.items) e
 
 -- the items of a list's value
-count-list_of : (vs : List HistValue) → item_count (list_of vs) ≡ length vs
+pub count-list_of : (vs : List HistValue) → item_count (list_of vs) ≡ length vs
 count-list_of [] = refl
 count-list_of (v ∷ vs) = ap suc (count-list_of vs)
 
@@ -62,7 +62,7 @@ bytes-list_of : (vs : List HistValue) → value_bytes (list_of vs) ≡ 5 ∷ lis
 bytes-list_of [] = refl
 bytes-list_of (v ∷ vs) = ap₂ (λ n bs. 5 ∷ short_bytes n ++ bs) (count-list_of (v ∷ vs)) (items-list_of (v ∷ vs))
 
-row_of-list : (m : Count) (k : Row_of-Value m) → row_of k ≡ map hist_value_of (items-the_row-Value m k)
+pub row_of-list : (m : Count) (k : Row_of-Value m) → row_of k ≡ map hist_value_of (items-the_row-Value m k)
 row_of-list m end_of-Value = refl
 row_of-list m (more_of-Value v k) = cc (row_of-list _ k)
 
@@ -76,7 +76,7 @@ nodes-list : (m : Count) (k : Row_of-Node m) → written_nodes k ≡ concat (map
 nodes-list m end_of-Node = refl
 nodes-list m (more_of-Node i a k) = ap (λ bs. (short_bytes i ++ written_term a) ++ bs) (nodes-list _ k)
 
-count-nodes : (m : Count) (k : Row_of-Node m) → nodes_of k ≡ length (items-the_row-Node m k)
+pub count-nodes : (m : Count) (k : Row_of-Node m) → nodes_of k ≡ length (items-the_row-Node m k)
 count-nodes m end_of-Node = refl
 count-nodes m (more_of-Node i a k) = ap suc (count-nodes _ k)
 
@@ -90,7 +90,7 @@ arguments-list : (m : Count) (k : Row_of-Argument m) → written_arguments k ≡
 arguments-list m end_of-Argument = refl
 arguments-list m (more_of-Argument x t p s k) = cc (arguments-list _ k)
 
-count-arguments : (m : Count) (k : Row_of-Argument m) → arguments_in k ≡ length (items-the_row-Argument m k)
+pub count-arguments : (m : Count) (k : Row_of-Argument m) → arguments_in k ≡ length (items-the_row-Argument m k)
 count-arguments m end_of-Argument = refl
 count-arguments m (more_of-Argument x t p s k) = ap suc (count-arguments _ k)
 
@@ -107,34 +107,9 @@ put_list out mid next v items seen is e h k =
     ∙ (ap₂ (λ bs ys. bs ++ list_bytes value_bytes (map hist_value_of ys)) h e
     ∙ (append_assoc out (5 ∷ []) (list_bytes value_bytes (map hist_value_of items.items)) ∙ ap (λ bs. out ++ bs) (sym (list_value_bytes items) ∙ ap (λ w. value_bytes (hist_value_of w)) (sym is))))
 
--- a star's prefix, read
-pub read_star_is : (bytes mid rest : List ℕ) (p : Prefix) (items : Vec Prefix Global) (e f : StarEnd) → p ≡ Star items e → e ≡ f → bytes ≡ list_bytes prefix_bytes (map prefix_of items.items) ++ mid → mid ≡ rest_bytes (end_of f) ++ rest → 11 ∷ bytes ≡ prefix_bytes (prefix_of p) ++ rest
-read_star_is bytes mid rest p items e f is same h k =
-    ap (λ bs. 11 ∷ bs) (h ∙ (ap (λ bs. list_bytes prefix_bytes (map prefix_of items.items) ++ bs) (k ∙ ap (λ d. rest_bytes (end_of d) ++ rest) (sym same)) ∙ sym (append_assoc (list_bytes prefix_bytes (map prefix_of items.items)) (rest_bytes (end_of e)) rest)))
-    ∙ ap (λ bs. bs ++ rest) (sym (ap (λ q. prefix_bytes (prefix_of q)) is ∙ star_bytes items e))
-
--- a list's value, read
-pub read_list_is : (bytes rest : List ℕ) (v : Value) (items : Vec Value Global) → v ≡ ListValue items → bytes ≡ list_bytes value_bytes (map hist_value_of items.items) ++ rest → 5 ∷ bytes ≡ value_bytes (hist_value_of v) ++ rest
-read_list_is bytes rest v items is h = ap (λ bs. 5 ∷ bs) h ∙ ap (λ bs. bs ++ rest) (sym (ap (λ w. value_bytes (hist_value_of w)) is ∙ list_value_bytes items))
-
--- a call, read
-pub read_call_is : (bytes a b rest : List ℕ) (f : ℕ) (ms : Vec Expr Global) (es : Vec Node Global) → bytes ≡ short_bytes f ++ a → a ≡ list_bytes expr_bytes (map expr_of ms.items) ++ b → b ≡ list_bytes written_node es.items ++ rest → 16 ∷ bytes ≡ written_term (Call f ms es) ++ rest
-read_call_is bytes a b rest f ms es h k l =
-    ap (λ bs. 16 ∷ bs)
-    (h
-    ∙ ap (λ bs. short_bytes f ++ bs)
-    (k ∙ (ap (λ bs. list_bytes expr_bytes (map expr_of ms.items) ++ bs) l ∙ sym (append_assoc (list_bytes expr_bytes (map expr_of ms.items)) (list_bytes written_node es.items) rest))))
-    ∙ ap (λ bs. bs ++ rest) (sym (call_bytes f ms es))
-
 -- a frame's bytes
 pub frame_bytes : (args : Vec Argument Global) (s : Box KeptState Global) → written_state (Frame args s) ≡ 10 ∷ list_bytes written_argument args.items ++ written_state s.value
 frame_bytes args s = ap (λ bs. 10 ∷ bs ++ written_state s.value) (arguments_bytes_are args)
-
--- a frame, read
-pub read_frame_is : (bytes mid rest : List ℕ) (f : KeptState) (args : Vec Argument Global) (s : Box KeptState Global) → f ≡ Frame args s → bytes ≡ list_bytes written_argument args.items ++ mid → mid ≡ written_state s.value ++ rest → 10 ∷ bytes ≡ written_state f ++ rest
-read_frame_is bytes mid rest f args s is h k =
-    ap (λ bs. 10 ∷ bs) (h ∙ (ap (λ bs. list_bytes written_argument args.items ++ bs) k ∙ sym (append_assoc (list_bytes written_argument args.items) (written_state s.value) rest)))
-    ∙ ap (λ bs. bs ++ rest) (sym (ap written_state is ∙ frame_bytes args s))
 
 -- for functions over the trees
 pub ruleset trees = (append_assoc, star_bytes, list_value_bytes, call_bytes, frame_bytes, arguments_bytes_are)

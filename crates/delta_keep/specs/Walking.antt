@@ -5,10 +5,8 @@
 --   what stands there, so that a reader of a part can be spoken of alone.
 -- - Where it ends is told by what is left, and not by a place, so that no reader has to know where it began.
 -- - What is awaited begins with a part that has a byte (`settle` of the grammar gives such a list).
-use Rattle.std.specs.Prelude.{ℕ, suc, ◌≡◌, ⊤, List, [], ◌∷◌, length, Option, Some, None, Result, Ok, Err}
+use Rattle.std.specs.Prelude.{ℕ, suc, List, [], ◌∷◌, length, Option, Some, None}
 use Rattle.kept_state.specs.KeptForm.{Part, settle, after_byte}
-use Rattle.delta_keep.specs.declared.halt.Halt.{Halt}
-use Rattle.delta_keep.specs.declared.halt.Halt.TheVariants.{Memory, At}
 
 -- how going over bytes ends
 pub data Walk : Type 0 where
@@ -27,10 +25,3 @@ abbrev pub walk : List Part → List ℕ → Walk
 walk [] bytes = passed bytes
 walk (part ∷ parts) [] = stuck 0
 walk (part ∷ parts) (byte ∷ bytes) = walk_on (after_byte (part ∷ parts) byte) (suc (length bytes)) (λ next. walk (settle next) bytes)
-
--- a reader answers the bytes behind what was awaited, or how many are left where it stopped. Nothing is said of want
--- of memory
-abbrev pub Walks : {V : Type 0} → (V → List ℕ) → Result V Halt → Walk → Type 0
-Walks rest (Ok v) w = w ≡ passed (rest v)
-Walks rest (Err Memory) w = ⊤
-Walks rest (Err (At left)) w = w ≡ stuck left

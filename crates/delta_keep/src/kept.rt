@@ -99,3 +99,9 @@ pub struct Kept {
     /// The state, with its marks.
     pub state: Box<KeptState>,
 }
+
+/// Drops a kept state. The crates above call this: one that drops a kept state by itself has the drop of each
+/// form of its trees proved once more.
+pub fn dismiss(k: Kept) {
+    drop(k)
+}

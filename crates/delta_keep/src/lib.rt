@@ -4,6 +4,7 @@
 mod fault;
 mod halt;
 mod kept;
+mod output;
 mod put_numbers;
 mod put_parts;
 mod put_states;
@@ -20,7 +21,7 @@ mod refusal;
 mod saving;
 
 pub use fault::ReadFault;
-pub use kept::{Argument, HeldName, Kept, KeptState, Known, Waiting};
+pub use kept::{Argument, HeldName, Kept, KeptState, Known, Waiting, dismiss};
 pub use reading::read_kept;
 pub use refusal::SaveRefusal;
 pub use saving::save;

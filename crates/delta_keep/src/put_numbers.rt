@@ -1,69 +1,53 @@
 //! Numbers as bytes, the most significant first.
 
-ghost use Rattle.std.specs.Prelude.{◌≡◌, ◌∷◌, [], ◌++◌, ◌%◌, ◌^◌, OnOk};
+ghost use Rattle.std.specs.Prelude.{◌∷◌, ◌++◌};
 ghost use Rattle.kept_state.specs.KeptBytes.{short_bytes, long_bytes, int_bytes};
+ghost use Rattle.delta_keep.specs.Putting.{Puts};
 
+use crate::output::{Output, put_byte, put_bytes};
 use bunch::Name;
-use stream_type::Memory;
-
-/// Appends a byte.
-pub(crate) fn put_byte(out: &mut Vec<u8>, byte: u8) -> Result<(), Memory>
-    ensures { OnOk result (out.new.items ≡ out.old.items ++ byte ∷ []) }
-{
-    out.push(byte)?;
-    Ok(())
-}
 
 /// Appends four bytes: a place, or the number of a function.
-pub(crate) fn put_short(out: &mut Vec<u8>, n: u32) -> Result<(), Memory>
-    ensures { OnOk result (out.new.items ≡ out.old.items ++ short_bytes n) }
+pub(crate) fn put_short(out: &mut Output, n: u32)
+    ensures { Puts out.old out.new (short_bytes n) }
 {
-    out.extend_from_slice(&n.to_be_bytes())?;
-    Ok(())
+    put_bytes(out, &n.to_be_bytes());
 }
 
 /// Appends a name.
-pub(crate) fn put_name(out: &mut Vec<u8>, x: Name) -> Result<(), Memory>
-    ensures { OnOk result (out.new.items ≡ out.old.items ++ short_bytes x.0) }
+pub(crate) fn put_name(out: &mut Output, x: Name)
+    ensures { Puts out.old out.new (short_bytes x.0) }
 {
-    put_short(out, x.0)
+    put_short(out, x.0);
 }
 
 /// Appends a count of items, of which the last 32 bits are written: a list that is longer has too many bytes.
-pub(crate) fn put_count(out: &mut Vec<u8>, n: usize) -> Result<(), Memory>
-    ensures { OnOk result (out.new.items ≡ out.old.items ++ short_bytes n) }
+pub(crate) fn put_count(out: &mut Output, n: usize)
+    ensures { Puts out.old out.new (short_bytes n) }
 {
-    put_short(out, (n % 4_294_967_296) as u32)
+    put_short(out, (n % 4_294_967_296) as u32);
 }
 
 /// Appends eight bytes: a number of events, or a depth.
-pub(crate) fn put_long(out: &mut Vec<u8>, n: u64) -> Result<(), Memory>
-    ensures { OnOk result (out.new.items ≡ out.old.items ++ long_bytes n) }
+pub(crate) fn put_long(out: &mut Output, n: u64)
+    ensures { Puts out.old out.new (long_bytes n) }
 {
-    out.extend_from_slice(&n.to_be_bytes())?;
-    Ok(())
+    put_bytes(out, &n.to_be_bytes());
 }
 
 /// Appends a number with its sign.
-pub(crate) fn put_int(out: &mut Vec<u8>, n: i64) -> Result<(), Memory>
-    ensures { OnOk result (out.new.items ≡ out.old.items ++ int_bytes n) }
+pub(crate) fn put_int(out: &mut Output, n: i64)
+    ensures { Puts out.old out.new (int_bytes n) }
 {
-    out.extend_from_slice(&n.to_be_bytes())?;
-    Ok(())
+    put_bytes(out, &n.to_be_bytes());
 }
 
 /// Appends a form and its three names.
-pub(crate) fn put_form_names(
-    out: &mut Vec<u8>,
-    form: u8,
-    x: Name,
-    y: Name,
-    z: Name,
-) -> Result<(), Memory>
-    ensures { OnOk result (out.new.items ≡ out.old.items ++ (form ∷ short_bytes x.0 ++ (short_bytes y.0 ++ short_bytes z.0))) }
+pub(crate) fn put_form_names(out: &mut Output, form: u8, x: Name, y: Name, z: Name)
+    ensures { Puts out.old out.new (form ∷ short_bytes x.0 ++ (short_bytes y.0 ++ short_bytes z.0)) }
 {
-    put_byte(out, form)?;
-    put_name(out, x)?;
-    put_name(out, y)?;
-    put_name(out, z)
+    put_byte(out, form);
+    put_name(out, x);
+    put_name(out, y);
+    put_name(out, z);
 }

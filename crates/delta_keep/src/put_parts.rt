@@ -1,25 +1,26 @@
 //! Types, prefixes, values and historical expressions as bytes.
 
-ghost use Rattle.std.specs.Prelude.{◌≡◌, ◌∷◌, [], ◌++◌, map, OnOk};
+ghost use Rattle.std.specs.Prelude.{◌≡◌, ◌∷◌, ◌++◌, map};
 ghost use Rattle.stream_type.specs.StreamType.{type_of};
 ghost use Rattle.stream_prefix.specs.Tree.{prefix_of, end_of};
 ghost use Rattle.hist_value.specs.HistValue.{hist_value_of};
 ghost use Rattle.hist_value.specs.HistExpr.{expr_of};
 ghost use Rattle.kept_state.specs.KeptBytes.{short_bytes, list_bytes, bool_bytes, type_bytes, prefix_bytes, rest_bytes, value_bytes, op_byte, expr_bytes, known_bytes, held_name_bytes};
 ghost use Rattle.delta_keep.specs.KeptView.{known_of, held_of};
+ghost use Rattle.delta_keep.specs.Putting.{Puts};
 
 use crate::kept::{HeldName, Known};
-use crate::put_numbers::{put_byte, put_count, put_int, put_name};
+use crate::output::{Output, put_byte};
+use crate::put_numbers::{put_count, put_int, put_name};
 use bunch::Name;
 use hist_value::{Expr, Op, Value};
 use stream_prefix::{Prefix, StarEnd};
-use stream_type::{Memory, Ty};
+use stream_type::Ty;
 
 /// Appends a type.
 #[cycle(put_types)]
-#[tactic(auto, using(crate::proofs::Joined::joined))]
-pub(crate) fn put_type(out: &mut Vec<u8>, t: &Ty) -> Result<(), Memory>
-    ensures { OnOk result (out.new.items ≡ out.old.items ++ type_bytes (type_of t.now)) }
+pub(crate) fn put_type(out: &mut Output, t: &Ty)
+    ensures { Puts out.old out.new (type_bytes (type_of t.now)) }
 {
     match t {
         Ty::Eps => put_byte(out, 0),
@@ -29,49 +30,45 @@ pub(crate) fn put_type(out: &mut Vec<u8>, t: &Ty) -> Result<(), Memory>
         Ty::Par(a, b) => put_two_types(out, 4, a, b),
         Ty::Sum(a, b) => put_two_types(out, 5, a, b),
         Ty::Star(a) => {
-            put_byte(out, 6)?;
-            put_type(out, a)
+            put_byte(out, 6);
+            put_type(out, a);
         }
     }
 }
 
 #[cycle(put_types)]
-#[tactic(auto, using(crate::proofs::Joined::joined))]
-fn put_two_types(out: &mut Vec<u8>, form: u8, a: &Ty, b: &Ty) -> Result<(), Memory>
-    ensures { OnOk result (out.new.items ≡ out.old.items ++ (form ∷ type_bytes (type_of a.now) ++ type_bytes (type_of b.now))) }
+fn put_two_types(out: &mut Output, form: u8, a: &Ty, b: &Ty)
+    ensures { Puts out.old out.new (form ∷ type_bytes (type_of a.now) ++ type_bytes (type_of b.now)) }
 {
-    put_byte(out, form)?;
-    put_type(out, a)?;
-    put_type(out, b)
+    put_byte(out, form);
+    put_type(out, a);
+    put_type(out, b);
 }
 
 /// Appends a list of types.
-pub(crate) fn put_types(out: &mut Vec<u8>, types: &[Ty]) -> Result<(), Memory>
-    ensures { OnOk result (out.new.items ≡ out.old.items ++ list_bytes type_bytes (map type_of types.now)) }
+pub(crate) fn put_types(out: &mut Output, types: &[Ty])
+    ensures { Puts out.old out.new (list_bytes type_bytes (map type_of types.now)) }
 {
-    put_count(out, types.len())?;
+    put_count(out, types.len());
     for t in types {
-        put_type(out, t)?;
+        put_type(out, t);
     }
-    Ok(())
 }
 
 /// Appends a list of marks.
-pub(crate) fn put_marks(out: &mut Vec<u8>, marks: &[bool]) -> Result<(), Memory>
-    ensures { OnOk result (out.new.items ≡ out.old.items ++ list_bytes bool_bytes marks.now) }
+pub(crate) fn put_marks(out: &mut Output, marks: &[bool])
+    ensures { Puts out.old out.new (list_bytes bool_bytes marks.now) }
 {
-    put_count(out, marks.len())?;
+    put_count(out, marks.len());
     for mark in marks {
-        put_byte(out, *mark as u8)?;
+        put_byte(out, *mark as u8);
     }
-    Ok(())
 }
 
 /// Appends a prefix.
 #[cycle(put_prefixes)]
-#[tactic(auto, using(crate::proofs::Trees::trees))]
-pub(crate) fn put_prefix(out: &mut Vec<u8>, p: &Prefix) -> Result<(), Memory>
-    ensures { OnOk result (out.new.items ≡ out.old.items ++ prefix_bytes (prefix_of p.now)) }
+pub(crate) fn put_prefix(out: &mut Output, p: &Prefix)
+    ensures { Puts out.old out.new (prefix_bytes (prefix_of p.now)) }
 {
     match p {
         Prefix::EpsEmp => put_byte(out, 0),
@@ -79,8 +76,8 @@ pub(crate) fn put_prefix(out: &mut Vec<u8>, p: &Prefix) -> Result<(), Memory>
         Prefix::OneFull => put_byte(out, 2),
         Prefix::IntEmp => put_byte(out, 3),
         Prefix::IntFull(n) => {
-            put_byte(out, 4)?;
-            put_int(out, *n)
+            put_byte(out, 4);
+            put_int(out, *n);
         }
         Prefix::Par(p, q) => put_two_prefixes(out, 5, p, q),
         Prefix::CatFst(p) => put_one_prefix(out, 6, p),
@@ -89,37 +86,34 @@ pub(crate) fn put_prefix(out: &mut Vec<u8>, p: &Prefix) -> Result<(), Memory>
         Prefix::Inl(p) => put_one_prefix(out, 9, p),
         Prefix::Inr(p) => put_one_prefix(out, 10, p),
         Prefix::Star(items, end) => {
-            put_byte(out, 11)?;
-            put_prefixes(out, items)?;
-            put_end(out, end)
+            put_byte(out, 11);
+            put_prefixes(out, items);
+            put_end(out, end);
         }
     }
 }
 
 #[cycle(put_prefixes)]
-#[tactic(auto, using(crate::proofs::Joined::joined))]
-fn put_one_prefix(out: &mut Vec<u8>, form: u8, p: &Prefix) -> Result<(), Memory>
-    ensures { OnOk result (out.new.items ≡ out.old.items ++ (form ∷ prefix_bytes (prefix_of p.now))) }
+fn put_one_prefix(out: &mut Output, form: u8, p: &Prefix)
+    ensures { Puts out.old out.new (form ∷ prefix_bytes (prefix_of p.now)) }
 {
-    put_byte(out, form)?;
-    put_prefix(out, p)
+    put_byte(out, form);
+    put_prefix(out, p);
 }
 
 #[cycle(put_prefixes)]
-#[tactic(auto, using(crate::proofs::Joined::joined))]
-fn put_two_prefixes(out: &mut Vec<u8>, form: u8, p: &Prefix, q: &Prefix) -> Result<(), Memory>
-    ensures { OnOk result (out.new.items ≡ out.old.items ++ (form ∷ prefix_bytes (prefix_of p.now) ++ prefix_bytes (prefix_of q.now))) }
+fn put_two_prefixes(out: &mut Output, form: u8, p: &Prefix, q: &Prefix)
+    ensures { Puts out.old out.new (form ∷ prefix_bytes (prefix_of p.now) ++ prefix_bytes (prefix_of q.now)) }
 {
-    put_byte(out, form)?;
-    put_prefix(out, p)?;
-    put_prefix(out, q)
+    put_byte(out, form);
+    put_prefix(out, p);
+    put_prefix(out, q);
 }
 
 // What stands after the whole items of a star.
 #[cycle(put_prefixes)]
-#[tactic(auto, using(crate::proofs::Joined::joined))]
-fn put_end(out: &mut Vec<u8>, end: &StarEnd) -> Result<(), Memory>
-    ensures { OnOk result (out.new.items ≡ out.old.items ++ rest_bytes (end_of end.now)) }
+fn put_end(out: &mut Output, end: &StarEnd)
+    ensures { Puts out.old out.new (rest_bytes (end_of end.now)) }
 {
     match end {
         StarEnd::Emp => put_byte(out, 0),
@@ -129,57 +123,54 @@ fn put_end(out: &mut Vec<u8>, end: &StarEnd) -> Result<(), Memory>
 }
 
 #[cycle(put_prefixes)]
-fn put_prefixes(out: &mut Vec<u8>, items: &[Prefix]) -> Result<(), Memory>
-    ensures { OnOk result (out.new.items ≡ out.old.items ++ list_bytes prefix_bytes (map prefix_of items.now)) }
+fn put_prefixes(out: &mut Output, items: &[Prefix])
+    ensures { Puts out.old out.new (list_bytes prefix_bytes (map prefix_of items.now)) }
 {
-    put_count(out, items.len())?;
+    put_count(out, items.len());
     for item in items {
-        put_prefix(out, item)?;
+        put_prefix(out, item);
     }
-    Ok(())
 }
 
 /// Appends a value.
 #[cycle(put_values)]
-#[tactic(auto, using(crate::proofs::Trees::trees))]
-pub(crate) fn put_value(out: &mut Vec<u8>, v: &Value) -> Result<(), Memory>
-    ensures { OnOk result (out.new.items ≡ out.old.items ++ value_bytes (hist_value_of v.now)) }
+pub(crate) fn put_value(out: &mut Output, v: &Value)
+    ensures { Puts out.old out.new (value_bytes (hist_value_of v.now)) }
 {
     match v {
         Value::Unit => put_byte(out, 0),
         Value::Int(n) => {
-            put_byte(out, 1)?;
-            put_int(out, *n)
+            put_byte(out, 1);
+            put_int(out, *n);
         }
         Value::Pair(v, w) => {
-            put_byte(out, 2)?;
-            put_value(out, v)?;
-            put_value(out, w)
+            put_byte(out, 2);
+            put_value(out, v);
+            put_value(out, w);
         }
         Value::Inl(v) => {
-            put_byte(out, 3)?;
-            put_value(out, v)
+            put_byte(out, 3);
+            put_value(out, v);
         }
         Value::Inr(v) => {
-            put_byte(out, 4)?;
-            put_value(out, v)
+            put_byte(out, 4);
+            put_value(out, v);
         }
         Value::List(items) => {
-            put_byte(out, 5)?;
-            put_values(out, items)
+            put_byte(out, 5);
+            put_values(out, items);
         }
     }
 }
 
 #[cycle(put_values)]
-fn put_values(out: &mut Vec<u8>, items: &[Value]) -> Result<(), Memory>
-    ensures { OnOk result (out.new.items ≡ out.old.items ++ list_bytes value_bytes (map hist_value_of items.now)) }
+fn put_values(out: &mut Output, items: &[Value])
+    ensures { Puts out.old out.new (list_bytes value_bytes (map hist_value_of items.now)) }
 {
-    put_count(out, items.len())?;
+    put_count(out, items.len());
     for item in items {
-        put_value(out, item)?;
+        put_value(out, item);
     }
-    Ok(())
 }
 
 // The byte of an operation.
@@ -198,23 +189,22 @@ fn byte_of(op: Op) -> u8
 
 /// Appends a historical expression.
 #[cycle(put_exprs)]
-#[tactic(auto, using(crate::proofs::Joined::joined))]
-pub(crate) fn put_expr(out: &mut Vec<u8>, m: &Expr) -> Result<(), Memory>
-    ensures { OnOk result (out.new.items ≡ out.old.items ++ expr_bytes (expr_of m.now)) }
+pub(crate) fn put_expr(out: &mut Output, m: &Expr)
+    ensures { Puts out.old out.new (expr_bytes (expr_of m.now)) }
 {
     match m {
         Expr::Var(x) => {
-            put_byte(out, 0)?;
-            put_name(out, *x)
+            put_byte(out, 0);
+            put_name(out, *x);
         }
         Expr::Lit(n) => {
-            put_byte(out, 1)?;
-            put_int(out, *n)
+            put_byte(out, 1);
+            put_int(out, *n);
         }
         Expr::Unit => put_byte(out, 2),
         Expr::Bin(op, a, b) => {
-            put_byte(out, 3)?;
-            put_two_exprs(out, byte_of(*op), a, b)
+            put_byte(out, 3);
+            put_two_exprs(out, byte_of(*op), a, b);
         }
         Expr::Pair(a, b) => put_two_exprs(out, 4, a, b),
         Expr::Fst(a) => put_one_expr(out, 5, a),
@@ -229,101 +219,85 @@ pub(crate) fn put_expr(out: &mut Vec<u8>, m: &Expr) -> Result<(), Memory>
 }
 
 #[cycle(put_exprs)]
-#[tactic(auto, using(crate::proofs::Joined::joined))]
-fn put_one_expr(out: &mut Vec<u8>, form: u8, a: &Expr) -> Result<(), Memory>
-    ensures { OnOk result (out.new.items ≡ out.old.items ++ (form ∷ expr_bytes (expr_of a.now))) }
+fn put_one_expr(out: &mut Output, form: u8, a: &Expr)
+    ensures { Puts out.old out.new (form ∷ expr_bytes (expr_of a.now)) }
 {
-    put_byte(out, form)?;
-    put_expr(out, a)
+    put_byte(out, form);
+    put_expr(out, a);
 }
 
 #[cycle(put_exprs)]
-#[tactic(auto, using(crate::proofs::Joined::joined))]
-fn put_two_exprs(out: &mut Vec<u8>, form: u8, a: &Expr, b: &Expr) -> Result<(), Memory>
-    ensures { OnOk result (out.new.items ≡ out.old.items ++ (form ∷ expr_bytes (expr_of a.now) ++ expr_bytes (expr_of b.now))) }
+fn put_two_exprs(out: &mut Output, form: u8, a: &Expr, b: &Expr)
+    ensures { Puts out.old out.new (form ∷ expr_bytes (expr_of a.now) ++ expr_bytes (expr_of b.now)) }
 {
-    put_byte(out, form)?;
-    put_expr(out, a)?;
-    put_expr(out, b)
+    put_byte(out, form);
+    put_expr(out, a);
+    put_expr(out, b);
 }
 
 #[cycle(put_exprs)]
-#[tactic(auto, using(crate::proofs::Joined::joined))]
-fn put_choice(
-    out: &mut Vec<u8>,
-    a: &Expr,
-    x: Name,
-    b: &Expr,
-    y: Name,
-    c: &Expr,
-) -> Result<(), Memory>
-    ensures { OnOk result (out.new.items ≡ out.old.items ++ (9 ∷ expr_bytes (expr_of a.now) ++ (short_bytes x.0 ++ (expr_bytes (expr_of b.now) ++ (short_bytes y.0 ++ expr_bytes (expr_of c.now)))))) }
+fn put_choice(out: &mut Output, a: &Expr, x: Name, b: &Expr, y: Name, c: &Expr)
+    ensures { Puts out.old out.new (9 ∷ expr_bytes (expr_of a.now) ++ (short_bytes x.0 ++ (expr_bytes (expr_of b.now) ++ (short_bytes y.0 ++ expr_bytes (expr_of c.now))))) }
 {
-    put_one_expr(out, 9, a)?;
-    put_name(out, x)?;
-    put_expr(out, b)?;
-    put_name(out, y)?;
-    put_expr(out, c)
+    put_one_expr(out, 9, a);
+    put_name(out, x);
+    put_expr(out, b);
+    put_name(out, y);
+    put_expr(out, c);
 }
 
 #[cycle(put_exprs)]
-#[tactic(auto, using(crate::proofs::Joined::joined))]
-fn put_fold(out: &mut Vec<u8>, a: &Expr, s: &Expr, x: Name, y: Name, b: &Expr) -> Result<(), Memory>
-    ensures { OnOk result (out.new.items ≡ out.old.items ++ (12 ∷ expr_bytes (expr_of a.now) ++ (expr_bytes (expr_of s.now) ++ (short_bytes x.0 ++ (short_bytes y.0 ++ expr_bytes (expr_of b.now)))))) }
+fn put_fold(out: &mut Output, a: &Expr, s: &Expr, x: Name, y: Name, b: &Expr)
+    ensures { Puts out.old out.new (12 ∷ expr_bytes (expr_of a.now) ++ (expr_bytes (expr_of s.now) ++ (short_bytes x.0 ++ (short_bytes y.0 ++ expr_bytes (expr_of b.now))))) }
 {
-    put_two_exprs(out, 12, a, s)?;
-    put_name(out, x)?;
-    put_name(out, y)?;
-    put_expr(out, b)
+    put_two_exprs(out, 12, a, s);
+    put_name(out, x);
+    put_name(out, y);
+    put_expr(out, b);
 }
 
 /// Appends a list of historical expressions.
-pub(crate) fn put_exprs(out: &mut Vec<u8>, exprs: &[Expr]) -> Result<(), Memory>
-    ensures { OnOk result (out.new.items ≡ out.old.items ++ list_bytes expr_bytes (map expr_of exprs.now)) }
+pub(crate) fn put_exprs(out: &mut Output, exprs: &[Expr])
+    ensures { Puts out.old out.new (list_bytes expr_bytes (map expr_of exprs.now)) }
 {
-    put_count(out, exprs.len())?;
+    put_count(out, exprs.len());
     for expr in exprs {
-        put_expr(out, expr)?;
+        put_expr(out, expr);
     }
-    Ok(())
 }
 
 /// Appends what code sees of the past.
-pub(crate) fn put_past(out: &mut Vec<u8>, past: &[Known]) -> Result<(), Memory>
-    ensures { OnOk result (out.new.items ≡ out.old.items ++ list_bytes known_bytes (map known_of past.now)) }
+pub(crate) fn put_past(out: &mut Output, past: &[Known])
+    ensures { Puts out.old out.new (list_bytes known_bytes (map known_of past.now)) }
 {
-    put_count(out, past.len())?;
+    put_count(out, past.len());
     for known in past {
-        put_known(out, known)?;
+        put_known(out, known);
     }
-    Ok(())
 }
 
-#[tactic(auto, using(crate::proofs::Joined::joined))]
-fn put_known(out: &mut Vec<u8>, known: &Known) -> Result<(), Memory>
-    ensures { OnOk result (out.new.items ≡ out.old.items ++ known_bytes (known_of known.now)) }
+fn put_known(out: &mut Output, known: &Known)
+    ensures { Puts out.old out.new (known_bytes (known_of known.now)) }
 {
-    put_name(out, known.name)?;
-    put_type(out, &known.ty)?;
-    put_value(out, &known.value)
+    put_name(out, known.name);
+    put_type(out, &known.ty);
+    put_value(out, &known.value);
 }
 
 /// Appends what a form holds.
-pub(crate) fn put_held(out: &mut Vec<u8>, held: &[HeldName]) -> Result<(), Memory>
-    ensures { OnOk result (out.new.items ≡ out.old.items ++ list_bytes held_name_bytes (map held_of held.now)) }
+pub(crate) fn put_held(out: &mut Output, held: &[HeldName])
+    ensures { Puts out.old out.new (list_bytes held_name_bytes (map held_of held.now)) }
 {
-    put_count(out, held.len())?;
+    put_count(out, held.len());
     for name in held {
-        put_held_name(out, name)?;
+        put_held_name(out, name);
     }
-    Ok(())
 }
 
-#[tactic(auto, using(crate::proofs::Joined::joined))]
-fn put_held_name(out: &mut Vec<u8>, held: &HeldName) -> Result<(), Memory>
-    ensures { OnOk result (out.new.items ≡ out.old.items ++ held_name_bytes (held_of held.now)) }
+fn put_held_name(out: &mut Output, held: &HeldName)
+    ensures { Puts out.old out.new (held_name_bytes (held_of held.now)) }
 {
-    put_name(out, held.name)?;
-    put_type(out, &held.ty)?;
-    put_prefix(out, &held.prefix)
+    put_name(out, held.name);
+    put_type(out, &held.ty);
+    put_prefix(out, &held.prefix);
 }

@@ -1,113 +1,105 @@
 //! States as bytes.
 
-ghost use Rattle.std.specs.Prelude.{◌≡◌, ◌∷◌, [], ◌++◌, map, OnOk};
+ghost use Rattle.std.specs.Prelude.{◌∷◌, ◌++◌, map};
 ghost use Rattle.stream_type.specs.StreamType.{type_of};
 ghost use Rattle.kept_state.specs.KeptBytes.{short_bytes, list_bytes, type_bytes, held_name_bytes};
 ghost use Rattle.delta_keep.specs.KeptView.{held_of};
+ghost use Rattle.delta_keep.specs.Putting.{Puts};
 ghost use Rattle.delta_keep.specs.Written.{written_later, written_state, written_argument};
 
 use crate::kept::{Argument, HeldName, KeptState, Waiting};
-use crate::put_numbers::{put_byte, put_count, put_form_names, put_long, put_name};
+use crate::output::{Output, put_byte};
+use crate::put_numbers::{put_count, put_form_names, put_long, put_name};
 use crate::put_parts::{put_held, put_past, put_type};
 use crate::put_terms::{put_form_name_type, put_node};
 use bunch::Name;
-use stream_type::{Memory, Ty};
+use stream_type::Ty;
 
 /// Appends code that isn't reached.
-#[tactic(auto, using(crate::proofs::Joined::joined))]
-fn put_later(out: &mut Vec<u8>, l: &Waiting) -> Result<(), Memory>
-    ensures { OnOk result (out.new.items ≡ out.old.items ++ written_later l.now) }
+fn put_later(out: &mut Output, l: &Waiting)
+    ensures { Puts out.old out.new (written_later l.now) }
 {
-    put_node(out, &l.code)?;
-    put_past(out, &l.past)?;
-    put_long(out, l.depth)
+    put_node(out, &l.code);
+    put_past(out, &l.past);
+    put_long(out, l.depth);
 }
 
 /// Appends a state.
 #[cycle(put_states)]
-#[tactic(auto, using(crate::proofs::Trees::trees))]
-pub(crate) fn put_state(out: &mut Vec<u8>, s: &KeptState) -> Result<(), Memory>
-    ensures { OnOk result (out.new.items ≡ out.old.items ++ written_state s.now) }
+pub(crate) fn put_state(out: &mut Output, s: &KeptState)
+    ensures { Puts out.old out.new (written_state s.now) }
 {
     match s {
         KeptState::Sink(t) => {
-            put_byte(out, 0)?;
-            put_type(out, t)
+            put_byte(out, 0);
+            put_type(out, t);
         }
         KeptState::Var(x) => {
-            put_byte(out, 1)?;
-            put_name(out, *x)
+            put_byte(out, 1);
+            put_name(out, *x);
         }
         KeptState::Par(a, b) => {
-            put_byte(out, 2)?;
-            put_state(out, a)?;
-            put_state(out, b)
+            put_byte(out, 2);
+            put_state(out, a);
+            put_state(out, b);
         }
         KeptState::Cat(a, l) => {
-            put_byte(out, 3)?;
-            put_state(out, a)?;
-            put_later(out, l)
+            put_byte(out, 3);
+            put_state(out, a);
+            put_later(out, l);
         }
         KeptState::Let(x, t, a, b) => {
-            put_form_name_type(out, 4, *x, t)?;
-            put_state(out, a)?;
-            put_state(out, b)
+            put_form_name_type(out, 4, *x, t);
+            put_state(out, a);
+            put_state(out, b);
         }
         KeptState::LetPar(x, y, z, a) => {
-            put_form_names(out, 5, *x, *y, *z)?;
-            put_state(out, a)
+            put_form_names(out, 5, *x, *y, *z);
+            put_state(out, a);
         }
         KeptState::LetCat(x, y, z, a) => {
-            put_form_names(out, 6, *x, *y, *z)?;
-            put_state(out, a)
+            put_form_names(out, 6, *x, *y, *z);
+            put_state(out, a);
         }
         KeptState::CaseSum(z, t, held, x, l, y, m) => {
-            put_holding(out, 7, *z, t, held)?;
-            put_branches(out, *x, l, *y, m)
+            put_holding(out, 7, *z, t, held);
+            put_branches(out, *x, l, *y, m);
         }
         KeptState::CaseStar(z, t, held, l, y, ys, m) => {
-            put_case_star(out, *z, t, held, l, *y, *ys, m)
+            put_case_star(out, *z, t, held, l, *y, *ys, m);
         }
         KeptState::Wait(x, t, held, l) => {
-            put_holding(out, 9, *x, t, held)?;
-            put_later(out, l)
+            put_holding(out, 9, *x, t, held);
+            put_later(out, l);
         }
         KeptState::Frame(args, s) => {
-            put_arguments(out, args)?;
-            put_state(out, s)
+            put_arguments(out, args);
+            put_state(out, s);
         }
     }
 }
 
 // A form, its subject, its result's type and what it holds.
-#[tactic(auto, using(crate::proofs::Joined::joined))]
-fn put_holding(
-    out: &mut Vec<u8>,
-    form: u8,
-    z: Name,
-    t: &Ty,
-    held: &[HeldName],
-) -> Result<(), Memory>
-    ensures { OnOk result (out.new.items ≡ out.old.items ++ (form ∷ short_bytes z.0 ++ (type_bytes (type_of t.now) ++ list_bytes held_name_bytes (map held_of held.now)))) }
+fn put_holding(out: &mut Output, form: u8, z: Name, t: &Ty, held: &[HeldName])
+    ensures { Puts out.old out.new (form ∷ short_bytes z.0 ++ (type_bytes (type_of t.now) ++ list_bytes held_name_bytes (map held_of held.now))) }
 {
-    put_form_name_type(out, form, z, t)?;
-    put_held(out, held)
+    put_form_name_type(out, form, z, t);
+    put_held(out, held);
 }
 
 // Both branches of a case on a sum, each after its name.
-#[tactic(auto, using(crate::proofs::Joined::joined))]
-fn put_branches(out: &mut Vec<u8>, x: Name, l: &Waiting, y: Name, m: &Waiting) -> Result<(), Memory>
-    ensures { OnOk result (out.new.items ≡ out.old.items ++ (short_bytes x.0 ++ (written_later l.now ++ (short_bytes y.0 ++ written_later m.now)))) }
+fn put_branches(out: &mut Output, x: Name, l: &Waiting, y: Name, m: &Waiting)
+    ensures { Puts out.old out.new (short_bytes x.0 ++ (written_later l.now ++ (short_bytes y.0 ++ written_later m.now))) }
 {
-    put_name(out, x)?;
-    put_later(out, l)?;
-    put_name(out, y)?;
-    put_later(out, m)
+    put_name(out, x);
+    put_later(out, l);
+    put_name(out, y);
+    put_later(out, m);
 }
 
 // A case on a star.
 fn put_case_star(
-    out: &mut Vec<u8>,
+    out: &mut Output,
     z: Name,
     t: &Ty,
     held: &[HeldName],
@@ -115,44 +107,41 @@ fn put_case_star(
     y: Name,
     ys: Name,
     m: &Waiting,
-) -> Result<(), Memory>
-    ensures { OnOk result (out.new.items ≡ out.old.items ++ (8 ∷ short_bytes z.0 ++ (type_bytes (type_of t.now) ++ (list_bytes held_name_bytes (map held_of held.now) ++ (written_later l.now ++ (short_bytes y.0 ++ (short_bytes ys.0 ++ written_later m.now))))))) }
+)
+    ensures { Puts out.old out.new (8 ∷ short_bytes z.0 ++ (type_bytes (type_of t.now) ++ (list_bytes held_name_bytes (map held_of held.now) ++ (written_later l.now ++ (short_bytes y.0 ++ (short_bytes ys.0 ++ written_later m.now)))))) }
 {
-    put_form_name_type(out, 8, z, t)?;
-    put_held(out, held)?;
-    put_ends(out, l, y, ys, m)
+    put_form_name_type(out, 8, z, t);
+    put_held(out, held);
+    put_ends(out, l, y, ys, m);
 }
 
 // Both branches of a case on a star: that at the end, and that of an item after its two names.
-fn put_ends(out: &mut Vec<u8>, l: &Waiting, y: Name, ys: Name, m: &Waiting) -> Result<(), Memory>
-    ensures { OnOk result (out.new.items ≡ out.old.items ++ (written_later l.now ++ (short_bytes y.0 ++ (short_bytes ys.0 ++ written_later m.now)))) }
+fn put_ends(out: &mut Output, l: &Waiting, y: Name, ys: Name, m: &Waiting)
+    ensures { Puts out.old out.new (written_later l.now ++ (short_bytes y.0 ++ (short_bytes ys.0 ++ written_later m.now))) }
 {
-    put_later(out, l)?;
-    put_name(out, y)?;
-    put_name(out, ys)?;
-    put_later(out, m)
+    put_later(out, l);
+    put_name(out, y);
+    put_name(out, ys);
+    put_later(out, m);
 }
 
 // The form of a frame and its arguments.
 #[cycle(put_states)]
-#[tactic(auto, using(crate::proofs::Joined::joined))]
-fn put_arguments(out: &mut Vec<u8>, args: &[Argument]) -> Result<(), Memory>
-    ensures { OnOk result (out.new.items ≡ out.old.items ++ (10 ∷ list_bytes written_argument args.now)) }
+fn put_arguments(out: &mut Output, args: &[Argument])
+    ensures { Puts out.old out.new (10 ∷ list_bytes written_argument args.now) }
 {
-    put_byte(out, 10)?;
-    put_count(out, args.len())?;
+    put_byte(out, 10);
+    put_count(out, args.len());
     for arg in args {
-        put_argument(out, arg)?;
+        put_argument(out, arg);
     }
-    Ok(())
 }
 
 #[cycle(put_states)]
-#[tactic(auto, using(crate::proofs::Joined::joined))]
-fn put_argument(out: &mut Vec<u8>, arg: &Argument) -> Result<(), Memory>
-    ensures { OnOk result (out.new.items ≡ out.old.items ++ written_argument arg.now) }
+fn put_argument(out: &mut Output, arg: &Argument)
+    ensures { Puts out.old out.new (written_argument arg.now) }
 {
-    put_name(out, arg.name)?;
-    put_type(out, &arg.ty)?;
-    put_state(out, &arg.state)
+    put_name(out, arg.name);
+    put_type(out, &arg.ty);
+    put_state(out, &arg.state);
 }

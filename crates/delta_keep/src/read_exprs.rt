@@ -1,24 +1,22 @@
 //! Historical expressions read from bytes.
 
-ghost use Rattle.std.specs.Prelude.{◌≡◌, ◌<◌, [], ◌∷◌, ◌++◌, map, length, IfOk};
+ghost use Rattle.std.specs.Prelude.{[], ◌∷◌, ◌++◌, ⊤, map};
 ghost use Rattle.hist_value.specs.HistExpr.{expr_of};
 ghost use Rattle.kept_state.specs.KeptBytes.{list_bytes, op_byte, expr_bytes};
-ghost use Rattle.kept_state.specs.KeptForm.{op_kind, expr_kind, expr_item, any, form, list_part};
-ghost use Rattle.delta_keep.specs.Walking.{walk, Walks};
+ghost use Rattle.kept_state.specs.KeptForm.{op_kind, expr_kind, expr_item, form, list_part};
+ghost use Rattle.kept_state.specs.KeptSizes.{FitsExpr, FitsExprs};
+ghost use Rattle.delta_keep.specs.Reads.{Reads};
 
 use crate::halt::Halt;
-use crate::read_numbers::{read_form, read_int, read_name, read_short};
+use crate::read_numbers::{boxed, read_byte, read_form, read_int, read_name, read_short};
 use hist_value::{Expr, Op};
 use std::alloc::Global;
 
 // An operation.
-#[tactic(auto, using(crate::proofs::Walks::no_form))]
 fn read_op(bytes: &[u8]) -> Result<(Op, &[u8]), Halt>
-    ensures spelled { IfOk result (λ x. bytes.now ≡ op_byte x.0 ∷ x.1.now) }
-    ensures walked { Walks (λ x. x.1.now) result (walk (form op_kind ∷ []) bytes.now) }
-    ensures shorter { IfOk result (λ x. length x.1.now < length bytes.now) }
+    ensures reads { Reads (form op_kind ∷ []) bytes.now (λ x. op_byte x.0 ∷ []) (λ x. x.1.now) (λ x. ⊤) result }
 {
-    let (form, rest) = read_form(bytes)?;
+    let (form, rest) = read_byte(bytes)?;
     match form {
         0 => Ok((Op::Add, rest)),
         1 => Ok((Op::Sub, rest)),
@@ -32,121 +30,116 @@ fn read_op(bytes: &[u8]) -> Result<(Op, &[u8]), Halt>
 
 /// A historical expression.
 #[cycle(read_exprs)]
-#[tactic(auto, using(crate::proofs::Joined::joined, crate::proofs::Walks::no_form))]
-pub(crate) fn read_expr<'a>(alloc: Global, bytes: &'a [u8]) -> Result<(Box<Expr>, &'a [u8]), Halt>
-    ensures spelled { IfOk result (λ x. bytes.now ≡ expr_bytes (expr_of x.0.value) ++ x.1.now) }
-    ensures walked { Walks (λ x. x.1.now) result (walk (form expr_kind ∷ []) bytes.now) }
-    ensures shorter { IfOk result (λ x. length x.1.now < length bytes.now) }
+pub(crate) fn read_expr<'a>(
+    alloc: Global,
+    bytes: &'a [u8],
+    left: u32,
+) -> Result<(Box<Expr>, &'a [u8]), Halt>
+    ensures reads { Reads (form expr_kind ∷ []) bytes.now (λ x. expr_bytes (expr_of x.0.value)) (λ x. x.1.now) (λ x. FitsExpr (expr_of x.0.value)) result }
 {
-    let (form, rest) = read_form(bytes)?;
+    let (form, rest, left) = read_form(bytes, left)?;
     match form {
         0 => {
             let (x, rest) = read_name(rest)?;
-            Ok((Box::new(alloc, Expr::Var(x))?, rest))
+            boxed(alloc, Expr::Var(x), rest)
         }
         1 => {
             let (n, rest) = read_int(rest)?;
-            Ok((Box::new(alloc, Expr::Lit(n))?, rest))
+            boxed(alloc, Expr::Lit(n), rest)
         }
-        2 => Ok((Box::new(alloc, Expr::Unit)?, rest)),
-        3 => read_bin(alloc, rest),
+        2 => boxed(alloc, Expr::Unit, rest),
+        3 => read_bin(alloc, rest, left),
         4 => {
-            let (a, b, rest) = two_exprs(alloc, rest)?;
-            Ok((Box::new(alloc, Expr::Pair(a, b))?, rest))
+            let (a, b, rest) = two_exprs(alloc, rest, left)?;
+            boxed(alloc, Expr::Pair(a, b), rest)
         }
         5 => {
-            let (a, rest) = read_expr(alloc, rest)?;
-            Ok((Box::new(alloc, Expr::Fst(a))?, rest))
+            let (a, rest) = read_expr(alloc, rest, left)?;
+            boxed(alloc, Expr::Fst(a), rest)
         }
         6 => {
-            let (a, rest) = read_expr(alloc, rest)?;
-            Ok((Box::new(alloc, Expr::Snd(a))?, rest))
+            let (a, rest) = read_expr(alloc, rest, left)?;
+            boxed(alloc, Expr::Snd(a), rest)
         }
         7 => {
-            let (a, rest) = read_expr(alloc, rest)?;
-            Ok((Box::new(alloc, Expr::Inl(a))?, rest))
+            let (a, rest) = read_expr(alloc, rest, left)?;
+            boxed(alloc, Expr::Inl(a), rest)
         }
         8 => {
-            let (a, rest) = read_expr(alloc, rest)?;
-            Ok((Box::new(alloc, Expr::Inr(a))?, rest))
+            let (a, rest) = read_expr(alloc, rest, left)?;
+            boxed(alloc, Expr::Inr(a), rest)
         }
-        9 => read_choice(alloc, rest),
-        10 => Ok((Box::new(alloc, Expr::Nil)?, rest)),
+        9 => read_choice(alloc, rest, left),
+        10 => boxed(alloc, Expr::Nil, rest),
         11 => {
-            let (a, b, rest) = two_exprs(alloc, rest)?;
-            Ok((Box::new(alloc, Expr::Cons(a, b))?, rest))
+            let (a, b, rest) = two_exprs(alloc, rest, left)?;
+            boxed(alloc, Expr::Cons(a, b), rest)
         }
-        12 => read_fold(alloc, rest),
+        12 => read_fold(alloc, rest, left),
         _ => Err(Halt::At(bytes.len())),
     }
 }
 
 #[cycle(read_exprs)]
-#[tactic(auto, using(crate::proofs::Joined::joined, crate::proofs::Walks::two_walk))]
-fn two_exprs<'a>(alloc: Global, bytes: &'a [u8]) -> Result<(Box<Expr>, Box<Expr>, &'a [u8]), Halt>
-    ensures spelled { IfOk result (λ x. bytes.now ≡ (expr_bytes (expr_of x.0.value) ++ expr_bytes (expr_of x.1.value)) ++ x.2.now) }
-    ensures walked { Walks (λ x. x.2.now) result (walk (form expr_kind ∷ form expr_kind ∷ []) bytes.now) }
-    ensures shorter { IfOk result (λ x. length x.2.now < length bytes.now) }
+fn two_exprs<'a>(
+    alloc: Global,
+    bytes: &'a [u8],
+    left: u32,
+) -> Result<(Box<Expr>, Box<Expr>, &'a [u8]), Halt>
+    ensures reads { Reads (form expr_kind ∷ form expr_kind ∷ []) bytes.now (λ x. expr_bytes (expr_of x.0.value) ++ expr_bytes (expr_of x.1.value)) (λ x. x.2.now) (λ x. FitsExpr (expr_of x.0.value) × FitsExpr (expr_of x.1.value)) result }
 {
-    let (first, rest) = read_expr(alloc, bytes)?;
-    let (second, rest) = read_expr(alloc, rest)?;
+    let (first, rest) = read_expr(alloc, bytes, left)?;
+    let (second, rest) = read_expr(alloc, rest, left)?;
     Ok((first, second, rest))
 }
 
 // What is reckoned with two numbers, behind its form.
 #[cycle(read_exprs)]
-#[tactic(auto, using(crate::proofs::Joined::joined, crate::proofs::Walks::bin_walk))]
-fn read_bin<'a>(alloc: Global, bytes: &'a [u8]) -> Result<(Box<Expr>, &'a [u8]), Halt>
-    ensures spelled { IfOk result (λ x. 3 ∷ bytes.now ≡ expr_bytes (expr_of x.0.value) ++ x.1.now) }
-    ensures walked { Walks (λ x. x.1.now) result (walk (form op_kind ∷ form expr_kind ∷ form expr_kind ∷ []) bytes.now) }
-    ensures shorter { IfOk result (λ x. length x.1.now < length bytes.now) }
+fn read_bin<'a>(alloc: Global, bytes: &'a [u8], left: u32) -> Result<(Box<Expr>, &'a [u8]), Halt>
+    ensures reads { Reads (form expr_kind ∷ []) (3 ∷ bytes.now) (λ x. expr_bytes (expr_of x.0.value)) (λ x. x.1.now) (λ x. FitsExpr (expr_of x.0.value)) result }
 {
     let (op, rest) = read_op(bytes)?;
-    let (a, b, rest) = two_exprs(alloc, rest)?;
-    Ok((Box::new(alloc, Expr::Bin(op, a, b))?, rest))
+    let (a, b, rest) = two_exprs(alloc, rest, left)?;
+    boxed(alloc, Expr::Bin(op, a, b), rest)
 }
 
 // A choice, behind its form.
 #[cycle(read_exprs)]
-#[tactic(auto, using(crate::proofs::Joined::joined, crate::proofs::Walks::choice_walk))]
-fn read_choice<'a>(alloc: Global, bytes: &'a [u8]) -> Result<(Box<Expr>, &'a [u8]), Halt>
-    ensures spelled { IfOk result (λ x. 9 ∷ bytes.now ≡ expr_bytes (expr_of x.0.value) ++ x.1.now) }
-    ensures walked { Walks (λ x. x.1.now) result (walk (form expr_kind ∷ any 4 ∷ form expr_kind ∷ any 4 ∷ form expr_kind ∷ []) bytes.now) }
-    ensures shorter { IfOk result (λ x. length x.1.now < length bytes.now) }
+fn read_choice<'a>(alloc: Global, bytes: &'a [u8], left: u32) -> Result<(Box<Expr>, &'a [u8]), Halt>
+    ensures reads { Reads (form expr_kind ∷ []) (9 ∷ bytes.now) (λ x. expr_bytes (expr_of x.0.value)) (λ x. x.1.now) (λ x. FitsExpr (expr_of x.0.value)) result }
 {
-    let (a, rest) = read_expr(alloc, bytes)?;
+    let (a, rest) = read_expr(alloc, bytes, left)?;
     let (x, rest) = read_name(rest)?;
-    let (b, rest) = read_expr(alloc, rest)?;
+    let (b, rest) = read_expr(alloc, rest, left)?;
     let (y, rest) = read_name(rest)?;
-    let (c, rest) = read_expr(alloc, rest)?;
-    Ok((Box::new(alloc, Expr::Choose(a, x, b, y, c))?, rest))
+    let (c, rest) = read_expr(alloc, rest, left)?;
+    boxed(alloc, Expr::Choose(a, x, b, y, c), rest)
 }
 
 // A fold, behind its form.
 #[cycle(read_exprs)]
-#[tactic(auto, using(crate::proofs::Joined::joined, crate::proofs::Walks::fold_walk))]
-fn read_fold<'a>(alloc: Global, bytes: &'a [u8]) -> Result<(Box<Expr>, &'a [u8]), Halt>
-    ensures spelled { IfOk result (λ x. 12 ∷ bytes.now ≡ expr_bytes (expr_of x.0.value) ++ x.1.now) }
-    ensures walked { Walks (λ x. x.1.now) result (walk (form expr_kind ∷ form expr_kind ∷ any 4 ∷ any 4 ∷ form expr_kind ∷ []) bytes.now) }
-    ensures shorter { IfOk result (λ x. length x.1.now < length bytes.now) }
+fn read_fold<'a>(alloc: Global, bytes: &'a [u8], left: u32) -> Result<(Box<Expr>, &'a [u8]), Halt>
+    ensures reads { Reads (form expr_kind ∷ []) (12 ∷ bytes.now) (λ x. expr_bytes (expr_of x.0.value)) (λ x. x.1.now) (λ x. FitsExpr (expr_of x.0.value)) result }
 {
-    let (a, s, rest) = two_exprs(alloc, bytes)?;
+    let (a, s, rest) = two_exprs(alloc, bytes, left)?;
     let (x, rest) = read_name(rest)?;
     let (y, rest) = read_name(rest)?;
-    let (b, rest) = read_expr(alloc, rest)?;
-    Ok((Box::new(alloc, Expr::Fold(a, s, x, y, b))?, rest))
+    let (b, rest) = read_expr(alloc, rest, left)?;
+    boxed(alloc, Expr::Fold(a, s, x, y, b), rest)
 }
 
 /// A list of historical expressions.
-pub(crate) fn read_exprs<'a>(alloc: Global, bytes: &'a [u8]) -> Result<(Vec<Expr>, &'a [u8]), Halt>
-    ensures spelled { IfOk result (λ x. bytes.now ≡ list_bytes expr_bytes (map expr_of x.0.items) ++ x.1.now) }
-    ensures walked { Walks (λ x. x.1.now) result (walk (list_part expr_item ∷ []) bytes.now) }
-    ensures shorter { IfOk result (λ x. length x.1.now < length bytes.now) }
+pub(crate) fn read_exprs<'a>(
+    alloc: Global,
+    bytes: &'a [u8],
+    left: u32,
+) -> Result<(Vec<Expr>, &'a [u8]), Halt>
+    ensures reads { Reads (list_part expr_item ∷ []) bytes.now (λ x. list_bytes expr_bytes (map expr_of x.0.items)) (λ x. x.1.now) (λ x. FitsExprs (map expr_of x.0.items)) result }
 {
     let (count, mut rest) = read_short(bytes)?;
     let mut items = Vec::new(alloc);
     'items: for _ in 0..count {
-        let (m, behind) = read_expr(alloc, rest)?;
+        let (m, behind) = read_expr(alloc, rest, left)?;
         items.push(Box::into_inner(m))?;
         rest = behind;
     }

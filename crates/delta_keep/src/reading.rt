@@ -1,11 +1,12 @@
 //! A kept state read from bytes.
 
-ghost use Rattle.std.specs.Prelude.{◌≡◌, [], ◌∷◌, ◌++◌, Some, None, IfOk, IfSome, IfNone};
+ghost use Rattle.std.specs.Prelude.{◌≡◌, [], ◌∷◌, ⊤, Some, None, IfOk, IfSome, IfNone};
 ghost use Rattle.kept_state.specs.KeptBytes.{kept_bytes};
 ghost use Rattle.kept_state.specs.KeptForm.{exactly, kept_parts, fault_from, version_fault, form_fault, bad_version};
+ghost use Rattle.kept_state.specs.KeptSizes.{HasSizes};
 ghost use Rattle.delta_keep.specs.KeptView.{kept_of, places_kept};
 ghost use Rattle.delta_keep.specs.Reading.{Ends, TellsFault};
-ghost use Rattle.delta_keep.specs.Walking.{walk, Walks};
+ghost use Rattle.delta_keep.specs.Reads.{Reads};
 ghost use Rattle.delta_keep.specs.Written.{written_kept};
 
 use crate::fault::ReadFault;
@@ -17,12 +18,18 @@ use crate::read_types::{read_marks, read_type, read_types};
 use crate::saving::MOST_BYTES;
 use std::alloc::Global;
 
+/// How deep what is read may nest, its types, terms and values with the state that they stand in. Readers go
+/// down a level for each, and so does whatever drops what was read: so many levels are read within 8 MB of
+/// stack, and three times as many are not. Where bytes nest deeper, the same is told as for want of memory.
+const MOST_LEVELS: u32 = 10_000;
+
 /// The kept state with these bytes. They are refused where their form is wrong, and for that alone: nothing
-/// is asked of types.
+/// is asked of types. The numbers of what is read have their sizes.
 #[tactic(auto, using(crate::proofs::PlacedBytes::written_kept_is, crate::proofs::Faults::many_told, crate::proofs::Faults::version_told, crate::proofs::Faults::fault_told))]
 pub fn read_kept(alloc: Global, bytes: &[u8]) -> Result<Kept, ReadFault>
     ensures bytes { IfOk result (λ k. bytes.now ≡ kept_bytes (kept_of k) (places_kept k)) }
     ensures fault { TellsFault (form_fault bytes.now) result }
+    ensures sizes { IfOk result (λ k. HasSizes (kept_of k)) }
 {
     if bytes.len() > MOST_BYTES {
         return Err(ReadFault::Form(MOST_BYTES as u64));
@@ -49,9 +56,9 @@ fn other_version(bytes: &[u8]) -> Option<u8>
 }
 
 // The kept state that all of these bytes spell.
-#[tactic(auto, using(crate::proofs::Faults::ends_whole, crate::proofs::Faults::ends_behind, crate::proofs::Faults::ends_stopped))]
 fn read_whole(alloc: Global, bytes: &[u8]) -> Result<Kept, Halt>
     ensures spelled { IfOk result (λ k. bytes.now ≡ written_kept k) }
+    ensures sizes { IfOk result (λ k. HasSizes (kept_of k)) }
     ensures ended { Ends bytes.now result (fault_from kept_parts 0 bytes.now) }
 {
     let (k, rest) = read_parts(alloc, bytes)?;
@@ -62,29 +69,25 @@ fn read_whole(alloc: Global, bytes: &[u8]) -> Result<Kept, Halt>
 }
 
 // The letters and the version.
-#[tactic(auto, using(crate::proofs::Walks::head_walk))]
 fn read_head(bytes: &[u8]) -> Result<&[u8], Halt>
-    ensures spelled { IfOk result (λ rest. bytes.now ≡ 0x44 ∷ 0x53 ∷ 0x54 ∷ 0x01 ∷ rest.now) }
-    ensures walked { Walks (λ rest. rest.now) result (walk (exactly 0x44 ∷ exactly 0x53 ∷ exactly 0x54 ∷ exactly 0x01 ∷ []) bytes.now) }
+    ensures reads { Reads (exactly 0x44 ∷ exactly 0x53 ∷ exactly 0x54 ∷ exactly 0x01 ∷ []) bytes.now (λ rest. 0x44 ∷ 0x53 ∷ 0x54 ∷ 0x01 ∷ []) (λ rest. rest.now) (λ rest. ⊤) result }
 {
-    let rest = read_exactly(0x44, bytes)?;
-    let rest = read_exactly(0x53, rest)?;
-    let rest = read_exactly(0x54, rest)?;
-    read_exactly(0x01, rest)
+    let behind_d = read_exactly(0x44, bytes)?;
+    let behind_s = read_exactly(0x53, behind_d)?;
+    let behind_t = read_exactly(0x54, behind_s)?;
+    read_exactly(0x01, behind_t)
 }
 
 // A kept state, and the bytes behind it.
-#[tactic(auto, using(crate::proofs::Joined::joined, crate::proofs::Walks::kept_walk))]
 fn read_parts<'a>(alloc: Global, bytes: &'a [u8]) -> Result<(Kept, &'a [u8]), Halt>
-    ensures spelled { IfOk result (λ x. bytes.now ≡ written_kept x.0 ++ x.1.now) }
-    ensures walked { Walks (λ x. x.1.now) result (walk kept_parts bytes.now) }
+    ensures reads { Reads kept_parts bytes.now (λ x. written_kept x.0) (λ x. x.1.now) (λ x. HasSizes (kept_of x.0)) result }
 {
-    let rest = read_head(bytes)?;
-    let (events, rest) = read_long(rest)?;
-    let (ins, rest) = read_types(alloc, rest)?;
+    let body = read_head(bytes)?;
+    let (events, rest) = read_long(body)?;
+    let (ins, rest) = read_types(alloc, rest, MOST_LEVELS)?;
     let (cuts, rest) = read_marks(alloc, rest)?;
-    let (out, rest) = read_type(alloc, rest)?;
-    let (state, rest) = read_state(alloc, rest)?;
+    let (out, rest) = read_type(alloc, rest, MOST_LEVELS)?;
+    let (state, rest) = read_state(alloc, rest, MOST_LEVELS)?;
     Ok((
         Kept {
             events,

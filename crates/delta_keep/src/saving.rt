@@ -1,12 +1,14 @@
 //! A kept state written as bytes.
 
-ghost use Rattle.std.specs.Prelude.{◌≡◌, ◌∷◌, [], ◌++◌, IfOk, OnOk};
+ghost use Rattle.std.specs.Prelude.{◌≡◌, ◌∷◌, [], IfOk};
 ghost use Rattle.kept_state.specs.KeptBytes.{kept_bytes};
 ghost use Rattle.delta_keep.specs.KeptView.{kept_of, places_kept};
+ghost use Rattle.delta_keep.specs.Putting.{Puts};
 ghost use Rattle.delta_keep.specs.Saving.{TellsLarge};
 ghost use Rattle.delta_keep.specs.Written.{written_kept};
 
 use crate::kept::Kept;
+use crate::output::{Output, put_bytes};
 use crate::put_numbers::put_long;
 use crate::put_parts::{put_marks, put_type, put_types};
 use crate::put_states::put_state;
@@ -33,27 +35,26 @@ pub fn save(alloc: Global, k: &Kept) -> Result<Vec<u8>, SaveRefusal>
 fn bytes_of(alloc: Global, k: &Kept) -> Result<Vec<u8>, Memory>
     ensures { IfOk result (λ v. v.items ≡ kept_bytes (kept_of k.now) (places_kept k.now)) }
 {
-    let mut out = Vec::new(alloc);
-    put_kept(&mut out, k)?;
-    Ok(out)
+    let mut out = Output::new(alloc);
+    put_kept(&mut out, k);
+    out.finish()
 }
 
 // Appends the letters and the version.
-fn put_head(out: &mut Vec<u8>) -> Result<(), Memory>
-    ensures { OnOk result (out.new.items ≡ out.old.items ++ 0x44 ∷ 0x53 ∷ 0x54 ∷ 0x01 ∷ []) }
+fn put_head(out: &mut Output)
+    ensures { Puts out.old out.new (0x44 ∷ 0x53 ∷ 0x54 ∷ 0x01 ∷ []) }
 {
-    out.extend_from_slice(&[0x44, 0x53, 0x54, 0x01])?;
-    Ok(())
+    put_bytes(out, &[0x44, 0x53, 0x54, 0x01]);
 }
 
 // Appends a kept state.
-fn put_kept(out: &mut Vec<u8>, k: &Kept) -> Result<(), Memory>
-    ensures { OnOk result (out.new.items ≡ out.old.items ++ written_kept k.now) }
+fn put_kept(out: &mut Output, k: &Kept)
+    ensures { Puts out.old out.new (written_kept k.now) }
 {
-    put_head(out)?;
-    put_long(out, k.events)?;
-    put_types(out, &k.ins)?;
-    put_marks(out, &k.cuts)?;
-    put_type(out, &k.out)?;
-    put_state(out, &k.state)
+    put_head(out);
+    put_long(out, k.events);
+    put_types(out, &k.ins);
+    put_marks(out, &k.cuts);
+    put_type(out, &k.out);
+    put_state(out, &k.state);
 }

@@ -1,2 +1,3 @@
 -- The lemmas.
+pub mod Making
 pub mod Rows

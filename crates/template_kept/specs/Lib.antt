@@ -1,2 +1,3 @@
 -- What the contracts cite.
 pub mod KeptArguments
+pub mod Makes

@@ -1,10 +1,11 @@
 //! Templates made of terms.
 
-ghost use Rattle.std.specs.Prelude.{◌≡◌, map, IfOk};
+ghost use Rattle.std.specs.Prelude.{◌≡◌, map, List, IfOk};
 ghost use Rattle.stream_type.specs.StreamType.{type_of};
 ghost use Rattle.hist_value.specs.HistExpr.{expr_of};
-ghost use Rattle.core_term.specs.CoreTerm.{let_term, case_sum_term, case_star_term, wait_term, call_term, term_of, term_in, terms_from};
+ghost use Rattle.core_term.specs.CoreTerm.{CoreTerm, CoreTerms, past_term, par_term, cat_term, inl_term, inr_term, cons_term, let_term, let_par_term, let_cat_term, case_sum_term, case_star_term, wait_term, call_term, term_before, term_of, terms_from};
 ghost use Rattle.template_state.specs.Readers.{op_term, shared_term, operand_terms};
+ghost use Rattle.template_kept.specs.Makes.{Makes, MakesBoth};
 
 use bunch::Name;
 use core_term::{Node, Term};
@@ -19,72 +20,35 @@ use template_state::{Op, Operands};
 pub fn op(alloc: Global, n: &Node) -> Result<Rc<Op>, Memory>
     ensures { IfOk result (λ r. op_term r.value ≡ term_of n.now) }
 {
-    Ok(Rc::new(alloc, form(alloc, &n.term)?)?)
-}
-
-#[cycle(op)]
-#[tactic(auto, using(core_term::proofs::Rows::rows))]
-fn form(alloc: Global, t: &Term) -> Result<Op, Memory>
-    ensures { IfOk result (λ r. op_term r ≡ term_in t.now) }
-{
-    match t {
-        Term::Var(x) => Ok(Op::Var(*x)),
-        Term::Eps => Ok(Op::Eps),
-        Term::Unit => Ok(Op::Unit),
-        Term::Past(m) => Ok(Op::Past(copy_expr(alloc, m)?)),
-        Term::Par(a, b) => {
-            let (a, b) = both(alloc, a, b)?;
-            Ok(Op::Par(a, b))
-        }
-        Term::Cat(a, b) => {
-            let (a, b) = both(alloc, a, b)?;
-            Ok(Op::Cat(a, b))
-        }
-        Term::Inl(a) => Ok(Op::Inl(op(alloc, a)?)),
-        Term::Inr(a) => Ok(Op::Inr(op(alloc, a)?)),
-        Term::Nil => Ok(Op::Nil),
-        Term::Cons(a, b) => {
-            let (a, b) = both(alloc, a, b)?;
-            Ok(Op::Cons(a, b))
-        }
-        Term::Let(x, s, a, b) => {
-            let (a, b) = both(alloc, a, b)?;
-            bound(alloc, *x, s, a, b)
-        }
-        Term::LetPar(x, y, z, a) => Ok(Op::LetPar(*x, *y, *z, op(alloc, a)?)),
-        Term::LetCat(x, y, z, a) => Ok(Op::LetCat(*x, *y, *z, op(alloc, a)?)),
-        Term::CaseSum(z, t, x, a, y, b) => {
-            let (a, b) = both(alloc, a, b)?;
-            on_sum(alloc, *z, t, *x, a, *y, b)
-        }
-        Term::CaseStar(z, t, a, y, ys, b) => {
-            let (a, b) = both(alloc, a, b)?;
-            on_star(alloc, *z, t, a, *y, *ys, b)
-        }
-        Term::Wait(x, t, a) => {
-            let a = op(alloc, a)?;
-            waiting(alloc, *x, t, a)
-        }
-        Term::Call(f, ms, es) => form_call(alloc, es, ms, *f),
+    match &n.term {
+        Term::Var(x) => made(alloc, Op::Var(*x)),
+        Term::Eps => made(alloc, Op::Eps),
+        Term::Unit => made(alloc, Op::Unit),
+        Term::Past(m) => past_of(alloc, m),
+        Term::Par(a, b) => par_of(alloc, both(alloc, a, b)),
+        Term::Cat(a, b) => cat_of(alloc, both(alloc, a, b)),
+        Term::Inl(a) => inl_of(alloc, op(alloc, a)),
+        Term::Inr(a) => inr_of(alloc, op(alloc, a)),
+        Term::Nil => made(alloc, Op::Nil),
+        Term::Cons(a, b) => cons_of(alloc, both(alloc, a, b)),
+        Term::Let(x, s, a, b) => let_of(alloc, *x, s, both(alloc, a, b)),
+        Term::LetPar(x, y, z, a) => let_par_of(alloc, *x, *y, *z, op(alloc, a)),
+        Term::LetCat(x, y, z, a) => let_cat_of(alloc, *x, *y, *z, op(alloc, a)),
+        Term::CaseSum(z, t, x, a, y, b) => sum_of(alloc, *z, t, *x, *y, both(alloc, a, b)),
+        Term::CaseStar(z, t, a, y, ys, b) => star_of(alloc, *z, t, *y, *ys, both(alloc, a, b)),
+        Term::Wait(x, t, a) => wait_of(alloc, *x, t, op(alloc, a)),
+        Term::Call(f, ms, es) => call_of(alloc, *f, ms, ops(alloc, es)),
     }
 }
 
 #[cycle(op)]
 fn both(alloc: Global, a: &Node, b: &Node) -> Result<(Rc<Op>, Rc<Op>), Memory>
-    ensures first { IfOk result (λ r. op_term r.0.value ≡ term_of a.now) }
-    ensures second { IfOk result (λ r. op_term r.1.value ≡ term_of b.now) }
+    ensures { MakesBoth shared_term result (term_of a.now) (term_of b.now) }
 {
-    let first = op(alloc, a)?;
-    Ok((first, op(alloc, b)?))
-}
-
-#[cycle(op)]
-fn form_call(alloc: Global, es: &[Node], ms: &[Expr], f: u32) -> Result<Op, Memory>
-    ensures { IfOk result (λ r. op_term r ≡ call_term f (map expr_of ms.now) (terms_from (map term_of es.now))) }
-{
-    let all = ops(alloc, es)?;
-    let es = linked(alloc, &all)?;
-    Ok(Op::Call(f, copy_exprs(alloc, ms)?, es))
+    match op(alloc, a) {
+        Ok(first) => beside(first, op(alloc, b)),
+        Err(Memory) => Err(Memory),
+    }
 }
 
 #[cycle(op)]
@@ -98,52 +62,229 @@ fn ops(alloc: Global, nodes: &[Node]) -> Result<Vec<Rc<Op>>, Memory>
     Ok(made)
 }
 
-// A let of these.
-fn bound(alloc: Global, x: Name, s: &Ty, a: Rc<Op>, b: Rc<Op>) -> Result<Op, Memory>
-    ensures { IfOk result (λ r. op_term r ≡ let_term x.0 (type_of s.now) (op_term a.value) (op_term b.value)) }
+// The first part beside the second.
+fn beside(first: Rc<Op>, second: Result<Rc<Op>, Memory>) -> Result<(Rc<Op>, Rc<Op>), Memory>
+    ensures { (b : CoreTerm) → Makes shared_term second b → MakesBoth shared_term result (op_term first.value) b }
 {
-    let ty = stream_type::copy(alloc, s)?;
-    Ok(Op::Let(x, ty, a, b))
+    match second {
+        Ok(second) => Ok((first, second)),
+        Err(Memory) => {
+            drop(first);
+            Err(Memory)
+        }
+    }
 }
 
-// A case on a sum of these.
-fn on_sum(
+// A template of its own.
+fn made(alloc: Global, form: Op) -> Result<Rc<Op>, Memory>
+    ensures { Makes shared_term result (op_term form) }
+{
+    Ok(Rc::new(alloc, form)?)
+}
+
+fn past_of(alloc: Global, m: &Expr) -> Result<Rc<Op>, Memory>
+    ensures { Makes shared_term result (past_term (expr_of m.now)) }
+{
+    match copy_expr(alloc, m) {
+        Ok(m) => made(alloc, Op::Past(m)),
+        Err(Memory) => Err(Memory),
+    }
+}
+
+fn par_of(alloc: Global, parts: Result<(Rc<Op>, Rc<Op>), Memory>) -> Result<Rc<Op>, Memory>
+    ensures { (a b : CoreTerm) → MakesBoth shared_term parts a b → Makes shared_term result (par_term a b) }
+{
+    match parts {
+        Ok((a, b)) => made(alloc, Op::Par(a, b)),
+        Err(Memory) => Err(Memory),
+    }
+}
+
+fn cat_of(alloc: Global, parts: Result<(Rc<Op>, Rc<Op>), Memory>) -> Result<Rc<Op>, Memory>
+    ensures { (a b : CoreTerm) → MakesBoth shared_term parts a b → Makes shared_term result (cat_term a b) }
+{
+    match parts {
+        Ok((a, b)) => made(alloc, Op::Cat(a, b)),
+        Err(Memory) => Err(Memory),
+    }
+}
+
+fn cons_of(alloc: Global, parts: Result<(Rc<Op>, Rc<Op>), Memory>) -> Result<Rc<Op>, Memory>
+    ensures { (a b : CoreTerm) → MakesBoth shared_term parts a b → Makes shared_term result (cons_term a b) }
+{
+    match parts {
+        Ok((a, b)) => made(alloc, Op::Cons(a, b)),
+        Err(Memory) => Err(Memory),
+    }
+}
+
+fn inl_of(alloc: Global, part: Result<Rc<Op>, Memory>) -> Result<Rc<Op>, Memory>
+    ensures { (a : CoreTerm) → Makes shared_term part a → Makes shared_term result (inl_term a) }
+{
+    match part {
+        Ok(a) => made(alloc, Op::Inl(a)),
+        Err(Memory) => Err(Memory),
+    }
+}
+
+fn inr_of(alloc: Global, part: Result<Rc<Op>, Memory>) -> Result<Rc<Op>, Memory>
+    ensures { (a : CoreTerm) → Makes shared_term part a → Makes shared_term result (inr_term a) }
+{
+    match part {
+        Ok(a) => made(alloc, Op::Inr(a)),
+        Err(Memory) => Err(Memory),
+    }
+}
+
+fn let_of(
+    alloc: Global,
+    x: Name,
+    t: &Ty,
+    parts: Result<(Rc<Op>, Rc<Op>), Memory>,
+) -> Result<Rc<Op>, Memory>
+    ensures { (a b : CoreTerm) → MakesBoth shared_term parts a b → Makes shared_term result (let_term x.0 (type_of t.now) a b) }
+{
+    match parts {
+        Ok((a, b)) => match stream_type::copy(alloc, t) {
+            Ok(ty) => made(alloc, Op::Let(x, ty, a, b)),
+            Err(Memory) => {
+                drop(a);
+                drop(b);
+                Err(Memory)
+            }
+        },
+        Err(Memory) => Err(Memory),
+    }
+}
+
+fn let_par_of(
+    alloc: Global,
+    x: Name,
+    y: Name,
+    z: Name,
+    part: Result<Rc<Op>, Memory>,
+) -> Result<Rc<Op>, Memory>
+    ensures { (a : CoreTerm) → Makes shared_term part a → Makes shared_term result (let_par_term x.0 y.0 z.0 a) }
+{
+    match part {
+        Ok(a) => made(alloc, Op::LetPar(x, y, z, a)),
+        Err(Memory) => Err(Memory),
+    }
+}
+
+fn let_cat_of(
+    alloc: Global,
+    x: Name,
+    y: Name,
+    z: Name,
+    part: Result<Rc<Op>, Memory>,
+) -> Result<Rc<Op>, Memory>
+    ensures { (a : CoreTerm) → Makes shared_term part a → Makes shared_term result (let_cat_term x.0 y.0 z.0 a) }
+{
+    match part {
+        Ok(a) => made(alloc, Op::LetCat(x, y, z, a)),
+        Err(Memory) => Err(Memory),
+    }
+}
+
+fn sum_of(
     alloc: Global,
     z: Name,
     t: &Ty,
     x: Name,
-    a: Rc<Op>,
     y: Name,
-    b: Rc<Op>,
-) -> Result<Op, Memory>
-    ensures { IfOk result (λ r. op_term r ≡ case_sum_term z.0 (type_of t.now) x.0 (op_term a.value) y.0 (op_term b.value)) }
+    parts: Result<(Rc<Op>, Rc<Op>), Memory>,
+) -> Result<Rc<Op>, Memory>
+    ensures { (a b : CoreTerm) → MakesBoth shared_term parts a b → Makes shared_term result (case_sum_term z.0 (type_of t.now) x.0 a y.0 b) }
 {
-    let ty = stream_type::copy(alloc, t)?;
-    Ok(Op::CaseSum(z, ty, x, a, y, b))
+    match parts {
+        Ok((a, b)) => match stream_type::copy(alloc, t) {
+            Ok(ty) => made(alloc, Op::CaseSum(z, ty, x, a, y, b)),
+            Err(Memory) => {
+                drop(a);
+                drop(b);
+                Err(Memory)
+            }
+        },
+        Err(Memory) => Err(Memory),
+    }
 }
 
-// A case on a star of these.
-fn on_star(
+fn star_of(
     alloc: Global,
     z: Name,
     t: &Ty,
-    a: Rc<Op>,
     y: Name,
     ys: Name,
-    b: Rc<Op>,
-) -> Result<Op, Memory>
-    ensures { IfOk result (λ r. op_term r ≡ case_star_term z.0 (type_of t.now) (op_term a.value) y.0 ys.0 (op_term b.value)) }
+    parts: Result<(Rc<Op>, Rc<Op>), Memory>,
+) -> Result<Rc<Op>, Memory>
+    ensures { (a b : CoreTerm) → MakesBoth shared_term parts a b → Makes shared_term result (case_star_term z.0 (type_of t.now) a y.0 ys.0 b) }
 {
-    let ty = stream_type::copy(alloc, t)?;
-    Ok(Op::CaseStar(z, ty, a, y, ys, b))
+    match parts {
+        Ok((a, b)) => match stream_type::copy(alloc, t) {
+            Ok(ty) => made(alloc, Op::CaseStar(z, ty, a, y, ys, b)),
+            Err(Memory) => {
+                drop(a);
+                drop(b);
+                Err(Memory)
+            }
+        },
+        Err(Memory) => Err(Memory),
+    }
 }
 
-// A wait of these.
-fn waiting(alloc: Global, x: Name, t: &Ty, a: Rc<Op>) -> Result<Op, Memory>
-    ensures { IfOk result (λ r. op_term r ≡ wait_term x.0 (type_of t.now) (op_term a.value)) }
+fn wait_of(alloc: Global, x: Name, t: &Ty, part: Result<Rc<Op>, Memory>) -> Result<Rc<Op>, Memory>
+    ensures { (a : CoreTerm) → Makes shared_term part a → Makes shared_term result (wait_term x.0 (type_of t.now) a) }
 {
-    let ty = stream_type::copy(alloc, t)?;
-    Ok(Op::Wait(x, ty, a))
+    match part {
+        Ok(a) => match stream_type::copy(alloc, t) {
+            Ok(ty) => made(alloc, Op::Wait(x, ty, a)),
+            Err(Memory) => {
+                drop(a);
+                Err(Memory)
+            }
+        },
+        Err(Memory) => Err(Memory),
+    }
+}
+
+// A call of a function on these.
+fn call_of(
+    alloc: Global,
+    f: u32,
+    ms: &[Expr],
+    parts: Result<Vec<Rc<Op>>, Memory>,
+) -> Result<Rc<Op>, Memory>
+    ensures { (es : List CoreTerm) → IfOk parts (λ v. map shared_term v.items ≡ es) → Makes shared_term result (call_term f (map expr_of ms.now) (terms_from es)) }
+{
+    match parts {
+        Ok(all) => {
+            let es = linked(alloc, &all);
+            drop(all);
+            on_arguments(alloc, f, ms, es)
+        }
+        Err(Memory) => Err(Memory),
+    }
+}
+
+fn on_arguments(
+    alloc: Global,
+    f: u32,
+    ms: &[Expr],
+    es: Result<Box<Operands>, Memory>,
+) -> Result<Rc<Op>, Memory>
+    ensures { (all : CoreTerms) → IfOk es (λ r. operand_terms r.value ≡ all) → Makes shared_term result (call_term f (map expr_of ms.now) all) }
+{
+    match es {
+        Ok(es) => match copy_exprs(alloc, ms) {
+            Ok(ms) => made(alloc, Op::Call(f, ms, es)),
+            Err(Memory) => {
+                drop(es);
+                Err(Memory)
+            }
+        },
+        Err(Memory) => Err(Memory),
+    }
 }
 
 // Terms in a row as the arguments of a call.
@@ -152,10 +293,22 @@ fn linked(alloc: Global, all: &[Rc<Op>]) -> Result<Box<Operands>, Memory>
 {
     match all.split_first() {
         None => Ok(Box::new(alloc, Operands::None)?),
-        Some((first, rest)) => {
-            let others = linked(alloc, rest)?;
-            let one = first.clone()?;
-            Ok(Box::new(alloc, Operands::Before(one, others))?)
+        Some((first, rest)) => match linked(alloc, rest) {
+            Ok(others) => before(alloc, first, others),
+            Err(Memory) => Err(Memory),
+        },
+    }
+}
+
+// One term before others.
+fn before(alloc: Global, first: &Rc<Op>, others: Box<Operands>) -> Result<Box<Operands>, Memory>
+    ensures { IfOk result (λ r. operand_terms r.value ≡ term_before (shared_term first.now) (operand_terms others.value)) }
+{
+    match first.clone() {
+        Ok(one) => Ok(Box::new(alloc, Operands::Before(one, others))?),
+        Err(_) => {
+            drop(others);
+            Err(Memory)
         }
     }
 }

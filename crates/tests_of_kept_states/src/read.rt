@@ -200,3 +200,35 @@ fn a_missing_end_is_told(rt: HostRuntime) {
         assert!(rt; ends_anywhere(rt.alloc(), bytes));
     }
 }
+
+// A kept state of which nothing comes any more, whose null type nests so many levels below its own.
+fn nested(alloc: Global, levels: usize) -> Result<Vec<u8>, Fail> {
+    let mut bytes = Vec::new(alloc);
+    bytes.extend_from_slice(&[68, 83, 84, 1, 0, 0, 0, 0, 0, 0, 0, 0])?;
+    bytes.extend_from_slice(&[0, 0, 0, 0, 0, 0, 0, 0, 0, 0])?;
+    for _ in 0..levels {
+        bytes.push(6)?;
+    }
+    bytes.push(0)?;
+    Ok(bytes)
+}
+
+// What is read of so many levels.
+fn fault_nested(alloc: Global, levels: usize) -> Result<Option<ReadFault>, Fail> {
+    let bytes = nested(alloc, levels)?;
+    Ok(read_kept(alloc, bytes.as_slice()).err())
+}
+
+#[test]
+fn ten_thousand_levels_are_read(rt: HostRuntime) -> Result<(), Fail> {
+    assert!(rt; fault_nested(rt.alloc(), 9_998)? == None);
+    Ok(())
+}
+
+#[test]
+fn deeper_bytes_are_refused(rt: HostRuntime) -> Result<(), Fail> {
+    for levels in [9_999, 30_000, 1_000_000] {
+        assert!(rt; fault_nested(rt.alloc(), levels)? == Some(ReadFault::Memory));
+    }
+    Ok(())
+}

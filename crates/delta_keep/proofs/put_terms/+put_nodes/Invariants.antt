@@ -1,13 +1,14 @@
 -- What is put out so far are the items seen so far.
-use Rattle.std.proofs.Common.{◌≡◌, ◌+◌, ◌*◌, ◌++◌, max, take}
+use Rattle.std.proofs.Common.{◌+◌, ◌*◌, max, take}
 use Rattle.core_term.specs.declared.term.Node.{size-Node}
 use Rattle.core_term.specs.declared.term.Term.{size-Term}
 use Rattle.delta_keep.specs.Written.{written_node}
+use Rattle.delta_keep.specs.Putting.{Puts}
 use Rattle.delta_keep.proofs.Lists.{items_bytes}
 use Rattle.delta_keep.proofs.put_terms.+put_nodes.Given as goal
 
 abbrev pub invariant-put_nodes-loop-node : goal.invariant-put_nodes-loop-node
-invariant-put_nodes-loop-node l = l.out.items ≡ l.initial.out.items ++ items_bytes written_node (λ n. n) (take l.node-index l.nodes)
+invariant-put_nodes-loop-node l = Puts l.initial.out l.out (items_bytes written_node (λ n. n) (take l.node-index l.nodes))
 
 abbrev pub decreases-put_node : goal.decreases-put_node
 decreases-put_node l = 5 * size-Node l.n.now + 1

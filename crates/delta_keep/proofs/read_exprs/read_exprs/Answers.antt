@@ -1,52 +1,36 @@
-use Rattle.std.proofs.Common.{◌≡◌, ◌<◌, ◌≤◌, ◌^◌, arith}
+-- Item by item.
+use Rattle.std.proofs.Common.{◌≡◌}
 use Rattle.std.proofs.lemmas.Result.{err_from_is_err_and}
-use Rattle.hist_value.specs.HistExpr.{expr_of}
-use Rattle.kept_state.specs.KeptBytes.{expr_bytes}
 use Rattle.kept_state.specs.KeptForm.{expr_item}
-use Rattle.delta_keep.proofs.ReadLists.{read_one_more, list_walked, list_halts, count_halts, none_read, list_spelled, list_less}
+use Rattle.std.proofs.Common.{◌<◌, arith}
+use Rattle.delta_keep.proofs.ReadLists.{none_read, read_one_more, list_stops, count_stops, list_read}
 use Rattle.delta_keep.proofs.read_exprs.read_exprs.Goals as goal
 
--- with the next item,
+pub returns-in_err-count : goal.returns-in_err-count
+returns-in_err-count c =
+    let exit = err_from_is_err_and c.from_residual.result c.from_residual.ensures.1 in
+    record { reads = rw (exit.1, exit.2) (count_stops expr_item c.args.bytes.now c.in_err-count.field-0.0 c.in_err-count.ensures.reads) }
+
+pub returns-in_err-m : goal.returns-in_err-m
+returns-in_err-m c =
+    let lt : c.items.counter < c.in_ok-count.count = omega arith in
+    let exit = err_from_is_err_and c.from_residual-in_err-m.result c.from_residual-in_err-m.ensures.1 in
+    record { reads = rw (exit.1, exit.2) (list_stops expr_item c.in_err-m.field-0.0 c.in_ok-count.ensures.reads c.items.invariant lt c.in_err-m.ensures.reads) }
+
+pub returns-in_err-push : goal.returns-in_err-push
+returns-in_err-push c =
+    let exit = err_from_is_err_and c.from_residual-in_err-push.result c.from_residual-in_err-push.ensures.1 in
+    record { reads = rw (exit.1, exit.2) (tt) }
+
+pub items-init : goal.items-init
+items-init c = none_read _ _ _ _ c.in_ok-count.count c.in_ok-count.rest.now c.new-items.result.items c.new-items.ensures.items
+
 pub items-preserved : goal.items-preserved
 items-preserved c =
     let lt : c.items.counter < c.in_ok-count.count = omega arith in
-    read_one_more expr_item expr_bytes expr_of c.in_ok-count.count c.in_ok-count.rest.now c.items.counter c.items.items.items c.push.new.self.items c.into_inner.result c.in_ok-m.m.value c.items.rest.now c.in_ok-m.behind.now c.items.invariant lt c.in_ok-push.ensures.items c.into_inner.ensures
-    c.in_ok-m.ensures.spelled c.in_ok-m.ensures.shorter c.in_ok-m.ensures.walked
+    read_one_more c.items.invariant lt c.in_ok-push.ensures.items c.into_inner.ensures c.in_ok-m.ensures.reads
 
--- where it isn't read,
-pub returns-in_err-m-clause-walked : goal.returns-in_err-m-clause-walked
-returns-in_err-m-clause-walked c =
-    let lt : c.items.counter < c.in_ok-count.count = omega arith in
-    let small : c.in_ok-count.count < 2 ^ 32 = omega arith in
-    let exit = err_from_is_err_and c.from_residual-in_err-m.result c.from_residual-in_err-m.ensures.1 in
-    rw (exit.1, exit.2) (list_halts expr_item expr_bytes expr_of c.in_ok-count.count c.args.bytes.now c.in_ok-count.rest.now c.items.counter c.items.items.items c.items.rest.now c.in_err-m.field-0.0 small c.in_ok-count.ensures.spelled c.items.invariant lt c.in_err-m.ensures.walked)
-
--- and when all are
-pub returns-clause-walked : goal.returns-clause-walked
-returns-clause-walked c =
-    let le : c.in_ok-count.count ≤ c.items.counter = omega arith in
-    let small : c.in_ok-count.count < 2 ^ 32 = omega arith in
-    list_walked expr_item expr_bytes expr_of c.in_ok-count.count c.args.bytes.now c.in_ok-count.rest.now c.items.counter c.items.items.items c.items.rest.now small c.in_ok-count.ensures.spelled c.items.invariant le
-
--- its count isn't read, or memory is refused,
-pub returns-in_err-count-clause-walked : goal.returns-in_err-count-clause-walked
-returns-in_err-count-clause-walked c =
-    let exit = err_from_is_err_and c.from_residual.result c.from_residual.ensures.1 in
-    rw (exit.1, exit.2) (count_halts expr_item c.args.bytes.now c.in_err-count.field-0.0 c.in_err-count.ensures.walked)
-
-pub returns-in_err-push-clause-walked : goal.returns-in_err-push-clause-walked
-returns-in_err-push-clause-walked c =
-    let exit = err_from_is_err_and c.from_residual-in_err-push.result c.from_residual-in_err-push.ensures.1 in
-    rw (exit.1, exit.2) tt
-
--- none are read yet, and all are
-pub items-init : goal.items-init
-items-init c = none_read expr_item expr_bytes expr_of c.in_ok-count.count c.in_ok-count.rest.now c.new-items.result.items c.new-items.ensures.items
-
-pub returns-clause-spelled : goal.returns-clause-spelled
-returns-clause-spelled c =
+pub returns : goal.returns
+returns c =
     let all : c.items.counter ≡ c.in_ok-count.count = omega arith in
-    list_spelled expr_item expr_bytes expr_of c.in_ok-count.count c.args.bytes.now c.in_ok-count.rest.now c.items.counter c.items.items.items c.items.rest.now c.in_ok-count.ensures.spelled c.items.invariant all
-
-pub returns-clause-shorter : goal.returns-clause-shorter
-returns-clause-shorter c = list_less expr_item expr_bytes expr_of c.in_ok-count.count c.args.bytes.now c.in_ok-count.rest.now c.items.counter c.items.items.items c.items.rest.now c.in_ok-count.ensures.shorter c.items.invariant
+    record { reads = list_read c.in_ok-count.ensures.reads c.items.invariant all }

@@ -2,8 +2,9 @@
 use Rattle.hist_value.specs.HistExpr.{expr_of}
 use Rattle.kept_state.specs.KeptBytes.{expr_bytes}
 use Rattle.kept_state.specs.KeptForm.{expr_item}
+use Rattle.kept_state.specs.KeptSizes.{FitsExpr}
 use Rattle.delta_keep.proofs.ReadLists.{ReadSome}
 use Rattle.delta_keep.proofs.read_exprs.read_exprs.Given as goal
 
 abbrev pub invariant-items : goal.invariant-items
-invariant-items l = ReadSome expr_item expr_bytes expr_of l.count l.initial.rest l.counter l.items.items l.rest
+invariant-items l = ReadSome expr_item expr_bytes expr_of FitsExpr l.count l.initial.rest l.counter l.items.items l.rest

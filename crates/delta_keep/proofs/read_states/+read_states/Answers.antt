@@ -1,339 +1,185 @@
-use Rattle.std.proofs.Common.{◌<◌, ◌≤◌, ◌^◌, refl, arith, ◌∙◌, [], ◌∷◌, ◌++◌, ap, sym}
+-- States by their forms.
+use Rattle.std.proofs.Common.{◌≡◌, [], ◌∷◌, ◌++◌, sym, refl, append_assoc}
 use Rattle.std.proofs.lemmas.Result.{err_from_is_err_and}
-use Rattle.delta_keep.specs.Written.{written_argument, written_later, written_state}
-use Rattle.kept_state.specs.KeptForm.{argument_item, type_kind, state_kind, any, form, list_part, later_parts}
-use Rattle.delta_keep.proofs.Trees.{read_frame_is}
-use Rattle.delta_keep.proofs.ReadLists.{read_one_more, list_walked, list_halts, count_halts, none_read, list_less}
+use Rattle.kept_state.specs.KeptForm.{type_kind, state_kind, argument_item, any, form, list_part, later_parts}
 use Rattle.kept_state.specs.KeptBytes.{short_bytes, type_bytes}
-use Rattle.delta_keep.proofs.Passing.{halts_so, first_halts, later_halts, behind, numbered, begins, no_byte, less_still, leaves_less, joins, joins_two, joins_three, formed}
+use Rattle.kept_state.specs.KeptSizes.{FitsState}
 use Rattle.stream_type.specs.StreamType.{type_of}
+use Rattle.delta_keep.specs.KeptView.{state_of}
+use Rattle.delta_keep.specs.Written.{written_state}
+use Rattle.delta_keep.proofs.Trees.{frame_bytes}
+use Rattle.delta_keep.proofs.Sizes.{frame_fits}
+use Rattle.delta_keep.proofs.Pieces.{then, as_written, stops_first, stops_second, in_form, stops_in_form, stops_before, begins, boxed_read, grouped, flat_3, names_fit}
+use Rattle.std.proofs.Common.{◌<◌, arith}
+use Rattle.delta_keep.proofs.ReadLists.{none_read, read_one_more, list_stops, count_stops, list_read_same}
 use Rattle.delta_keep.proofs.read_states.+read_states.Goals as goal
 
--- with the next item,
+pub two_states-returns-in_err-first : goal.two_states-returns-in_err-first
+two_states-returns-in_err-first t c =
+    let exit = err_from_is_err_and c.from_residual.result c.from_residual.ensures.1 in
+    record { reads = rw (exit.1, exit.2) (stops_first (form state_kind ∷ []) ((form state_kind ∷ [])) c.args.bytes.now c.in_err-first.field-0.0 c.in_err-first.ensures.reads) }
+
+pub two_states-returns-in_err-second : goal.two_states-returns-in_err-second
+two_states-returns-in_err-second t c =
+    let exit = err_from_is_err_and c.from_residual-in_err-second.result c.from_residual-in_err-second.ensures.1 in
+    record { reads = rw (exit.1, exit.2) (stops_second ((form state_kind ∷ [])) c.in_err-second.field-0.0 c.in_ok-first.ensures.reads (c.in_err-second.ensures.reads)) }
+
+pub two_states-returns : goal.two_states-returns
+two_states-returns t c = record { reads = (then c.in_ok-first.ensures.reads c.in_ok-second.ensures.reads) }
+
+pub read_state-returns-in_err-form : goal.read_state-returns-in_err-form
+read_state-returns-in_err-form t c =
+    let exit = err_from_is_err_and c.from_residual.result c.from_residual.ensures.1 in
+    record { reads = rw (exit.1, exit.2) (stops_before state_kind c.args.bytes.now c.in_err-form.field-0.0 c.in_err-form.ensures.none) }
+
+pub read_state-returns-in_err-t-in-0 : goal.read_state-returns-in_err-t-in-0
+read_state-returns-in_err-t-in-0 t c =
+    let exit = err_from_is_err_and c.from_residual-in_err-t-in-0.result c.from_residual-in_err-t-in-0.ensures.1 in
+    record { reads = rw (begins 0 c.in_ok-form.ensures.form c.in-0.is, exit.1, exit.2) (stops_in_form state_kind 0 ((form type_kind ∷ [])) c.in_ok-form.rest.now c.in_err-t-in-0.field-0.0 refl (c.in_err-t-in-0.ensures.reads)) }
+
+pub read_state-returns-in_ok-t-in-0 : goal.read_state-returns-in_ok-t-in-0
+read_state-returns-in_ok-t-in-0 t c = record { reads = rw (begins 0 c.in_ok-form.ensures.form c.in-0.is) (boxed_read (λ x. x.0.value) (λ x. x.1.now) written_state (λ s. FitsState (state_of s)) c.boxed.result c.boxed.ensures.boxes (in_form state_kind 0 refl c.in_ok-t-in-0.ensures.reads)) }
+
+pub read_state-returns-in_err-x-in-1 : goal.read_state-returns-in_err-x-in-1
+read_state-returns-in_err-x-in-1 t c =
+    let exit = err_from_is_err_and c.from_residual-in_err-x-in-1.result c.from_residual-in_err-x-in-1.ensures.1 in
+    record { reads = rw (begins 1 c.in_ok-form.ensures.form c.in-1.is, exit.1, exit.2) (stops_in_form state_kind 1 ((any 4 ∷ [])) c.in_ok-form.rest.now c.in_err-x-in-1.field-0.0 refl (c.in_err-x-in-1.ensures.reads)) }
+
+pub read_state-returns-in_ok-x-in-1 : goal.read_state-returns-in_ok-x-in-1
+read_state-returns-in_ok-x-in-1 t c = record { reads = rw (begins 1 c.in_ok-form.ensures.form c.in-1.is) (boxed_read (λ x. x.0.value) (λ x. x.1.now) written_state (λ s. FitsState (state_of s)) c.boxed-in-1.result c.boxed-in-1.ensures.boxes (in_form state_kind 1 refl c.in_ok-x-in-1.ensures.reads)) }
+
+pub read_state-returns-in_err-a-in-2 : goal.read_state-returns-in_err-a-in-2
+read_state-returns-in_err-a-in-2 t c =
+    let exit = err_from_is_err_and c.from_residual-in_err-a-in-2.result c.from_residual-in_err-a-in-2.ensures.1 in
+    record { reads = rw (begins 2 c.in_ok-form.ensures.form c.in-2.is, exit.1, exit.2) (stops_in_form state_kind 2 ((form state_kind ∷ form state_kind ∷ [])) c.in_ok-form.rest.now c.in_err-a-in-2.field-0.0 refl (c.in_err-a-in-2.ensures.reads)) }
+
+pub read_state-returns-in_ok-a-in-2 : goal.read_state-returns-in_ok-a-in-2
+read_state-returns-in_ok-a-in-2 t c = record { reads = rw (begins 2 c.in_ok-form.ensures.form c.in-2.is) (boxed_read (λ x. x.0.value) (λ x. x.1.now) written_state (λ s. FitsState (state_of s)) c.boxed-in-2.result c.boxed-in-2.ensures.boxes (in_form state_kind 2 refl c.in_ok-a-in-2.ensures.reads)) }
+
+pub read_state-returns-in-3 : goal.read_state-returns-in-3
+read_state-returns-in-3 t c = record { reads = rw (begins 3 c.in_ok-form.ensures.form c.in-3.is) (c.read_cat.ensures.reads) }
+
+pub read_state-returns-in-4 : goal.read_state-returns-in-4
+read_state-returns-in-4 t c = record { reads = rw (begins 4 c.in_ok-form.ensures.form c.in-4.is) (c.read_let.ensures.reads) }
+
+pub read_state-returns-in_err-x-in-5 : goal.read_state-returns-in_err-x-in-5
+read_state-returns-in_err-x-in-5 t c =
+    let exit = err_from_is_err_and c.from_residual-in_err-x-in-5.result c.from_residual-in_err-x-in-5.ensures.1 in
+    record { reads = rw (begins 5 c.in_ok-form.ensures.form c.in-5.is, exit.1, exit.2) (stops_in_form state_kind 5 ((any 4 ∷ any 4 ∷ any 4 ∷ form state_kind ∷ [])) c.in_ok-form.rest.now c.in_err-x-in-5.field-0.0 refl (c.in_err-x-in-5.ensures.reads)) }
+
+pub read_state-returns-in_ok-x-in-5 : goal.read_state-returns-in_ok-x-in-5
+read_state-returns-in_ok-x-in-5 t c = record { reads = rw (begins 5 c.in_ok-form.ensures.form c.in-5.is) (boxed_read (λ x. x.0.value) (λ x. x.1.now) written_state (λ s. FitsState (state_of s)) c.boxed-in-5.result c.boxed-in-5.ensures.boxes (in_form state_kind 5 refl (as_written refl names_fit c.in_ok-x-in-5.ensures.reads))) }
+
+pub read_state-returns-in_err-x-in-6 : goal.read_state-returns-in_err-x-in-6
+read_state-returns-in_err-x-in-6 t c =
+    let exit = err_from_is_err_and c.from_residual-in_err-x-in-6.result c.from_residual-in_err-x-in-6.ensures.1 in
+    record { reads = rw (begins 6 c.in_ok-form.ensures.form c.in-6.is, exit.1, exit.2) (stops_in_form state_kind 6 ((any 4 ∷ any 4 ∷ any 4 ∷ form state_kind ∷ [])) c.in_ok-form.rest.now c.in_err-x-in-6.field-0.0 refl (c.in_err-x-in-6.ensures.reads)) }
+
+pub read_state-returns-in_ok-x-in-6 : goal.read_state-returns-in_ok-x-in-6
+read_state-returns-in_ok-x-in-6 t c = record { reads = rw (begins 6 c.in_ok-form.ensures.form c.in-6.is) (boxed_read (λ x. x.0.value) (λ x. x.1.now) written_state (λ s. FitsState (state_of s)) c.boxed-in-6.result c.boxed-in-6.ensures.boxes (in_form state_kind 6 refl (as_written refl names_fit c.in_ok-x-in-6.ensures.reads))) }
+
+pub read_state-returns-in-7 : goal.read_state-returns-in-7
+read_state-returns-in-7 t c = record { reads = rw (begins 7 c.in_ok-form.ensures.form c.in-7.is) (c.read_case_sum.ensures.reads) }
+
+pub read_state-returns-in-8 : goal.read_state-returns-in-8
+read_state-returns-in-8 t c = record { reads = rw (begins 8 c.in_ok-form.ensures.form c.in-8.is) (c.read_case_star.ensures.reads) }
+
+pub read_state-returns-in-9 : goal.read_state-returns-in-9
+read_state-returns-in-9 t c = record { reads = rw (begins 9 c.in_ok-form.ensures.form c.in-9.is) (c.read_wait.ensures.reads) }
+
+pub read_state-returns-in-10 : goal.read_state-returns-in-10
+read_state-returns-in-10 t c = record { reads = rw (begins 10 c.in_ok-form.ensures.form c.in-10.is) (c.read_frame.ensures.reads) }
+
+pub read_cat-returns-in_err-a : goal.read_cat-returns-in_err-a
+read_cat-returns-in_err-a t c =
+    let exit = err_from_is_err_and c.from_residual.result c.from_residual.ensures.1 in
+    record { reads = rw (exit.1, exit.2) (stops_in_form state_kind 3 ((form state_kind ∷ []) ++ later_parts) c.args.bytes.now c.in_err-a.field-0.0 refl (stops_first (form state_kind ∷ []) (later_parts) c.args.bytes.now c.in_err-a.field-0.0 c.in_err-a.ensures.reads)) }
+
+pub read_cat-returns-in_err-l : goal.read_cat-returns-in_err-l
+read_cat-returns-in_err-l t c =
+    let exit = err_from_is_err_and c.from_residual-in_err-l.result c.from_residual-in_err-l.ensures.1 in
+    record { reads = rw (exit.1, exit.2) (stops_in_form state_kind 3 ((form state_kind ∷ []) ++ later_parts) c.args.bytes.now c.in_err-l.field-0.0 refl (stops_second (later_parts) c.in_err-l.field-0.0 c.in_ok-a.ensures.reads (c.in_err-l.ensures.reads))) }
+
+pub read_cat-returns : goal.read_cat-returns
+read_cat-returns t c = record { reads = boxed_read (λ x. x.0.value) (λ x. x.1.now) written_state (λ s. FitsState (state_of s)) c.boxed.result c.boxed.ensures.boxes (in_form state_kind 3 refl (then c.in_ok-a.ensures.reads c.in_ok-l.ensures.reads)) }
+
+pub read_let-returns-in_err-x : goal.read_let-returns-in_err-x
+read_let-returns-in_err-x t c =
+    let exit = err_from_is_err_and c.from_residual.result c.from_residual.ensures.1 in
+    record { reads = rw (exit.1, exit.2) (stops_in_form state_kind 4 ((any 4 ∷ form type_kind ∷ []) ++ (form state_kind ∷ form state_kind ∷ [])) c.args.bytes.now c.in_err-x.field-0.0 refl (stops_first (any 4 ∷ form type_kind ∷ []) ((form state_kind ∷ form state_kind ∷ [])) c.args.bytes.now c.in_err-x.field-0.0 c.in_err-x.ensures.reads)) }
+
+pub read_let-returns-in_err-a : goal.read_let-returns-in_err-a
+read_let-returns-in_err-a t c =
+    let exit = err_from_is_err_and c.from_residual-in_err-a.result c.from_residual-in_err-a.ensures.1 in
+    record { reads = rw (exit.1, exit.2) (stops_in_form state_kind 4 ((any 4 ∷ form type_kind ∷ []) ++ (form state_kind ∷ form state_kind ∷ [])) c.args.bytes.now c.in_err-a.field-0.0 refl (stops_second ((form state_kind ∷ form state_kind ∷ [])) c.in_err-a.field-0.0 c.in_ok-x.ensures.reads (c.in_err-a.ensures.reads))) }
+
+pub read_let-returns : goal.read_let-returns
+read_let-returns t c = record { reads = boxed_read (λ x. x.0.value) (λ x. x.1.now) written_state (λ s. FitsState (state_of s)) c.boxed.result c.boxed.ensures.boxes (in_form state_kind 4 refl (as_written (append_assoc (short_bytes c.in_ok-x.x.0) (type_bytes (type_of c.in_ok-x.t.value)) _) flat_3 (then c.in_ok-x.ensures.reads c.in_ok-a.ensures.reads))) }
+
+pub names_and_state-returns-in_err-x : goal.names_and_state-returns-in_err-x
+names_and_state-returns-in_err-x t c =
+    let exit = err_from_is_err_and c.from_residual.result c.from_residual.ensures.1 in
+    record { reads = rw (exit.1, exit.2) (stops_first (any 4 ∷ any 4 ∷ any 4 ∷ []) ((form state_kind ∷ [])) c.args.bytes.now c.in_err-x.field-0.0 c.in_err-x.ensures.reads) }
+
+pub names_and_state-returns-in_err-a : goal.names_and_state-returns-in_err-a
+names_and_state-returns-in_err-a t c =
+    let exit = err_from_is_err_and c.from_residual-in_err-a.result c.from_residual-in_err-a.ensures.1 in
+    record { reads = rw (exit.1, exit.2) (stops_second ((form state_kind ∷ [])) c.in_err-a.field-0.0 c.in_ok-x.ensures.reads (c.in_err-a.ensures.reads)) }
+
+pub names_and_state-returns : goal.names_and_state-returns
+names_and_state-returns t c = record { reads = as_written (grouped (short_bytes c.in_ok-x.x.0) (short_bytes c.in_ok-x.y.0) (short_bytes c.in_ok-x.z.0) (written_state c.in_ok-a.a.value)) (λ s. s) (then c.in_ok-x.ensures.reads c.in_ok-a.ensures.reads) }
+
+pub read_frame-returns-in_err-args : goal.read_frame-returns-in_err-args
+read_frame-returns-in_err-args t c =
+    let exit = err_from_is_err_and c.from_residual.result c.from_residual.ensures.1 in
+    record { reads = rw (exit.1, exit.2) (stops_in_form state_kind 10 (list_part argument_item ∷ form state_kind ∷ []) c.args.bytes.now c.in_err-args.field-0.0 refl (stops_first (list_part argument_item ∷ []) ((form state_kind ∷ [])) c.args.bytes.now c.in_err-args.field-0.0 c.in_err-args.ensures.reads)) }
+
+pub read_frame-returns-in_err-s : goal.read_frame-returns-in_err-s
+read_frame-returns-in_err-s t c =
+    let exit = err_from_is_err_and c.from_residual-in_err-s.result c.from_residual-in_err-s.ensures.1 in
+    record { reads = rw (exit.1, exit.2) (stops_in_form state_kind 10 (list_part argument_item ∷ form state_kind ∷ []) c.args.bytes.now c.in_err-s.field-0.0 refl (stops_second ((form state_kind ∷ [])) c.in_err-s.field-0.0 c.in_ok-args.ensures.reads (c.in_err-s.ensures.reads))) }
+
+pub read_frame-returns : goal.read_frame-returns
+read_frame-returns t c = record { reads = boxed_read (λ x. x.0.value) (λ x. x.1.now) written_state (λ s. FitsState (state_of s)) c.boxed.result c.boxed.ensures.boxes (as_written (sym (frame_bytes c.in_ok-args.args c.in_ok-s.s)) (frame_fits c.in_ok-args.args c.in_ok-s.s) (in_form state_kind 10 refl (then c.in_ok-args.ensures.reads c.in_ok-s.ensures.reads))) }
+
+pub read_argument-returns-in_err-name : goal.read_argument-returns-in_err-name
+read_argument-returns-in_err-name t c =
+    let exit = err_from_is_err_and c.from_residual.result c.from_residual.ensures.1 in
+    record { reads = rw (exit.1, exit.2) (stops_first (any 4 ∷ form type_kind ∷ []) ((form state_kind ∷ [])) c.args.bytes.now c.in_err-name.field-0.0 c.in_err-name.ensures.reads) }
+
+pub read_argument-returns-in_err-state : goal.read_argument-returns-in_err-state
+read_argument-returns-in_err-state t c =
+    let exit = err_from_is_err_and c.from_residual-in_err-state.result c.from_residual-in_err-state.ensures.1 in
+    record { reads = rw (exit.1, exit.2) (stops_second ((form state_kind ∷ [])) c.in_err-state.field-0.0 c.in_ok-name.ensures.reads (c.in_err-state.ensures.reads)) }
+
+pub read_argument-returns : goal.read_argument-returns
+read_argument-returns t c = record { reads = as_written (append_assoc (short_bytes c.in_ok-name.name.0) (type_bytes (type_of c.in_ok-name.ty.value)) (written_state c.in_ok-state.state.value)) (λ s. s) (then c.in_ok-name.ensures.reads c.in_ok-state.ensures.reads) }
+
+pub read_arguments-returns-in_err-count : goal.read_arguments-returns-in_err-count
+read_arguments-returns-in_err-count t c =
+    let exit = err_from_is_err_and c.from_residual.result c.from_residual.ensures.1 in
+    record { reads = rw (exit.1, exit.2) (count_stops argument_item c.args.bytes.now c.in_err-count.field-0.0 c.in_err-count.ensures.reads) }
+
+pub read_arguments-returns-in_err-arg : goal.read_arguments-returns-in_err-arg
+read_arguments-returns-in_err-arg t c =
+    let lt : c.items.counter < c.in_ok-count.count = omega arith in
+    let exit = err_from_is_err_and c.from_residual-in_err-arg.result c.from_residual-in_err-arg.ensures.1 in
+    record { reads = rw (exit.1, exit.2) (list_stops argument_item c.in_err-arg.field-0.0 c.in_ok-count.ensures.reads c.items.invariant lt c.in_err-arg.ensures.reads) }
+
+pub read_arguments-returns-in_err-push : goal.read_arguments-returns-in_err-push
+read_arguments-returns-in_err-push t c =
+    let exit = err_from_is_err_and c.from_residual-in_err-push.result c.from_residual-in_err-push.ensures.1 in
+    record { reads = rw (exit.1, exit.2) (tt) }
+
+pub read_arguments-items-init : goal.read_arguments-items-init
+read_arguments-items-init t c = none_read _ _ _ _ c.in_ok-count.count c.in_ok-count.rest.now c.new-items.result.items c.new-items.ensures.items
+
 pub read_arguments-items-preserved : goal.read_arguments-items-preserved
 read_arguments-items-preserved t c =
     let lt : c.items.counter < c.in_ok-count.count = omega arith in
-    read_one_more argument_item written_argument (λ a. a) c.in_ok-count.count c.in_ok-count.rest.now c.items.counter c.items.items.items c.push.new.self.items c.in_ok-arg.arg c.in_ok-arg.arg c.items.rest.now c.in_ok-arg.behind.now c.items.invariant lt c.in_ok-push.ensures.items refl
-    c.in_ok-arg.ensures.spelled c.in_ok-arg.ensures.shorter c.in_ok-arg.ensures.walked
-
--- where it isn't read,
-pub read_arguments-returns-in_err-arg-clause-walked : goal.read_arguments-returns-in_err-arg-clause-walked
-read_arguments-returns-in_err-arg-clause-walked t c =
-    let lt : c.items.counter < c.in_ok-count.count = omega arith in
-    let small : c.in_ok-count.count < 2 ^ 32 = omega arith in
-    let exit = err_from_is_err_and c.from_residual-in_err-arg.result c.from_residual-in_err-arg.ensures.1 in
-    rw (exit.1, exit.2) (list_halts argument_item written_argument (λ a. a) c.in_ok-count.count c.args.bytes.now c.in_ok-count.rest.now c.items.counter c.items.items.items c.items.rest.now c.in_err-arg.field-0.0 small c.in_ok-count.ensures.spelled c.items.invariant lt c.in_err-arg.ensures.walked)
-
--- and when all are
-pub read_arguments-returns-clause-walked : goal.read_arguments-returns-clause-walked
-read_arguments-returns-clause-walked t c =
-    let le : c.in_ok-count.count ≤ c.items.counter = omega arith in
-    let small : c.in_ok-count.count < 2 ^ 32 = omega arith in
-    list_walked argument_item written_argument (λ a. a) c.in_ok-count.count c.args.bytes.now c.in_ok-count.rest.now c.items.counter c.items.items.items c.items.rest.now small c.in_ok-count.ensures.spelled c.items.invariant le
-
-pub read_frame-returns-clause-spelled : goal.read_frame-returns-clause-spelled
-read_frame-returns-clause-spelled t c = read_frame_is c.args.bytes.now c.in_ok-args.rest.now c.in_ok-s.rest.now c.in_ok-new.field-0.value c.in_ok-args.args c.in_ok-s.s c.in_ok-new.ensures.ok c.in_ok-args.ensures.spelled c.in_ok-s.ensures.spelled
-
--- two, one behind names, and an argument
-
-pub two_states-returns-in_err-first-clause-walked : goal.two_states-returns-in_err-first-clause-walked
-two_states-returns-in_err-first-clause-walked t c =
-    let exit = err_from_is_err_and c.from_residual.result c.from_residual.ensures.1 in
-    rw (exit.1, exit.2) (first_halts (form state_kind ∷ []) (form state_kind ∷ []) c.args.bytes.now c.in_err-first.field-0.0 c.in_err-first.ensures.walked)
-
-pub two_states-returns-in_err-second-clause-walked : goal.two_states-returns-in_err-second-clause-walked
-two_states-returns-in_err-second-clause-walked t c =
-    let exit = err_from_is_err_and c.from_residual-in_err-second.result c.from_residual-in_err-second.ensures.1 in
-    rw (exit.1, exit.2) (later_halts (form state_kind ∷ []) (form state_kind ∷ []) c.args.bytes.now c.in_ok-first.rest.now c.in_err-second.field-0.0 c.in_ok-first.ensures.walked (c.in_err-second.ensures.walked))
-
-pub two_states-returns-clause-spelled : goal.two_states-returns-clause-spelled
-two_states-returns-clause-spelled t c = joins (written_state c.in_ok-first.first.value) (written_state c.in_ok-second.second.value) c.args.bytes.now c.in_ok-first.rest.now c.in_ok-second.rest.now c.in_ok-first.ensures.spelled c.in_ok-second.ensures.spelled
-
-pub two_states-returns-clause-walked : goal.two_states-returns-clause-walked
-two_states-returns-clause-walked t c = behind (form state_kind ∷ []) (form state_kind ∷ []) c.args.bytes.now c.in_ok-first.rest.now c.in_ok-first.ensures.walked ∙ (c.in_ok-second.ensures.walked)
-
-pub two_states-returns-clause-shorter : goal.two_states-returns-clause-shorter
-two_states-returns-clause-shorter t c = less_still c.args.bytes.now c.in_ok-first.rest.now c.in_ok-second.rest.now c.in_ok-first.ensures.shorter c.in_ok-second.ensures.shorter
-
-pub names_and_state-returns-in_err-x-clause-walked : goal.names_and_state-returns-in_err-x-clause-walked
-names_and_state-returns-in_err-x-clause-walked t c =
-    let exit = err_from_is_err_and c.from_residual.result c.from_residual.ensures.1 in
-    rw (exit.1, exit.2) (first_halts (any 4 ∷ any 4 ∷ any 4 ∷ []) (form state_kind ∷ []) c.args.bytes.now c.in_err-x.field-0.0 c.in_err-x.ensures.walked)
-
-pub names_and_state-returns-in_err-a-clause-walked : goal.names_and_state-returns-in_err-a-clause-walked
-names_and_state-returns-in_err-a-clause-walked t c =
-    let exit = err_from_is_err_and c.from_residual-in_err-a.result c.from_residual-in_err-a.ensures.1 in
-    rw (exit.1, exit.2) (later_halts (any 4 ∷ any 4 ∷ any 4 ∷ []) (form state_kind ∷ []) c.args.bytes.now c.in_ok-x.rest.now c.in_err-a.field-0.0 c.in_ok-x.ensures.walked (c.in_err-a.ensures.walked))
-
-pub names_and_state-returns-clause-spelled : goal.names_and_state-returns-clause-spelled
-names_and_state-returns-clause-spelled t c = joins_three (short_bytes c.in_ok-x.x.0) (short_bytes c.in_ok-x.y.0) (short_bytes c.in_ok-x.z.0) (written_state c.in_ok-a.a.value) c.args.bytes.now c.in_ok-x.rest.now c.in_ok-a.rest.now c.in_ok-x.ensures.spelled c.in_ok-a.ensures.spelled
-
-pub names_and_state-returns-clause-walked : goal.names_and_state-returns-clause-walked
-names_and_state-returns-clause-walked t c = behind (any 4 ∷ any 4 ∷ any 4 ∷ []) (form state_kind ∷ []) c.args.bytes.now c.in_ok-x.rest.now c.in_ok-x.ensures.walked ∙ (c.in_ok-a.ensures.walked)
-
-pub names_and_state-returns-clause-shorter : goal.names_and_state-returns-clause-shorter
-names_and_state-returns-clause-shorter t c = less_still c.args.bytes.now c.in_ok-x.rest.now c.in_ok-a.rest.now c.in_ok-x.ensures.shorter c.in_ok-a.ensures.shorter
-
-pub read_argument-returns-in_err-name-clause-walked : goal.read_argument-returns-in_err-name-clause-walked
-read_argument-returns-in_err-name-clause-walked t c =
-    let exit = err_from_is_err_and c.from_residual.result c.from_residual.ensures.1 in
-    rw (exit.1, exit.2) (first_halts (any 4 ∷ form type_kind ∷ []) (form state_kind ∷ []) c.args.bytes.now c.in_err-name.field-0.0 c.in_err-name.ensures.walked)
-
-pub read_argument-returns-in_err-state-clause-walked : goal.read_argument-returns-in_err-state-clause-walked
-read_argument-returns-in_err-state-clause-walked t c =
-    let exit = err_from_is_err_and c.from_residual-in_err-state.result c.from_residual-in_err-state.ensures.1 in
-    rw (exit.1, exit.2) (later_halts (any 4 ∷ form type_kind ∷ []) (form state_kind ∷ []) c.args.bytes.now c.in_ok-name.rest.now c.in_err-state.field-0.0 c.in_ok-name.ensures.walked (c.in_err-state.ensures.walked))
-
-pub read_argument-returns-clause-spelled : goal.read_argument-returns-clause-spelled
-read_argument-returns-clause-spelled t c = joins_two (short_bytes c.in_ok-name.name.0) (type_bytes (type_of c.in_ok-name.ty.value)) (written_state c.in_ok-state.state.value) c.args.bytes.now c.in_ok-name.rest.now c.in_ok-state.rest.now c.in_ok-name.ensures.spelled c.in_ok-state.ensures.spelled
-
-pub read_argument-returns-clause-walked : goal.read_argument-returns-clause-walked
-read_argument-returns-clause-walked t c = behind (any 4 ∷ form type_kind ∷ []) (form state_kind ∷ []) c.args.bytes.now c.in_ok-name.rest.now c.in_ok-name.ensures.walked ∙ (c.in_ok-state.ensures.walked)
-
-pub read_argument-returns-clause-shorter : goal.read_argument-returns-clause-shorter
-read_argument-returns-clause-shorter t c = less_still c.args.bytes.now c.in_ok-name.rest.now c.in_ok-state.rest.now c.in_ok-name.ensures.shorter c.in_ok-state.ensures.shorter
-
--- forms with parts
-
-pub read_cat-returns-in_err-a-clause-walked : goal.read_cat-returns-in_err-a-clause-walked
-read_cat-returns-in_err-a-clause-walked t c =
-    let exit = err_from_is_err_and c.from_residual.result c.from_residual.ensures.1 in
-    rw (exit.1, exit.2) (first_halts (form state_kind ∷ []) later_parts c.args.bytes.now c.in_err-a.field-0.0 c.in_err-a.ensures.walked)
-
-pub read_cat-returns-in_err-l-clause-walked : goal.read_cat-returns-in_err-l-clause-walked
-read_cat-returns-in_err-l-clause-walked t c =
-    let exit = err_from_is_err_and c.from_residual-in_err-l.result c.from_residual-in_err-l.ensures.1 in
-    rw (exit.1, exit.2) (later_halts (form state_kind ∷ []) later_parts c.args.bytes.now c.in_ok-a.rest.now c.in_err-l.field-0.0 c.in_ok-a.ensures.walked (c.in_err-l.ensures.walked))
-
-pub read_cat-returns-in_err-new-clause-walked : goal.read_cat-returns-in_err-new-clause-walked
-read_cat-returns-in_err-new-clause-walked t c =
-    let exit = err_from_is_err_and c.from_residual-in_err-new.result c.from_residual-in_err-new.ensures.1 in
-    rw (exit.1, exit.2) (tt)
-
-pub read_cat-returns-clause-spelled : goal.read_cat-returns-clause-spelled
-read_cat-returns-clause-spelled t c = ap (λ bs. 3 ∷ bs) (joins (written_state c.in_ok-a.a.value) (written_later c.in_ok-l.l.value) c.args.bytes.now c.in_ok-a.rest.now c.in_ok-l.rest.now c.in_ok-a.ensures.spelled c.in_ok-l.ensures.spelled) ∙ ap (λ v. written_state v ++ c.in_ok-l.rest.now) (sym c.in_ok-new.ensures.ok)
-
-pub read_cat-returns-clause-walked : goal.read_cat-returns-clause-walked
-read_cat-returns-clause-walked t c = behind (form state_kind ∷ []) later_parts c.args.bytes.now c.in_ok-a.rest.now c.in_ok-a.ensures.walked ∙ (c.in_ok-l.ensures.walked)
-
-pub read_cat-returns-clause-shorter : goal.read_cat-returns-clause-shorter
-read_cat-returns-clause-shorter t c = less_still c.args.bytes.now c.in_ok-a.rest.now c.in_ok-l.rest.now c.in_ok-a.ensures.shorter c.in_ok-l.ensures.shorter
-
-pub read_let-returns-in_err-x-clause-walked : goal.read_let-returns-in_err-x-clause-walked
-read_let-returns-in_err-x-clause-walked t c =
-    let exit = err_from_is_err_and c.from_residual.result c.from_residual.ensures.1 in
-    rw (exit.1, exit.2) (first_halts (any 4 ∷ form type_kind ∷ []) (form state_kind ∷ form state_kind ∷ []) c.args.bytes.now c.in_err-x.field-0.0 c.in_err-x.ensures.walked)
-
-pub read_let-returns-in_err-a-clause-walked : goal.read_let-returns-in_err-a-clause-walked
-read_let-returns-in_err-a-clause-walked t c =
-    let exit = err_from_is_err_and c.from_residual-in_err-a.result c.from_residual-in_err-a.ensures.1 in
-    rw (exit.1, exit.2) (later_halts (any 4 ∷ form type_kind ∷ []) (form state_kind ∷ form state_kind ∷ []) c.args.bytes.now c.in_ok-x.rest.now c.in_err-a.field-0.0 c.in_ok-x.ensures.walked (c.in_err-a.ensures.walked))
-
-pub read_let-returns-in_err-new-clause-walked : goal.read_let-returns-in_err-new-clause-walked
-read_let-returns-in_err-new-clause-walked t c =
-    let exit = err_from_is_err_and c.from_residual-in_err-new.result c.from_residual-in_err-new.ensures.1 in
-    rw (exit.1, exit.2) (tt)
-
-pub read_let-returns-clause-spelled : goal.read_let-returns-clause-spelled
-read_let-returns-clause-spelled t c = ap (λ bs. 4 ∷ bs) (joins_two (short_bytes c.in_ok-x.x.0) (type_bytes (type_of c.in_ok-x.t.value)) (written_state c.in_ok-a.a.value ++ written_state c.in_ok-a.b.value) c.args.bytes.now c.in_ok-x.rest.now c.in_ok-a.rest.now c.in_ok-x.ensures.spelled c.in_ok-a.ensures.spelled) ∙ ap (λ v. written_state v ++ c.in_ok-a.rest.now) (sym c.in_ok-new.ensures.ok)
-
-pub read_let-returns-clause-walked : goal.read_let-returns-clause-walked
-read_let-returns-clause-walked t c = behind (any 4 ∷ form type_kind ∷ []) (form state_kind ∷ form state_kind ∷ []) c.args.bytes.now c.in_ok-x.rest.now c.in_ok-x.ensures.walked ∙ (c.in_ok-a.ensures.walked)
-
-pub read_let-returns-clause-shorter : goal.read_let-returns-clause-shorter
-read_let-returns-clause-shorter t c = less_still c.args.bytes.now c.in_ok-x.rest.now c.in_ok-a.rest.now c.in_ok-x.ensures.shorter c.in_ok-a.ensures.shorter
-
-pub read_frame-returns-in_err-args-clause-walked : goal.read_frame-returns-in_err-args-clause-walked
-read_frame-returns-in_err-args-clause-walked t c =
-    let exit = err_from_is_err_and c.from_residual.result c.from_residual.ensures.1 in
-    rw (exit.1, exit.2) (first_halts (list_part argument_item ∷ []) (form state_kind ∷ []) c.args.bytes.now c.in_err-args.field-0.0 c.in_err-args.ensures.walked)
-
-pub read_frame-returns-in_err-s-clause-walked : goal.read_frame-returns-in_err-s-clause-walked
-read_frame-returns-in_err-s-clause-walked t c =
-    let exit = err_from_is_err_and c.from_residual-in_err-s.result c.from_residual-in_err-s.ensures.1 in
-    rw (exit.1, exit.2) (later_halts (list_part argument_item ∷ []) (form state_kind ∷ []) c.args.bytes.now c.in_ok-args.rest.now c.in_err-s.field-0.0 c.in_ok-args.ensures.walked (c.in_err-s.ensures.walked))
-
-pub read_frame-returns-in_err-new-clause-walked : goal.read_frame-returns-in_err-new-clause-walked
-read_frame-returns-in_err-new-clause-walked t c =
-    let exit = err_from_is_err_and c.from_residual-in_err-new.result c.from_residual-in_err-new.ensures.1 in
-    rw (exit.1, exit.2) (tt)
-
-pub read_frame-returns-clause-walked : goal.read_frame-returns-clause-walked
-read_frame-returns-clause-walked t c = behind (list_part argument_item ∷ []) (form state_kind ∷ []) c.args.bytes.now c.in_ok-args.rest.now c.in_ok-args.ensures.walked ∙ (c.in_ok-s.ensures.walked)
-
-pub read_frame-returns-clause-shorter : goal.read_frame-returns-clause-shorter
-read_frame-returns-clause-shorter t c = less_still c.args.bytes.now c.in_ok-args.rest.now c.in_ok-s.rest.now c.in_ok-args.ensures.shorter c.in_ok-s.ensures.shorter
-
--- one, by its form
-
-pub read_state-returns-in_err-form-clause-walked : goal.read_state-returns-in_err-form-clause-walked
-read_state-returns-in_err-form-clause-walked t c =
-    let exit = err_from_is_err_and c.from_residual.result c.from_residual.ensures.1 in
-    rw (exit.1, exit.2) (no_byte state_kind c.args.bytes.now c.in_err-form.field-0.0 c.in_err-form.ensures.none c.in_err-form.ensures.missing)
-
-pub read_state-returns-in_err-t-in-0-clause-walked : goal.read_state-returns-in_err-t-in-0-clause-walked
-read_state-returns-in_err-t-in-0-clause-walked t c =
-    let exit = err_from_is_err_and c.from_residual-in_err-t-in-0.result c.from_residual-in_err-t-in-0.ensures.1 in
-    rw (exit.1, exit.2) (halts_so c.in_err-t-in-0.field-0.0 _ _ (numbered state_kind c.args.bytes.now c.in_ok-form.rest.now c.in_ok-form.form 0 c.in_ok-form.ensures.spelled c.in-0.is) c.in_err-t-in-0.ensures.walked)
-
-pub read_state-returns-in_err-new-in-0-clause-walked : goal.read_state-returns-in_err-new-in-0-clause-walked
-read_state-returns-in_err-new-in-0-clause-walked t c =
-    let exit = err_from_is_err_and c.from_residual-in_err-new-in-0.result c.from_residual-in_err-new-in-0.ensures.1 in
-    rw (exit.1, exit.2) (tt)
-
-pub read_state-returns-in_ok-new-in-0-clause-spelled : goal.read_state-returns-in_ok-new-in-0-clause-spelled
-read_state-returns-in_ok-new-in-0-clause-spelled t c = formed c.in_ok-form.form 0 (type_bytes (type_of c.in_ok-t-in-0.t.value)) c.args.bytes.now c.in_ok-form.rest.now c.in_ok-t-in-0.rest.now c.in_ok-form.ensures.spelled c.in-0.is c.in_ok-t-in-0.ensures.spelled ∙ ap (λ v. written_state v ++ c.in_ok-t-in-0.rest.now) (sym c.in_ok-new-in-0.ensures.ok)
-
-pub read_state-returns-in_ok-new-in-0-clause-walked : goal.read_state-returns-in_ok-new-in-0-clause-walked
-read_state-returns-in_ok-new-in-0-clause-walked t c = numbered state_kind c.args.bytes.now c.in_ok-form.rest.now c.in_ok-form.form 0 c.in_ok-form.ensures.spelled c.in-0.is ∙ c.in_ok-t-in-0.ensures.walked
-
-pub read_state-returns-in_ok-new-in-0-clause-shorter : goal.read_state-returns-in_ok-new-in-0-clause-shorter
-read_state-returns-in_ok-new-in-0-clause-shorter t c = less_still c.args.bytes.now c.in_ok-form.rest.now c.in_ok-t-in-0.rest.now c.in_ok-form.ensures.shorter c.in_ok-t-in-0.ensures.shorter
-
-pub read_state-returns-in_err-x-in-1-clause-walked : goal.read_state-returns-in_err-x-in-1-clause-walked
-read_state-returns-in_err-x-in-1-clause-walked t c =
-    let exit = err_from_is_err_and c.from_residual-in_err-x-in-1.result c.from_residual-in_err-x-in-1.ensures.1 in
-    rw (exit.1, exit.2) (halts_so c.in_err-x-in-1.field-0.0 _ _ (numbered state_kind c.args.bytes.now c.in_ok-form.rest.now c.in_ok-form.form 1 c.in_ok-form.ensures.spelled c.in-1.is) c.in_err-x-in-1.ensures.walked)
-
-pub read_state-returns-in_err-new-in-1-clause-walked : goal.read_state-returns-in_err-new-in-1-clause-walked
-read_state-returns-in_err-new-in-1-clause-walked t c =
-    let exit = err_from_is_err_and c.from_residual-in_err-new-in-1.result c.from_residual-in_err-new-in-1.ensures.1 in
-    rw (exit.1, exit.2) (tt)
-
-pub read_state-returns-in_ok-new-in-1-clause-spelled : goal.read_state-returns-in_ok-new-in-1-clause-spelled
-read_state-returns-in_ok-new-in-1-clause-spelled t c = formed c.in_ok-form.form 1 (short_bytes c.in_ok-x-in-1.x.0) c.args.bytes.now c.in_ok-form.rest.now c.in_ok-x-in-1.rest.now c.in_ok-form.ensures.spelled c.in-1.is c.in_ok-x-in-1.ensures.spelled ∙ ap (λ v. written_state v ++ c.in_ok-x-in-1.rest.now) (sym c.in_ok-new-in-1.ensures.ok)
-
-pub read_state-returns-in_ok-new-in-1-clause-walked : goal.read_state-returns-in_ok-new-in-1-clause-walked
-read_state-returns-in_ok-new-in-1-clause-walked t c = numbered state_kind c.args.bytes.now c.in_ok-form.rest.now c.in_ok-form.form 1 c.in_ok-form.ensures.spelled c.in-1.is ∙ c.in_ok-x-in-1.ensures.walked
-
-pub read_state-returns-in_ok-new-in-1-clause-shorter : goal.read_state-returns-in_ok-new-in-1-clause-shorter
-read_state-returns-in_ok-new-in-1-clause-shorter t c = less_still c.args.bytes.now c.in_ok-form.rest.now c.in_ok-x-in-1.rest.now c.in_ok-form.ensures.shorter c.in_ok-x-in-1.ensures.shorter
-
-pub read_state-returns-in_err-a-in-2-clause-walked : goal.read_state-returns-in_err-a-in-2-clause-walked
-read_state-returns-in_err-a-in-2-clause-walked t c =
-    let exit = err_from_is_err_and c.from_residual-in_err-a-in-2.result c.from_residual-in_err-a-in-2.ensures.1 in
-    rw (exit.1, exit.2) (halts_so c.in_err-a-in-2.field-0.0 _ _ (numbered state_kind c.args.bytes.now c.in_ok-form.rest.now c.in_ok-form.form 2 c.in_ok-form.ensures.spelled c.in-2.is) c.in_err-a-in-2.ensures.walked)
-
-pub read_state-returns-in_err-new-in-2-clause-walked : goal.read_state-returns-in_err-new-in-2-clause-walked
-read_state-returns-in_err-new-in-2-clause-walked t c =
-    let exit = err_from_is_err_and c.from_residual-in_err-new-in-2.result c.from_residual-in_err-new-in-2.ensures.1 in
-    rw (exit.1, exit.2) (tt)
-
-pub read_state-returns-in_ok-new-in-2-clause-spelled : goal.read_state-returns-in_ok-new-in-2-clause-spelled
-read_state-returns-in_ok-new-in-2-clause-spelled t c = formed c.in_ok-form.form 2 (written_state c.in_ok-a-in-2.a.value ++ written_state c.in_ok-a-in-2.b.value) c.args.bytes.now c.in_ok-form.rest.now c.in_ok-a-in-2.rest.now c.in_ok-form.ensures.spelled c.in-2.is c.in_ok-a-in-2.ensures.spelled ∙ ap (λ v. written_state v ++ c.in_ok-a-in-2.rest.now) (sym c.in_ok-new-in-2.ensures.ok)
-
-pub read_state-returns-in_ok-new-in-2-clause-walked : goal.read_state-returns-in_ok-new-in-2-clause-walked
-read_state-returns-in_ok-new-in-2-clause-walked t c = numbered state_kind c.args.bytes.now c.in_ok-form.rest.now c.in_ok-form.form 2 c.in_ok-form.ensures.spelled c.in-2.is ∙ c.in_ok-a-in-2.ensures.walked
-
-pub read_state-returns-in_ok-new-in-2-clause-shorter : goal.read_state-returns-in_ok-new-in-2-clause-shorter
-read_state-returns-in_ok-new-in-2-clause-shorter t c = less_still c.args.bytes.now c.in_ok-form.rest.now c.in_ok-a-in-2.rest.now c.in_ok-form.ensures.shorter c.in_ok-a-in-2.ensures.shorter
-
-pub read_state-returns-in_err-x-in-5-clause-walked : goal.read_state-returns-in_err-x-in-5-clause-walked
-read_state-returns-in_err-x-in-5-clause-walked t c =
-    let exit = err_from_is_err_and c.from_residual-in_err-x-in-5.result c.from_residual-in_err-x-in-5.ensures.1 in
-    rw (exit.1, exit.2) (halts_so c.in_err-x-in-5.field-0.0 _ _ (numbered state_kind c.args.bytes.now c.in_ok-form.rest.now c.in_ok-form.form 5 c.in_ok-form.ensures.spelled c.in-5.is) c.in_err-x-in-5.ensures.walked)
-
-pub read_state-returns-in_err-new-in-5-clause-walked : goal.read_state-returns-in_err-new-in-5-clause-walked
-read_state-returns-in_err-new-in-5-clause-walked t c =
-    let exit = err_from_is_err_and c.from_residual-in_err-new-in-5.result c.from_residual-in_err-new-in-5.ensures.1 in
-    rw (exit.1, exit.2) (tt)
-
-pub read_state-returns-in_ok-new-in-5-clause-spelled : goal.read_state-returns-in_ok-new-in-5-clause-spelled
-read_state-returns-in_ok-new-in-5-clause-spelled t c = formed c.in_ok-form.form 5 ((short_bytes c.in_ok-x-in-5.x.0) ++ ((short_bytes c.in_ok-x-in-5.y.0) ++ ((short_bytes c.in_ok-x-in-5.z.0) ++ (written_state c.in_ok-x-in-5.a.value)))) c.args.bytes.now c.in_ok-form.rest.now c.in_ok-x-in-5.rest.now c.in_ok-form.ensures.spelled c.in-5.is c.in_ok-x-in-5.ensures.spelled ∙ ap (λ v. written_state v ++ c.in_ok-x-in-5.rest.now) (sym c.in_ok-new-in-5.ensures.ok)
-
-pub read_state-returns-in_ok-new-in-5-clause-walked : goal.read_state-returns-in_ok-new-in-5-clause-walked
-read_state-returns-in_ok-new-in-5-clause-walked t c = numbered state_kind c.args.bytes.now c.in_ok-form.rest.now c.in_ok-form.form 5 c.in_ok-form.ensures.spelled c.in-5.is ∙ c.in_ok-x-in-5.ensures.walked
-
-pub read_state-returns-in_ok-new-in-5-clause-shorter : goal.read_state-returns-in_ok-new-in-5-clause-shorter
-read_state-returns-in_ok-new-in-5-clause-shorter t c = less_still c.args.bytes.now c.in_ok-form.rest.now c.in_ok-x-in-5.rest.now c.in_ok-form.ensures.shorter c.in_ok-x-in-5.ensures.shorter
-
-pub read_state-returns-in_err-x-in-6-clause-walked : goal.read_state-returns-in_err-x-in-6-clause-walked
-read_state-returns-in_err-x-in-6-clause-walked t c =
-    let exit = err_from_is_err_and c.from_residual-in_err-x-in-6.result c.from_residual-in_err-x-in-6.ensures.1 in
-    rw (exit.1, exit.2) (halts_so c.in_err-x-in-6.field-0.0 _ _ (numbered state_kind c.args.bytes.now c.in_ok-form.rest.now c.in_ok-form.form 6 c.in_ok-form.ensures.spelled c.in-6.is) c.in_err-x-in-6.ensures.walked)
-
-pub read_state-returns-in_err-new-in-6-clause-walked : goal.read_state-returns-in_err-new-in-6-clause-walked
-read_state-returns-in_err-new-in-6-clause-walked t c =
-    let exit = err_from_is_err_and c.from_residual-in_err-new-in-6.result c.from_residual-in_err-new-in-6.ensures.1 in
-    rw (exit.1, exit.2) (tt)
-
-pub read_state-returns-in_ok-new-in-6-clause-spelled : goal.read_state-returns-in_ok-new-in-6-clause-spelled
-read_state-returns-in_ok-new-in-6-clause-spelled t c = formed c.in_ok-form.form 6 ((short_bytes c.in_ok-x-in-6.x.0) ++ ((short_bytes c.in_ok-x-in-6.y.0) ++ ((short_bytes c.in_ok-x-in-6.z.0) ++ (written_state c.in_ok-x-in-6.a.value)))) c.args.bytes.now c.in_ok-form.rest.now c.in_ok-x-in-6.rest.now c.in_ok-form.ensures.spelled c.in-6.is c.in_ok-x-in-6.ensures.spelled ∙ ap (λ v. written_state v ++ c.in_ok-x-in-6.rest.now) (sym c.in_ok-new-in-6.ensures.ok)
-
-pub read_state-returns-in_ok-new-in-6-clause-walked : goal.read_state-returns-in_ok-new-in-6-clause-walked
-read_state-returns-in_ok-new-in-6-clause-walked t c = numbered state_kind c.args.bytes.now c.in_ok-form.rest.now c.in_ok-form.form 6 c.in_ok-form.ensures.spelled c.in-6.is ∙ c.in_ok-x-in-6.ensures.walked
-
-pub read_state-returns-in_ok-new-in-6-clause-shorter : goal.read_state-returns-in_ok-new-in-6-clause-shorter
-read_state-returns-in_ok-new-in-6-clause-shorter t c = less_still c.args.bytes.now c.in_ok-form.rest.now c.in_ok-x-in-6.rest.now c.in_ok-form.ensures.shorter c.in_ok-x-in-6.ensures.shorter
-
-pub read_state-returns-in-3-clause-spelled : goal.read_state-returns-in-3-clause-spelled
-read_state-returns-in-3-clause-spelled t c = rw (begins c.in_ok-form.form 3 c.args.bytes.now c.in_ok-form.rest.now c.in_ok-form.ensures.spelled c.in-3.is) c.read_cat.ensures.spelled
-
-pub read_state-returns-in-3-clause-walked : goal.read_state-returns-in-3-clause-walked
-read_state-returns-in-3-clause-walked t c = rw (numbered state_kind c.args.bytes.now c.in_ok-form.rest.now c.in_ok-form.form 3 c.in_ok-form.ensures.spelled c.in-3.is) c.read_cat.ensures.walked
-
-pub read_state-returns-in-3-clause-shorter : goal.read_state-returns-in-3-clause-shorter
-read_state-returns-in-3-clause-shorter t c = leaves_less (λ x. x.1.now) c.read_cat.result c.args.bytes.now c.in_ok-form.rest.now c.in_ok-form.ensures.shorter c.read_cat.ensures.shorter
-
-pub read_state-returns-in-4-clause-spelled : goal.read_state-returns-in-4-clause-spelled
-read_state-returns-in-4-clause-spelled t c = rw (begins c.in_ok-form.form 4 c.args.bytes.now c.in_ok-form.rest.now c.in_ok-form.ensures.spelled c.in-4.is) c.read_let.ensures.spelled
-
-pub read_state-returns-in-4-clause-walked : goal.read_state-returns-in-4-clause-walked
-read_state-returns-in-4-clause-walked t c = rw (numbered state_kind c.args.bytes.now c.in_ok-form.rest.now c.in_ok-form.form 4 c.in_ok-form.ensures.spelled c.in-4.is) c.read_let.ensures.walked
-
-pub read_state-returns-in-4-clause-shorter : goal.read_state-returns-in-4-clause-shorter
-read_state-returns-in-4-clause-shorter t c = leaves_less (λ x. x.1.now) c.read_let.result c.args.bytes.now c.in_ok-form.rest.now c.in_ok-form.ensures.shorter c.read_let.ensures.shorter
-
-pub read_state-returns-in-7-clause-spelled : goal.read_state-returns-in-7-clause-spelled
-read_state-returns-in-7-clause-spelled t c = rw (begins c.in_ok-form.form 7 c.args.bytes.now c.in_ok-form.rest.now c.in_ok-form.ensures.spelled c.in-7.is) c.read_case_sum.ensures.spelled
-
-pub read_state-returns-in-7-clause-walked : goal.read_state-returns-in-7-clause-walked
-read_state-returns-in-7-clause-walked t c = rw (numbered state_kind c.args.bytes.now c.in_ok-form.rest.now c.in_ok-form.form 7 c.in_ok-form.ensures.spelled c.in-7.is) c.read_case_sum.ensures.walked
-
-pub read_state-returns-in-7-clause-shorter : goal.read_state-returns-in-7-clause-shorter
-read_state-returns-in-7-clause-shorter t c = leaves_less (λ x. x.1.now) c.read_case_sum.result c.args.bytes.now c.in_ok-form.rest.now c.in_ok-form.ensures.shorter c.read_case_sum.ensures.shorter
-
-pub read_state-returns-in-8-clause-spelled : goal.read_state-returns-in-8-clause-spelled
-read_state-returns-in-8-clause-spelled t c = rw (begins c.in_ok-form.form 8 c.args.bytes.now c.in_ok-form.rest.now c.in_ok-form.ensures.spelled c.in-8.is) c.read_case_star.ensures.spelled
-
-pub read_state-returns-in-8-clause-walked : goal.read_state-returns-in-8-clause-walked
-read_state-returns-in-8-clause-walked t c = rw (numbered state_kind c.args.bytes.now c.in_ok-form.rest.now c.in_ok-form.form 8 c.in_ok-form.ensures.spelled c.in-8.is) c.read_case_star.ensures.walked
-
-pub read_state-returns-in-8-clause-shorter : goal.read_state-returns-in-8-clause-shorter
-read_state-returns-in-8-clause-shorter t c = leaves_less (λ x. x.1.now) c.read_case_star.result c.args.bytes.now c.in_ok-form.rest.now c.in_ok-form.ensures.shorter c.read_case_star.ensures.shorter
-
-pub read_state-returns-in-9-clause-spelled : goal.read_state-returns-in-9-clause-spelled
-read_state-returns-in-9-clause-spelled t c = rw (begins c.in_ok-form.form 9 c.args.bytes.now c.in_ok-form.rest.now c.in_ok-form.ensures.spelled c.in-9.is) c.read_wait.ensures.spelled
-
-pub read_state-returns-in-9-clause-walked : goal.read_state-returns-in-9-clause-walked
-read_state-returns-in-9-clause-walked t c = rw (numbered state_kind c.args.bytes.now c.in_ok-form.rest.now c.in_ok-form.form 9 c.in_ok-form.ensures.spelled c.in-9.is) c.read_wait.ensures.walked
-
-pub read_state-returns-in-9-clause-shorter : goal.read_state-returns-in-9-clause-shorter
-read_state-returns-in-9-clause-shorter t c = leaves_less (λ x. x.1.now) c.read_wait.result c.args.bytes.now c.in_ok-form.rest.now c.in_ok-form.ensures.shorter c.read_wait.ensures.shorter
-
-pub read_state-returns-in-10-clause-spelled : goal.read_state-returns-in-10-clause-spelled
-read_state-returns-in-10-clause-spelled t c = rw (begins c.in_ok-form.form 10 c.args.bytes.now c.in_ok-form.rest.now c.in_ok-form.ensures.spelled c.in-10.is) c.read_frame.ensures.spelled
-
-pub read_state-returns-in-10-clause-walked : goal.read_state-returns-in-10-clause-walked
-read_state-returns-in-10-clause-walked t c = rw (numbered state_kind c.args.bytes.now c.in_ok-form.rest.now c.in_ok-form.form 10 c.in_ok-form.ensures.spelled c.in-10.is) c.read_frame.ensures.walked
-
-pub read_state-returns-in-10-clause-shorter : goal.read_state-returns-in-10-clause-shorter
-read_state-returns-in-10-clause-shorter t c = leaves_less (λ x. x.1.now) c.read_frame.result c.args.bytes.now c.in_ok-form.rest.now c.in_ok-form.ensures.shorter c.read_frame.ensures.shorter
-
--- its count isn't read, or memory is refused,
-pub read_arguments-returns-in_err-count-clause-walked : goal.read_arguments-returns-in_err-count-clause-walked
-read_arguments-returns-in_err-count-clause-walked t c =
-    let exit = err_from_is_err_and c.from_residual.result c.from_residual.ensures.1 in
-    rw (exit.1, exit.2) (count_halts argument_item c.args.bytes.now c.in_err-count.field-0.0 c.in_err-count.ensures.walked)
-
-pub read_arguments-returns-in_err-push-clause-walked : goal.read_arguments-returns-in_err-push-clause-walked
-read_arguments-returns-in_err-push-clause-walked t c =
-    let exit = err_from_is_err_and c.from_residual-in_err-push.result c.from_residual-in_err-push.ensures.1 in
-    rw (exit.1, exit.2) tt
-
--- none are read yet, and all are
-pub read_arguments-items-init : goal.read_arguments-items-init
-read_arguments-items-init t c = none_read argument_item written_argument (λ a. a) c.in_ok-count.count c.in_ok-count.rest.now c.new-items.result.items c.new-items.ensures.items
-
-pub read_arguments-returns-clause-shorter : goal.read_arguments-returns-clause-shorter
-read_arguments-returns-clause-shorter t c = list_less argument_item written_argument (λ a. a) c.in_ok-count.count c.args.bytes.now c.in_ok-count.rest.now c.items.counter c.items.items.items c.items.rest.now c.in_ok-count.ensures.shorter c.items.invariant
+    read_one_more c.items.invariant lt c.in_ok-push.ensures.items refl c.in_ok-arg.ensures.reads
+
+pub read_arguments-returns : goal.read_arguments-returns
+read_arguments-returns t c =
+    let all : c.items.counter ≡ c.in_ok-count.count = omega arith in
+    record { reads = list_read_same c.in_ok-count.ensures.reads c.items.invariant all }

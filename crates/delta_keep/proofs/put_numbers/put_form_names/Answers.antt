@@ -1,0 +1,5 @@
+use Rattle.delta_keep.proofs.PutInTurn.{puts_4}
+use Rattle.delta_keep.proofs.put_numbers.put_form_names.Goals as goal
+
+pub returns : goal.returns
+returns c = puts_4 c.put_byte.ensures c.put_name.ensures c.put_name-2.ensures c.put_name-3.ensures
