@@ -1,22 +1,23 @@
 -- Lets in one another: what is to be given in the body of those whose heads are shut is what was to be given in all.
-use Rattle.std.proofs.Common.{◌≡◌, ◌∙◌, ℕ, ◌+◌, ◌-◌, ◌<◌, ◌≤◌, max, min, Bool, true, false, ◌||◌, ap, refl, sym, subst, arith}
+use Rattle.std.specs.Prelude.{map}
+use Rattle.std.proofs.Common.{◌≡◌, ◌∙◌, ℕ, List, ◌+◌, ◌-◌, ◌<◌, ◌≤◌, max, min, Bool, true, false, ◌||◌, ap, refl, sym, subst, arith}
 use Rattle.stream_type.specs.StreamType.{StreamType}
-use Rattle.stream_prefix.specs.StreamPrefix.{is_maximal, der}
+use Rattle.stream_prefix.specs.StreamPrefix.{StreamPrefix, is_maximal, der}
+use Rattle.stream_prefix.specs.Tree.{prefix_of}
 use Rattle.bunch.specs.Names.{put}
 use Rattle.core_term.specs.CoreTerm.{CoreTerm, is_var, let_term}
 use Rattle.core_term.specs.Environment.{Environment, NameTypes}
-use Rattle.core_term.specs.Meaning.{run_at}
 use Rattle.core_term.specs.Run.{Run, deeper, let_run}
 use Rattle.delta_state.specs.StateTree.{StateTree, let_state}
-use Rattle.delta_state.specs.StateMeaning.{past_in}
-use Rattle.delta_state.specs.Rest.{rest_at}
+use Rattle.machine_parts.specs.declared.entry.Entry.{Entry}
+use Rattle.machine_parts.specs.declared.scope.Scope.{Scope}
+use Rattle.machine_parts.specs.Scope.{types_in, streams_in, types_over, streams_over}
 use Rattle.template_state.specs.declared.code.Code.{Code}
 use Rattle.template_state.specs.declared.live.Past.{Past}
-use Rattle.template_state.specs.Readers.{known_in}
 use Rattle.delta_code.specs.Eased.{Eased}
 use Rattle.delta_code.specs.declared.way.Way.{Way}
-use Rattle.delta_code.specs.Steps.{funs_of}
-use Rattle.delta_code.specs.Way.{after, within}
+use Rattle.delta_code.specs.Steps.{run_where, rest_where}
+use Rattle.delta_code.specs.Way.{after, gained, within}
 use Rattle.delta_code.proofs.Easing.{eased_same, eased_then, eased_let, within_eased}
 
 -- The run `first`, which leaves `kept`, was to come at the end of the way `old`, with `n` calls left. It is `rest`,
@@ -57,29 +58,22 @@ level_shut w x y v e f = go (v || is_maximal x.out) refl
     go false q = absurd (cc (q, e, f))
 
 module _ (code : Code) (k : ℕ) (es : Past) where
-  -- a term where these types stand for names, and this comes on them
-  abbrev pub ran : CoreTerm → NameTypes → StreamType → Environment → Run
-  ran e types r env = run_at (funs_of code) k e types r env (past_in (known_in es))
-
-  abbrev pub rested : CoreTerm → NameTypes → StreamType → Environment → StateTree
-  rested e types r env = rest_at (funs_of code) k e types r env (known_in es)
-
   -- in a let whose head is shut
   pub into_nest : (x : ℕ) (t : StreamType) (a b : CoreTerm) (r : StreamType) (types : NameTypes) (env : Environment)
       {first head : Run} {kept left : StateTree} {old mid new : Way} {n m levels : ℕ}
-      → Nested first (ran (let_term x t a b) types r env) kept (rested (let_term x t a b) types r env) old mid n m levels
-      → head ≡ ran a types t env → Eased (rested a types t env) left → (is_var a || is_maximal head.out) ≡ true → head.calls ≤ m → head.level ≤ levels - 1
+      → Nested first (run_where code k es (let_term x t a b) types r env) kept (rest_where code k es (let_term x t a b) types r env) old mid n m levels
+      → head ≡ run_where code k es a types t env → Eased (rest_where code k es a types t env) left → (is_var a || is_maximal head.out) ≡ true → head.calls ≤ m → head.level ≤ levels - 1
       → ((z : Run) → after new z ≡ after mid (let_run (is_var a) head z))
       → ((z : StateTree) → within new.layers z ≡ within mid.layers (let_state x (der head.out t) left z))
       → new.calls ≡ mid.calls + head.calls → new.level ≡ max mid.level (deeper false head.level)
-      → Nested first (ran b (put x t types) r (put x head.out env)) kept (rested b (put x t types) r (put x head.out env)) old new n (m - head.calls) levels
+      → Nested first (run_where code k es b (put x t types) r (put x head.out env)) kept (rest_where code k es b (put x t types) r (put x head.out env)) old new n (m - head.calls) levels
   into_nest x t a b r types env {first = first} {head = head} {kept = kept} {left = left} {old = old} {mid = mid} {new = new} {n = n} {m = m} {levels = levels} h e eased shut c l gains layers calls level =
-      let y = ran b (put x t types) r (put x head.out env) in
-      let s = rested b (put x t types) r (put x head.out env) in
-      let same : ran (let_term x t a b) types r env ≡ let_run (is_var a) head y =
-      ap (λ (z : Run). let_run (is_var a) z (ran b (put x t types) r (put x z.out env))) (sym e) in
-      let there : rested (let_term x t a b) types r env ≡ let_state x (der head.out t) (rested a types t env) s =
-      ap (λ (z : Run). let_state x (der z.out t) (rested a types t env) (rested b (put x t types) r (put x z.out env))) (sym e) in
+      let y = run_where code k es b (put x t types) r (put x head.out env) in
+      let s = rest_where code k es b (put x t types) r (put x head.out env) in
+      let same : run_where code k es (let_term x t a b) types r env ≡ let_run (is_var a) head y =
+      ap (λ (z : Run). let_run (is_var a) z (run_where code k es b (put x t types) r (put x z.out env))) (sym e) in
+      let there : rest_where code k es (let_term x t a b) types r env ≡ let_state x (der head.out t) (rest_where code k es a types t env) s =
+      ap (λ (z : Run). let_state x (der z.out t) (rest_where code k es a types t env) (rest_where code k es b (put x t types) r (put x z.out env))) (sym e) in
       let g = nest_is h same there in
       let counted = g.counted in
       let all = g.calls in
@@ -97,9 +91,34 @@ module _ (code : Code) (k : ℕ) (es : Past) where
         level = omega (arith, low, inner);
       }
 
-  -- the names bound so far, and one more
-  pub nest_again : (e other : CoreTerm) (types c : NameTypes) (r : StreamType) (env d : Environment)
-      {first : Run} {kept : StateTree} {old new : Way} {n m levels : ℕ}
-      → Nested first (ran e types r env) kept (rested e types r env) old new n m levels → c ≡ types → d ≡ env → e ≡ other
-      → Nested first (ran other c r d) kept (rested other c r d) old new n m levels
-  nest_again e other types c r env d h f g same = nest_is h (λ i. ran (same i) (sym f i) r (sym g i)) (λ i. rested (same i) (sym f i) r (sym g i))
+  -- where the head's name is bound behind the others, and what is left of the body is left of another term behind more
+  pub nest_again : (bs mid new : List Entry) (x : ℕ) (t : StreamType) (q : StreamPrefix) (e other : CoreTerm) (s : Scope) (r : StreamType)
+      {first : Run} {kept : StateTree} {old way on : Way} {n m levels : ℕ}
+      → Nested first (run_where code k es e (put x t (types_over bs (types_in s))) r (put x q (streams_over bs (streams_in s)))) kept
+      (rest_where code k es e (put x t (types_over bs (types_in s))) r (put x q (streams_over bs (streams_in s)))) old way n m levels
+      → ((c : NameTypes) → types_over mid c ≡ put x t (types_over bs c)) → ((d : Environment) → streams_over mid d ≡ put x q (streams_over bs d))
+      → run_where code k es other (types_over new (types_in s)) r (streams_over new (streams_in s)) ≡ run_where code k es e (types_over mid (types_in s)) r (streams_over mid (streams_in s))
+      → within on.layers (rest_where code k es other (types_over new (types_in s)) r (streams_over new (streams_in s))) ≡ within way.layers (rest_where code k es e (types_over mid (types_in s)) r (streams_over mid (streams_in s)))
+      → on.items ≡ way.items → on.calls ≡ way.calls → on.level ≡ way.level
+      → Nested first (run_where code k es other (types_over new (types_in s)) r (streams_over new (streams_in s))) kept
+      (rest_where code k es other (types_over new (types_in s)) r (streams_over new (streams_in s))) old on n m levels
+  nest_again bs mid new x t q e other s r {first = first} {kept = kept} {old = old} {way = way} {on = on} {n = n} {m = m} {levels = levels} h types streams run rest items calls level =
+      let types_are = types (types_in s) in
+      let streams_are = streams (streams_in s) in
+      let g = nest_is h (λ i. run_where code k es e (sym types_are i) r (sym streams_are i)) (λ i. rest_where code k es e (sym types_are i) r (sym streams_are i)) in
+      let counted = g.counted in
+      let all = g.calls in
+      let few = g.few in
+      let shallow = g.shallow in
+      let low = g.level in
+      let fewer = ap (λ (z : Run). z.calls) run in
+      let lower = ap (λ (z : Run). z.level) run in
+      record {
+        run = (λ i. gained (map prefix_of (items i).items) (calls i) (level i) (run i)) ∙ g.run;
+        state = eased_then g.state (eased_same (sym rest));
+        counted = omega (arith, counted, calls);
+        calls = omega (arith, all, fewer);
+        few = omega (arith, few);
+        shallow = omega (arith, shallow, level);
+        level = omega (arith, low, lower);
+      }

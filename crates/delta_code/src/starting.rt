@@ -26,6 +26,7 @@ use crate::begun::{
     Begun, Passed, both, bound, called, first, left_side, no_arguments, right_side, run_before,
     second, starred, state_before,
 };
+use crate::chosen::chosen;
 use crate::entering::{body_at, entered, missing, params_of};
 use crate::quiet::reach_quiet;
 use crate::seeing::{knowing, later, values_in};
@@ -296,7 +297,7 @@ fn reach_cons<'a>(
 }
 
 // A let, whose body stands at its own level where the head is a name or whole. Of lets in one another each is a
-// turn of the loop, so that many take no more of the stack than one.
+// turn of the loop, and so is an `if` in one, so that many take no more of the stack than one.
 #[cycle(start)]
 #[tactic(auto, using(crate::proofs::Easing::reached_eased, machine_parts::proofs::Runs::spent_after, machine_parts::proofs::Deeper::let_deep))]
 #[inline(never)]
@@ -340,12 +341,13 @@ fn reach_let<'a>(
             return Ok(Reached::Given(bound(alloc, false, x, s, head, body)?));
         }
         let prefix = into_let(alloc, way, is_var(a), x, s, head)?;
-        let Op::Let(name, ty, next, after) = &**b else {
-            let inner = Scope::Stream(x, s, &prefix, &outer);
-            return reach(alloc, code, k, &inner, past, b, r, rest, levels, way);
-        };
         bind(alloc, &mut lets, x, s, prefix)?;
         left = rest;
+        let body = chosen(alloc, &*scope, &mut lets, &mut way.layers, b)?;
+        let Op::Let(name, ty, next, after) = &**body else {
+            let inner = Scope::Lets(&lets, &*scope);
+            return reach(alloc, code, k, &inner, past, body, r, left, levels, way);
+        };
         x = *name;
         s = ty;
         a = next;

@@ -7,10 +7,10 @@ use Rattle.machine_parts.specs.Weights.{weight, weight_of_all, weight_of_calls}
 use Rattle.template_state.specs.Readers.{op_term, operand_terms}
 use Rattle.template_state.specs.Templates.{bodies_in}
 use Rattle.delta_code.specs.Eased.{Eased}
-use Rattle.delta_code.specs.Steps.{op_run, op_rest}
+use Rattle.delta_code.specs.Steps.{op_run, op_rest, run_where, rest_where}
 use Rattle.delta_code.specs.Way.{within, after, reached_run, reached_rest, reached_calls, reached_level}
 use Rattle.delta_code.proofs.Chain.{Chained}
-use Rattle.delta_code.proofs.Lets.{Nested, ran, rested}
+use Rattle.delta_code.proofs.Lets.{Nested}
 use Rattle.delta_code.proofs.starting.+start.Given as goal
 
 abbrev pub decreases-start : goal.decreases-start
@@ -97,8 +97,8 @@ invariant-reach_let-lets l =
     let rest = let_term l.x.0 (type_of l.s) (op_term l.a.value) (op_term l.b.value) in
     let types = types_over l.lets.items (types_in l.scope) in
     let streams = streams_over l.lets.items (streams_in l.scope) in
-    Nested (op_run l.code l.k l.scope l.past.value all (type_of l.r)) (ran l.code l.k l.past.value rest types (type_of l.r) streams)
-    (op_rest l.code l.k l.scope l.past.value all (type_of l.r)) (rested l.code l.k l.past.value rest types (type_of l.r) streams)
+    Nested (op_run l.code l.k l.scope l.past.value all (type_of l.r)) (run_where l.code l.k l.past.value rest types (type_of l.r) streams)
+    (op_rest l.code l.k l.scope l.past.value all (type_of l.r)) (rest_where l.code l.k l.past.value rest types (type_of l.r) streams)
     l.initial.way l.way l.initial.left l.left l.levels
     × (weight (op_term l.a.value) + weight (op_term l.b.value) ≤ weight (op_term l.initial.a.value) + weight (op_term l.initial.b.value))
 
