@@ -57,6 +57,13 @@ level_shut w x y v e f = go (v || is_maximal x.out) refl
     go true q = rw q (omega arith)
     go false q = absurd (cc (q, e, f))
 
+-- at the end of the way
+pub nest_counted : {first rest : Run} {kept left : StateTree} {old new : Way} {n m levels : ℕ} → Nested first rest kept left old new n m levels → (c : ℕ) → c ≤ new.calls + m → c ≤ old.calls + n
+nest_counted h c l = let e = h.counted in omega (arith, e, l)
+
+pub nest_shallow : {first rest : Run} {kept left : StateTree} {old new : Way} {n m levels : ℕ} → Nested first rest kept left old new n m levels → (d : ℕ) → d ≤ max new.level levels → d ≤ max old.level levels
+nest_shallow h d l = let e = h.shallow in omega (arith, e, l)
+
 module _ (code : Code) (k : ℕ) (es : Past) where
   -- in a let whose head is shut
   pub into_nest : (x : ℕ) (t : StreamType) (a b : CoreTerm) (r : StreamType) (types : NameTypes) (env : Environment)
