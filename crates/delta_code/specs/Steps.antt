@@ -3,6 +3,7 @@
 use Rattle.std.specs.Prelude.{ℕ, List, map}
 use Rattle.stream_type.specs.StreamType.{StreamType}
 use Rattle.core_term.specs.CoreTerm.{CoreTerm, CoreTerms, CoreBody, fun_at}
+use Rattle.core_term.specs.Environment.{Environment, NameTypes}
 use Rattle.core_term.specs.Run.{Run, Runs}
 use Rattle.core_term.specs.Meaning.{run_at, run_all, call_at}
 use Rattle.delta_state.specs.StateTree.{StateTree, ArgumentTrees}
@@ -19,12 +20,19 @@ use Rattle.template_state.specs.Templates.{bodies_in}
 abbrev pub funs_of : Code → ℕ → CoreBody
 funs_of c = fun_at (bodies_in c)
 
+-- a term where these types stand for names, and this comes on them, and what is left of it
+abbrev pub run_where : Code → ℕ → Past → CoreTerm → NameTypes → StreamType → Environment → Run
+run_where c k es e types r env = run_at (funs_of c) k e types r env (past_in (known_in es))
+
+abbrev pub rest_where : Code → ℕ → Past → CoreTerm → NameTypes → StreamType → Environment → StateTree
+rest_where c k es e types r env = rest_at (funs_of c) k e types r env (known_in es)
+
 -- the run of a template, and what is left of it
 abbrev pub op_run : Code → ℕ → Scope → Past → CoreTerm → StreamType → Run
-op_run c k s es e r = run_at (funs_of c) k e (types_in s) r (streams_in s) (past_in (known_in es))
+op_run c k s es e r = run_where c k es e (types_in s) r (streams_in s)
 
 abbrev pub op_rest : Code → ℕ → Scope → Past → CoreTerm → StreamType → StateTree
-op_rest c k s es e r = rest_at (funs_of c) k e (types_in s) r (streams_in s) (known_in es)
+op_rest c k s es e r = rest_where c k es e (types_in s) r (streams_in s)
 
 -- the same of arguments, for parameters of these names and types
 abbrev pub ops_run : Code → ℕ → Scope → Past → CoreTerms → List StreamType → Runs

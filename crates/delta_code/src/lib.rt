@@ -4,6 +4,7 @@
 mod around;
 mod awaiting;
 mod begun;
+mod chosen;
 mod compiling;
 mod entering;
 mod framing;

@@ -26,6 +26,7 @@ use crate::begun::{
     Begun, Passed, both, bound, called, first, left_side, no_arguments, right_side, run_before,
     second, starred, state_before,
 };
+use crate::chosen::chosen;
 use crate::entering::{body_at, entered, missing, params_of};
 use crate::quiet::reach_quiet;
 use crate::seeing::{knowing, later, values_in};
@@ -41,7 +42,7 @@ use machine_parts::parts::{
     Sided, Taken, cat_types, first_part, items_after, par_parts, par_types, second_part,
     side_taken, star_begun, star_taken, star_types, sum_types,
 };
-use machine_parts::scope::{Scope, stream_at, type_at};
+use machine_parts::scope::{Scope, bind, stream_at, type_at};
 use machine_parts::stop::Stop;
 use std::alloc::Global;
 use std::rc::Rc;
@@ -295,7 +296,8 @@ fn reach_cons<'a>(
     }
 }
 
-// A let, whose body stands at its own level where the head is a name or whole.
+// A let, whose body stands at its own level where the head is a name or whole. Of lets in one another each is a
+// turn of the loop, and so is an `if` in one, so that many take no more of the stack than one.
 #[cycle(start)]
 #[tactic(auto, using(crate::proofs::Easing::reached_eased, machine_parts::proofs::Runs::spent_after, machine_parts::proofs::Deeper::let_deep))]
 #[inline(never)]
@@ -323,16 +325,34 @@ fn reach_let<'a>(
     ensures spent { IfErr result (λ q. q ≡ Stop.Spent → left < (op_run code.now k scope.now past.now.value (let_term x.0 (type_of s.now) (op_term a.now.value) (op_term b.now.value)) (type_of r.now)).calls) }
     ensures deep { IfErr result (λ q. q ≡ Stop.Deep → levels < (op_run code.now k scope.now past.now.value (let_term x.0 (type_of s.now) (op_term a.now.value) (op_term b.now.value)) (type_of r.now)).level) }
 {
-    let head = start(alloc, code, k, scope, past, a, s, left, inside(levels))?;
-    let rest = left - head.calls;
-    if is_var(a) || maximal(&head.output) {
-        let output = into_let(alloc, way, is_var(a), x, s, head)?;
-        let inner = Scope::Stream(x, s, &output, &*scope);
-        return reach(alloc, code, k, &inner, past, b, r, rest, levels, way);
+    let mut lets = Vec::new(alloc);
+    let mut left = left;
+    let mut x = x;
+    let mut s = s;
+    let mut a = a;
+    let mut b = b;
+    'lets: loop {
+        let outer = Scope::Lets(&lets, &*scope);
+        let head = start(alloc, code, k, &outer, past, a, s, left, inside(levels))?;
+        let rest = left - head.calls;
+        if !(is_var(a) || maximal(&head.output)) {
+            let inner = Scope::Stream(x, s, &head.output, &outer);
+            let body = start(alloc, code, k, &inner, past, b, r, rest, inside(levels))?;
+            return Ok(Reached::Given(bound(alloc, false, x, s, head, body)?));
+        }
+        let prefix = into_let(alloc, way, is_var(a), x, s, head)?;
+        bind(alloc, &mut lets, x, s, prefix)?;
+        left = rest;
+        let body = chosen(alloc, &*scope, &mut lets, &mut way.layers, b)?;
+        let Op::Let(name, ty, next, after) = &**body else {
+            let inner = Scope::Lets(&lets, &*scope);
+            return reach(alloc, code, k, &inner, past, body, r, left, levels, way);
+        };
+        x = *name;
+        s = ty;
+        a = next;
+        b = after;
     }
-    let inner = Scope::Stream(x, s, &head.output, &*scope);
-    let body = start(alloc, code, k, &inner, past, b, r, rest, inside(levels))?;
-    Ok(Reached::Given(bound(alloc, false, x, s, head, body)?))
 }
 
 // `let (x, y) = z` in a term.

@@ -1,14 +1,16 @@
 -- What is left to go through: what calls may weigh at the depth, and the weight of what stands there.
 use Rattle.std.proofs.Common.{◌≡◌, ◌≤◌, ◌+◌, ◌*◌, max}
 use Rattle.stream_type.specs.StreamType.{type_of}
-use Rattle.core_term.specs.CoreTerm.{cons_term}
+use Rattle.core_term.specs.CoreTerm.{cons_term, let_term}
+use Rattle.machine_parts.specs.Scope.{types_in, streams_in, types_over, streams_over}
 use Rattle.machine_parts.specs.Weights.{weight, weight_of_all, weight_of_calls}
 use Rattle.template_state.specs.Readers.{op_term, operand_terms}
 use Rattle.template_state.specs.Templates.{bodies_in}
 use Rattle.delta_code.specs.Eased.{Eased}
-use Rattle.delta_code.specs.Steps.{op_run, op_rest}
+use Rattle.delta_code.specs.Steps.{op_run, op_rest, run_where, rest_where}
 use Rattle.delta_code.specs.Way.{within, after, reached_run, reached_rest, reached_calls, reached_level}
 use Rattle.delta_code.proofs.Chain.{Chained}
+use Rattle.delta_code.proofs.Lets.{Nested}
 use Rattle.delta_code.proofs.starting.+start.Given as goal
 
 abbrev pub decreases-start : goal.decreases-start
@@ -87,3 +89,18 @@ invariant-reach_cons-items l =
 
 abbrev pub decreases-reach_cons-items : goal.decreases-reach_cons-items
 decreases-reach_cons-items l = weight (op_term l.more.value)
+
+-- what the lets from here on give, with the names bound so far, is what all of them were to give; and they weigh no more
+abbrev pub invariant-reach_let-lets : goal.invariant-reach_let-lets
+invariant-reach_let-lets l =
+    let all = let_term l.initial.x.0 (type_of l.initial.s) (op_term l.initial.a.value) (op_term l.initial.b.value) in
+    let rest = let_term l.x.0 (type_of l.s) (op_term l.a.value) (op_term l.b.value) in
+    let types = types_over l.lets.items (types_in l.scope) in
+    let streams = streams_over l.lets.items (streams_in l.scope) in
+    Nested (op_run l.code l.k l.scope l.past.value all (type_of l.r)) (run_where l.code l.k l.past.value rest types (type_of l.r) streams)
+    (op_rest l.code l.k l.scope l.past.value all (type_of l.r)) (rest_where l.code l.k l.past.value rest types (type_of l.r) streams)
+    l.initial.way l.way l.initial.left l.left l.levels
+    × (weight (op_term l.a.value) + weight (op_term l.b.value) ≤ weight (op_term l.initial.a.value) + weight (op_term l.initial.b.value))
+
+abbrev pub decreases-reach_let-lets : goal.decreases-reach_let-lets
+decreases-reach_let-lets l = weight (op_term l.b.value)
