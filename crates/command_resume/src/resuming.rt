@@ -12,6 +12,7 @@ ghost use Rattle.command_resume.specs.Resuming.{Resumes, ResumesFile};
 use crate::refusing::fault_end;
 use core_term::Checked;
 use delta_end::End;
+use delta_keep::dismiss;
 use event_frame::Version;
 use kept_check::load;
 use kept_runner::run_kept;
@@ -41,7 +42,7 @@ fn resume_bytes<M: Keeping, L: Link>(
     match load(alloc, c, bytes) {
         Ok(k) => {
             let end = run_kept::<M, L>(alloc, c, &k, budget, version, link);
-            drop(k);
+            dismiss(k);
             end
         }
         Err(fault) => fault_end(fault),

@@ -16,7 +16,7 @@ ghost use Rattle.command_save.specs.Leaving.{StandsForSome, KeptAs, Saves};
 
 use core_term::Checked;
 use delta_end::{End, Objection, StateName};
-use delta_keep::{SaveRefusal, save};
+use delta_keep::{SaveRefusal, dismiss, save};
 use delta_loop::{run_machine, stop_first};
 use delta_runner::{BeginFault, Runner, begin};
 use event_frame::Version;
@@ -32,7 +32,11 @@ fn bytes_of<M: Keeping>(alloc: Global, runner: &Runner<M>) -> Result<Vec<u8>, Sa
 {
     match runner.session.machine() {
         Some(machine) => match machine.to_kept(alloc) {
-            Ok(k) => save(alloc, &k),
+            Ok(k) => {
+                let bytes = save(alloc, &k);
+                dismiss(k);
+                bytes
+            }
             Err(_) => Err(SaveRefusal::Memory),
         },
         None => unreachable!(),

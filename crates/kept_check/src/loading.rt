@@ -25,7 +25,7 @@ use crate::stop::Stop;
 use bunch::{Name, Order, names};
 use core_term::{Checked, Core};
 use delta_check::{Scope, inert_funs};
-use delta_keep::{Kept, ReadFault, read_kept};
+use delta_keep::{Kept, ReadFault, dismiss, read_kept};
 use std::alloc::Global;
 use stream_type::{Memory, Ty, copy, reach};
 
@@ -43,11 +43,11 @@ pub fn load(alloc: Global, c: &Checked, bytes: &[u8]) -> Result<Kept, KeepFault>
     match first_untyped(alloc, c.core(), &k) {
         Ok(_) => Ok(k),
         Err(Stop::Memory) => {
-            drop(k);
+            dismiss(k);
             Err(KeepFault::Memory)
         }
         Err(Stop::At(number)) => {
-            drop(k);
+            dismiss(k);
             Err(KeepFault::Untyped(number))
         }
     }
