@@ -146,8 +146,8 @@ module _ (text : List ℕ) (budget : ℕ) (v : Version) (files : Option (List �
     same_core p c accepted meant = (accepted_is_one text meant.program p meant.core c meant.accepted.accepted accepted.accepted).1
 
     -- and so is the one of which it is told what is wrong
-    no_core : (p : ProgramTree) (c : CoreProgram) → IsWritable text v p c → {what : StateName} {at : ℕ} (no : IsNoState text bytes v what at) → no.core ≡ c
-    no_core p c accepted no = (accepted_is_one text no.program p no.core c no.accepted.accepted accepted.accepted).1
+    no_core : (p : ProgramTree) (c : CoreProgram) → IsWritable text v p c → {what : StateName} {at : ℕ} (denied : IsNoState text bytes v what at) → denied.core ≡ c
+    no_core p c accepted denied = (accepted_is_one text denied.program p denied.core c denied.accepted.accepted accepted.accepted).1
 
     -- bytes with which something is wrong are those of no typed state
     no_typed : (c : CoreProgram) (what : StateName) (at : ℕ) → IsWrong c bytes what at → (k : KeptTree) → IsTypedAs c bytes k → ⊥
@@ -212,8 +212,8 @@ module _ (text : List ℕ) (budget : ℕ) (v : Version) (files : Option (List �
         ))
 
         refused_so : (what : StateName) (at : ℕ) → IsNoState text bytes v what at → (status ≡ 8) ⊎ (status ≡ 10) → ResumesWell text bytes budget v left0 old new status
-        refused_so what at no (inl eight) p c accepted = inl eight
-        refused_so what at no (inr ten) p c accepted = inr (inl (ten, λ k typed. no_typed no.core what at no.wrong k (subst (λ (d : CoreProgram). IsTypedAs d bytes k) (sym (no_core p c accepted no)) typed)))
+        refused_so what at denied (inl eight) p c accepted = inl eight
+        refused_so what at denied (inr ten) p c accepted = inr (inl (ten, λ k typed. no_typed denied.core what at denied.wrong k (subst (λ (d : CoreProgram). IsTypedAs d bytes k) (sym (no_core p c accepted denied)) typed)))
 
         -- a run over a good input ends well
         pub resumed_complete : (end : End) → ResumedText text budget v files name old new left0 left1 end → FileCause end file0 file1 → ReadCause end read0 read1 → WriteCause end write0 write1
