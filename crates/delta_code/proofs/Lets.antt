@@ -65,6 +65,12 @@ pub nest_shallow : {first rest : Run} {kept left : StateTree} {old new : Way} {n
 nest_shallow h d l = let e = h.shallow in omega (arith, e, l)
 
 module _ (code : Code) (k : ℕ) (es : Past) where
+  -- what is left of a let
+  pub let_left : (x : ℕ) (t : StreamType) (a b : CoreTerm) (r : StreamType) (types : NameTypes) (env : Environment) {head : Run} → head ≡ run_where code k es a types t env
+      → rest_where code k es (let_term x t a b) types r env ≡ let_state x (der head.out t) (rest_where code k es a types t env) (rest_where code k es b (put x t types) r (put x head.out env))
+  let_left x t a b r types env e =
+      ap (λ (z : Run). let_state x (der z.out t) (rest_where code k es a types t env) (rest_where code k es b (put x t types) r (put x z.out env))) (sym e)
+
   -- in a let whose head is shut
   pub into_nest : (x : ℕ) (t : StreamType) (a b : CoreTerm) (r : StreamType) (types : NameTypes) (env : Environment)
       {first head : Run} {kept left : StateTree} {old mid new : Way} {n m levels : ℕ}
@@ -79,8 +85,7 @@ module _ (code : Code) (k : ℕ) (es : Past) where
       let s = rest_where code k es b (put x t types) r (put x head.out env) in
       let same : run_where code k es (let_term x t a b) types r env ≡ let_run (is_var a) head y =
       ap (λ (z : Run). let_run (is_var a) z (run_where code k es b (put x t types) r (put x z.out env))) (sym e) in
-      let there : rest_where code k es (let_term x t a b) types r env ≡ let_state x (der head.out t) (rest_where code k es a types t env) s =
-      ap (λ (z : Run). let_state x (der z.out t) (rest_where code k es a types t env) (rest_where code k es b (put x t types) r (put x z.out env))) (sym e) in
+      let there = let_left x t a b r types env e in
       let g = nest_is h same there in
       let counted = g.counted in
       let all = g.calls in
@@ -99,17 +104,17 @@ module _ (code : Code) (k : ℕ) (es : Past) where
       }
 
   -- where the head's name is bound behind the others, and what is left of the body is left of another term behind more
-  pub nest_again : (bs mid new : List Entry) (x : ℕ) (t : StreamType) (q : StreamPrefix) (e other : CoreTerm) (s : Scope) (r : StreamType)
+  pub nest_again : (known : Past) (bs mid new : List Entry) (x : ℕ) (t : StreamType) (q : StreamPrefix) (e other : CoreTerm) (s : Scope) (r : StreamType)
       {first : Run} {kept : StateTree} {old way on : Way} {n m levels : ℕ}
       → Nested first (run_where code k es e (put x t (types_over bs (types_in s))) r (put x q (streams_over bs (streams_in s)))) kept
       (rest_where code k es e (put x t (types_over bs (types_in s))) r (put x q (streams_over bs (streams_in s)))) old way n m levels
       → ((c : NameTypes) → types_over mid c ≡ put x t (types_over bs c)) → ((d : Environment) → streams_over mid d ≡ put x q (streams_over bs d))
-      → run_where code k es other (types_over new (types_in s)) r (streams_over new (streams_in s)) ≡ run_where code k es e (types_over mid (types_in s)) r (streams_over mid (streams_in s))
-      → within on.layers (rest_where code k es other (types_over new (types_in s)) r (streams_over new (streams_in s))) ≡ within way.layers (rest_where code k es e (types_over mid (types_in s)) r (streams_over mid (streams_in s)))
+      → run_where code k known other (types_over new (types_in s)) r (streams_over new (streams_in s)) ≡ run_where code k es e (types_over mid (types_in s)) r (streams_over mid (streams_in s))
+      → within on.layers (rest_where code k known other (types_over new (types_in s)) r (streams_over new (streams_in s))) ≡ within way.layers (rest_where code k es e (types_over mid (types_in s)) r (streams_over mid (streams_in s)))
       → on.items ≡ way.items → on.calls ≡ way.calls → on.level ≡ way.level
-      → Nested first (run_where code k es other (types_over new (types_in s)) r (streams_over new (streams_in s))) kept
-      (rest_where code k es other (types_over new (types_in s)) r (streams_over new (streams_in s))) old on n m levels
-  nest_again bs mid new x t q e other s r {first = first} {kept = kept} {old = old} {way = way} {on = on} {n = n} {m = m} {levels = levels} h types streams run rest items calls level =
+      → Nested first (run_where code k known other (types_over new (types_in s)) r (streams_over new (streams_in s))) kept
+      (rest_where code k known other (types_over new (types_in s)) r (streams_over new (streams_in s))) old on n m levels
+  nest_again known bs mid new x t q e other s r {first = first} {kept = kept} {old = old} {way = way} {on = on} {n = n} {m = m} {levels = levels} h types streams run rest items calls level =
       let types_are = types (types_in s) in
       let streams_are = streams (streams_in s) in
       let g = nest_is h (λ i. run_where code k es e (sym types_are i) r (sym streams_are i)) (λ i. rest_where code k es e (sym types_are i) r (sym streams_are i)) in

@@ -4,11 +4,11 @@
 mod around;
 mod awaiting;
 mod begun;
-mod chosen;
 mod compiling;
 mod entering;
 mod framing;
 mod free;
+mod inward;
 mod keeping;
 mod machine;
 mod quiet;

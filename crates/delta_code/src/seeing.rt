@@ -9,7 +9,7 @@ ghost use Rattle.hist_value.specs.Environment.{environment_of};
 ghost use Rattle.hist_value.specs.Evaluate.{value};
 ghost use Rattle.hist_value.specs.Wholes.{value_of};
 ghost use Rattle.core_term.specs.Meaning.{values};
-ghost use Rattle.core_term.specs.CoreTerm.{typed_names_of};
+ghost use Rattle.core_term.specs.CoreTerm.{is_var, typed_names_of};
 ghost use Rattle.delta_state.specs.StateMeaning.{past_in};
 ghost use Rattle.delta_state.specs.StateTree.{LaterTree, Known as KnownName};
 ghost use Rattle.delta_state.specs.Rest.{known_of};
@@ -22,6 +22,13 @@ use std::rc::Rc;
 use stream_prefix::Prefix;
 use stream_type::{Memory, Ty};
 use template_state::{Later, Op, Past};
+
+/// Whether a term is a name.
+pub fn is_var(n: &Op) -> bool
+    ensures { result ≡ is_var (op_term n.now) }
+{
+    matches!(n, Op::Var(_))
+}
 
 /// The value of a historical expression. Its only error is want of memory.
 pub fn value_in(alloc: Global, past: &Past, m: &Expr) -> Result<Value, Memory>

@@ -26,10 +26,10 @@ use crate::begun::{
     Begun, Passed, both, bound, called, first, left_side, no_arguments, right_side, run_before,
     second, starred, state_before,
 };
-use crate::chosen::chosen;
 use crate::entering::{body_at, entered, missing, params_of};
+use crate::inward::inward;
 use crate::quiet::reach_quiet;
-use crate::seeing::{knowing, later, values_in};
+use crate::seeing::{is_var, knowing, later, values_in};
 use crate::still::{held_by, waiting};
 use crate::way::{
     Reached, Way, arrived, behind_item, into_alias, into_body, into_call, into_cut, into_let,
@@ -297,7 +297,7 @@ fn reach_cons<'a>(
 }
 
 // A let, whose body stands at its own level where the head is a name or whole. Of lets in one another each is a
-// turn of the loop, and so is an `if` in one, so that many take no more of the stack than one.
+// turn of the loop, and so is an `if` or a `wait` in one, so that many take no more of the stack than one.
 #[cycle(start)]
 #[tactic(auto, using(crate::proofs::Easing::reached_eased, machine_parts::proofs::Runs::spent_after, machine_parts::proofs::Deeper::let_deep))]
 #[inline(never)]
@@ -326,6 +326,7 @@ fn reach_let<'a>(
     ensures deep { IfErr result (λ q. q ≡ Stop.Deep → levels < (op_run code.now k scope.now past.now.value (let_term x.0 (type_of s.now) (op_term a.now.value) (op_term b.now.value)) (type_of r.now)).level) }
 {
     let mut lets = Vec::new(alloc);
+    let mut known = past.clone()?;
     let mut left = left;
     let mut x = x;
     let mut s = s;
@@ -333,20 +334,20 @@ fn reach_let<'a>(
     let mut b = b;
     'lets: loop {
         let outer = Scope::Lets(&lets, &*scope);
-        let head = start(alloc, code, k, &outer, past, a, s, left, inside(levels))?;
+        let head = start(alloc, code, k, &outer, &known, a, s, left, inside(levels))?;
         let rest = left - head.calls;
         if !(is_var(a) || maximal(&head.output)) {
             let inner = Scope::Stream(x, s, &head.output, &outer);
-            let body = start(alloc, code, k, &inner, past, b, r, rest, inside(levels))?;
+            let body = start(alloc, code, k, &inner, &known, b, r, rest, inside(levels))?;
             return Ok(Reached::Given(bound(alloc, false, x, s, head, body)?));
         }
         let prefix = into_let(alloc, way, is_var(a), x, s, head)?;
         bind(alloc, &mut lets, x, s, prefix)?;
         left = rest;
-        let body = chosen(alloc, &*scope, &mut lets, &mut way.layers, b)?;
+        let body = inward(alloc, &*scope, &mut lets, &mut way.layers, &mut known, b)?;
         let Op::Let(name, ty, next, after) = &**body else {
             let inner = Scope::Lets(&lets, &*scope);
-            return reach(alloc, code, k, &inner, past, body, r, left, levels, way);
+            return reach(alloc, code, k, &inner, &known, body, r, left, levels, way);
         };
         x = *name;
         s = ty;
@@ -790,11 +791,4 @@ fn start_arguments<'a>(
             Ok(state_before(alloc, param.0, &param.1, a, all)?)
         }
     }
-}
-
-// Whether a term is a name.
-fn is_var(n: &Op) -> bool
-    ensures { result ≡ is_var (op_term n.now) }
-{
-    matches!(n, Op::Var(_))
 }

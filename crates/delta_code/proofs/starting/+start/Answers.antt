@@ -6,7 +6,7 @@ use Rattle.stream_prefix.specs.Tree.{prefix_of}
 use Rattle.hist_value.specs.declared.expr.Expr.{Expr}
 use Rattle.hist_value.specs.HistExpr.{expr_of}
 use Rattle.hist_value.specs.HistValue.{hist_value_of}
-use Rattle.core_term.specs.CoreTerm.{CoreTerm, CoreBody, fun_at, cons_term, call_term, is_var}
+use Rattle.core_term.specs.CoreTerm.{CoreTerm, CoreBody, fun_at, cons_term, call_term, is_var, let_term}
 use Rattle.core_term.specs.Parts.{star_item, star_items}
 use Rattle.core_term.specs.Environment.{Environment}
 use Rattle.core_term.specs.Run.{Run, one_call, let_run}
@@ -35,7 +35,7 @@ use Rattle.stream_prefix.specs.declared.prefix.Prefix.{Prefix}
 use Rattle.bunch.specs.Names.{put}
 use Rattle.machine_parts.specs.Scope.{types_in, streams_in, types_over, streams_over}
 use Rattle.template_state.specs.declared.code.Op.{Op}
-use Rattle.delta_code.proofs.Lets.{into_nest, nest_again, nest_is, nest_counted, nest_shallow, nest_spent, nest_deep}
+use Rattle.delta_code.proofs.Lets.{let_left, into_nest, nest_again, nest_is, nest_counted, nest_shallow, nest_spent, nest_deep}
 use Rattle.delta_code.proofs.starting.+start.Goals as goal
 
 pub reach_pair-returns-clause-rest : goal.reach_pair-returns-clause-rest
@@ -96,7 +96,17 @@ reach_cons-items-preserved t c =
 
 pub reach_let-returns-then-not-maximal-clause-rest : goal.reach_let-returns-then-not-maximal-clause-rest
 reach_let-returns-then-not-maximal-clause-rest t c =
-    eased_then c.lets.invariant.0.state (within_eased c.lets.way.layers (let_eased c.in_ok-head.ensures.rest c.in_ok-body.ensures.rest (search rules) c.in_ok-bound.ensures.rest))
+    let a = c.args in
+    let known = c.lets.known.value in
+    let term = op_term c.lets.a.now.value in
+    let rest = op_term c.lets.b.now.value in
+    let ty = type_of c.lets.s.now in
+    let types = types_over c.deref.result.now (types_in a.scope.now) in
+    let streams = streams_over c.deref.result.now (streams_in a.scope.now) in
+    let there = ap (λ (l : List Entry). rest_where a.code.now a.k known (let_term c.lets.x.0 ty term rest) (types_over l (types_in a.scope.now)) (type_of a.r.now) (streams_over l (streams_in a.scope.now))) (sym c.deref.ensures.value)
+    ∙ let_left a.code.now a.k known c.lets.x.0 ty term rest (type_of a.r.now) types streams c.in_ok-head.ensures.run in
+    let body = subst (λ (p : Prefix). Eased (rest_where a.code.now a.k known rest (put c.lets.x.0 ty types) (type_of a.r.now) (put c.lets.x.0 (prefix_of p) streams)) (rest_of c.in_ok-body.body)) c.deref-then-not-maximal.ensures c.in_ok-body.ensures.rest in
+    eased_then c.lets.invariant.0.state (within_eased c.lets.way.layers (let_eased c.in_ok-head.ensures.rest body there c.in_ok-bound.ensures.rest))
 
 pub reach_let-returns-in_default : goal.reach_let-returns-in_default
 reach_let-returns-in_default t c =
@@ -110,25 +120,25 @@ reach_let-returns-in_default t c =
     let on = c.in_ok-prefix.ensures in
     let to = c.in_ok-bind.ensures in
     let there = c.in_ok-body-2.ensures in
-    let run : run_of head ≡ run_where a.code.now a.k a.past.now.value term (types_over items (types_in a.scope.now)) ty (streams_over items (streams_in a.scope.now)) =
-    c.in_ok-head.ensures.run ∙ ap (λ (l : List Entry). run_where a.code.now a.k a.past.now.value term (types_over l (types_in a.scope.now)) ty (streams_over l (streams_in a.scope.now))) c.deref.ensures.value in
-    let rest : Eased (rest_where a.code.now a.k a.past.now.value term (types_over items (types_in a.scope.now)) ty (streams_over items (streams_in a.scope.now))) (rest_of head) =
-    subst (λ (l : List Entry). Eased (rest_where a.code.now a.k a.past.now.value term (types_over l (types_in a.scope.now)) ty (streams_over l (streams_in a.scope.now))) (rest_of head)) c.deref.ensures.value c.in_ok-head.ensures.rest in
+    let run : run_of head ≡ run_where a.code.now a.k c.lets.known.value term (types_over items (types_in a.scope.now)) ty (streams_over items (streams_in a.scope.now)) =
+    c.in_ok-head.ensures.run ∙ ap (λ (l : List Entry). run_where a.code.now a.k c.lets.known.value term (types_over l (types_in a.scope.now)) ty (streams_over l (streams_in a.scope.now))) c.deref.ensures.value in
+    let rest : Eased (rest_where a.code.now a.k c.lets.known.value term (types_over items (types_in a.scope.now)) ty (streams_over items (streams_in a.scope.now))) (rest_of head) =
+    subst (λ (l : List Entry). Eased (rest_where a.code.now a.k c.lets.known.value term (types_over l (types_in a.scope.now)) ty (streams_over l (streams_in a.scope.now))) (rest_of head)) c.deref.ensures.value c.in_ok-head.ensures.rest in
     let named : c.is_var-in-lets.result ≡ is_var term = c.is_var-in-lets.ensures ∙ ap (λ (o : Op). is_var (op_term o)) c.deref-in-lets-2.ensures in
     let shut : (c.is_var-in-lets.result || is_maximal (run_of head).out) ≡ true = search rules in
     let still = subst (λ (v : Bool). (v || is_maximal (run_of head).out) ≡ true) named shut in
     let gains : (z : Run) → after c.into_let.new.way z ≡ after c.lets.way (let_run (is_var term) (run_of head) z) = λ z. on.run z ∙ ap (λ (v : Bool). after c.lets.way (let_run v (run_of head) z)) named in
     let low = c.in_ok-head.ensures.shallow in
     let below = c.inside.ensures in
-    let inner = into_nest a.code.now a.k a.past.now.value c.lets.x.0 ty term body (type_of a.r.now) (types_over items (types_in a.scope.now)) (streams_over items (streams_in a.scope.now)) {new = c.into_let.new.way} i.0 run rest still c.in_ok-head.ensures.counted (omega (arith, low, below)) gains on.rest on.calls on.level in
+    let inner = into_nest a.code.now a.k c.lets.known.value c.lets.x.0 ty term body (type_of a.r.now) (types_over items (types_in a.scope.now)) (streams_over items (streams_in a.scope.now)) {new = c.into_let.new.way} i.0 run rest still c.in_ok-head.ensures.counted (omega (arith, low, below)) gains on.rest on.calls on.level in
     let streams : (d : Environment) → streams_over c.bind.new.entries.items d ≡ put c.lets.x.0 (run_of head).out (streams_over items d) = λ d. to.streams d ∙ ap (λ (p : Prefix). put c.lets.x.0 (prefix_of p) (streams_over items d)) on.output in
-    let again = nest_again a.code.now a.k a.past.now.value items c.bind.new.entries.items c.chosen.new.lets.items c.lets.x.0 ty (run_of head).out body (op_term c.in_ok-body-2.body.now.value) a.scope.now (type_of a.r.now)
-    {on = record { items = c.into_let.new.way.items; calls = c.into_let.new.way.calls; level = c.into_let.new.way.level; layers = c.chosen.new.layers }}
-    inner to.types streams (there.run a.code.now a.k a.past.now.value (type_of a.r.now)) (there.rest a.code.now a.k a.past.now.value (type_of a.r.now)) refl refl refl in
-    let there_is : c.chosen.new.lets.items ≡ c.deref-in_default.result.now = sym c.deref-in_default.ensures.value in
+    let again = nest_again a.code.now a.k c.lets.known.value c.inward.new.past.value items c.bind.new.entries.items c.inward.new.lets.items c.lets.x.0 ty (run_of head).out body (op_term c.in_ok-body-2.body.now.value) a.scope.now (type_of a.r.now)
+    {on = record { items = c.into_let.new.way.items; calls = c.into_let.new.way.calls; level = c.into_let.new.way.level; layers = c.inward.new.layers }}
+    inner to.types streams (there.run a.code.now a.k (type_of a.r.now)) (there.rest a.code.now a.k (type_of a.r.now)) refl refl refl in
+    let there_is : c.inward.new.lets.items ≡ c.deref-in_default.result.now = sym c.deref-in_default.ensures.value in
     let last = nest_is again
-    (ap (λ (l : List Entry). run_where a.code.now a.k a.past.now.value (op_term c.in_ok-body-2.body.now.value) (types_over l (types_in a.scope.now)) (type_of a.r.now) (streams_over l (streams_in a.scope.now))) there_is)
-    (ap (λ (l : List Entry). rest_where a.code.now a.k a.past.now.value (op_term c.in_ok-body-2.body.now.value) (types_over l (types_in a.scope.now)) (type_of a.r.now) (streams_over l (streams_in a.scope.now))) there_is) in
+    (ap (λ (l : List Entry). run_where a.code.now a.k c.inward.new.past.value (op_term c.in_ok-body-2.body.now.value) (types_over l (types_in a.scope.now)) (type_of a.r.now) (streams_over l (streams_in a.scope.now))) there_is)
+    (ap (λ (l : List Entry). rest_where a.code.now a.k c.inward.new.past.value (op_term c.in_ok-body-2.body.now.value) (types_over l (types_in a.scope.now)) (type_of a.r.now) (streams_over l (streams_in a.scope.now))) there_is) in
     record {
       run = IfOk-weaker c.reach.result _ _ (λ e h. h ∙ last.run) c.reach.ensures.run;
       rest = IfOk-weaker c.reach.result _ _ (λ e h. eased_then last.state h) c.reach.ensures.rest;
@@ -150,28 +160,28 @@ reach_let-lets-preserved t c =
     let on = c.in_ok-prefix.ensures in
     let to = c.in_ok-bind.ensures in
     let there = c.in_ok-body-2.ensures in
-    let run : run_of head ≡ run_where a.code.now a.k a.past.now.value term (types_over items (types_in a.scope.now)) ty (streams_over items (streams_in a.scope.now)) =
-    c.in_ok-head.ensures.run ∙ ap (λ (l : List Entry). run_where a.code.now a.k a.past.now.value term (types_over l (types_in a.scope.now)) ty (streams_over l (streams_in a.scope.now))) c.deref.ensures.value in
-    let rest : Eased (rest_where a.code.now a.k a.past.now.value term (types_over items (types_in a.scope.now)) ty (streams_over items (streams_in a.scope.now))) (rest_of head) =
-    subst (λ (l : List Entry). Eased (rest_where a.code.now a.k a.past.now.value term (types_over l (types_in a.scope.now)) ty (streams_over l (streams_in a.scope.now))) (rest_of head)) c.deref.ensures.value c.in_ok-head.ensures.rest in
+    let run : run_of head ≡ run_where a.code.now a.k c.lets.known.value term (types_over items (types_in a.scope.now)) ty (streams_over items (streams_in a.scope.now)) =
+    c.in_ok-head.ensures.run ∙ ap (λ (l : List Entry). run_where a.code.now a.k c.lets.known.value term (types_over l (types_in a.scope.now)) ty (streams_over l (streams_in a.scope.now))) c.deref.ensures.value in
+    let rest : Eased (rest_where a.code.now a.k c.lets.known.value term (types_over items (types_in a.scope.now)) ty (streams_over items (streams_in a.scope.now))) (rest_of head) =
+    subst (λ (l : List Entry). Eased (rest_where a.code.now a.k c.lets.known.value term (types_over l (types_in a.scope.now)) ty (streams_over l (streams_in a.scope.now))) (rest_of head)) c.deref.ensures.value c.in_ok-head.ensures.rest in
     let named : c.is_var-in-lets.result ≡ is_var term = c.is_var-in-lets.ensures ∙ ap (λ (o : Op). is_var (op_term o)) c.deref-in-lets-2.ensures in
     let shut : (c.is_var-in-lets.result || is_maximal (run_of head).out) ≡ true = search rules in
     let still = subst (λ (v : Bool). (v || is_maximal (run_of head).out) ≡ true) named shut in
     let gains : (z : Run) → after c.into_let.new.way z ≡ after c.lets.way (let_run (is_var term) (run_of head) z) = λ z. on.run z ∙ ap (λ (v : Bool). after c.lets.way (let_run v (run_of head) z)) named in
     let low = c.in_ok-head.ensures.shallow in
     let below = c.inside.ensures in
-    let inner = into_nest a.code.now a.k a.past.now.value c.lets.x.0 ty term body (type_of a.r.now) (types_over items (types_in a.scope.now)) (streams_over items (streams_in a.scope.now)) {new = c.into_let.new.way} i.0 run rest still c.in_ok-head.ensures.counted (omega (arith, low, below)) gains on.rest on.calls on.level in
+    let inner = into_nest a.code.now a.k c.lets.known.value c.lets.x.0 ty term body (type_of a.r.now) (types_over items (types_in a.scope.now)) (streams_over items (streams_in a.scope.now)) {new = c.into_let.new.way} i.0 run rest still c.in_ok-head.ensures.counted (omega (arith, low, below)) gains on.rest on.calls on.level in
     let streams : (d : Environment) → streams_over c.bind.new.entries.items d ≡ put c.lets.x.0 (run_of head).out (streams_over items d) = λ d. to.streams d ∙ ap (λ (p : Prefix). put c.lets.x.0 (prefix_of p) (streams_over items d)) on.output in
-    let again = nest_again a.code.now a.k a.past.now.value items c.bind.new.entries.items c.chosen.new.lets.items c.lets.x.0 ty (run_of head).out body (op_term c.in_ok-body-2.body.now.value) a.scope.now (type_of a.r.now)
-    {on = record { items = c.into_let.new.way.items; calls = c.into_let.new.way.calls; level = c.into_let.new.way.level; layers = c.chosen.new.layers }}
-    inner to.types streams (there.run a.code.now a.k a.past.now.value (type_of a.r.now)) (there.rest a.code.now a.k a.past.now.value (type_of a.r.now)) refl refl refl in
+    let again = nest_again a.code.now a.k c.lets.known.value c.inward.new.past.value items c.bind.new.entries.items c.inward.new.lets.items c.lets.x.0 ty (run_of head).out body (op_term c.in_ok-body-2.body.now.value) a.scope.now (type_of a.r.now)
+    {on = record { items = c.into_let.new.way.items; calls = c.into_let.new.way.calls; level = c.into_let.new.way.level; layers = c.inward.new.layers }}
+    inner to.types streams (there.run a.code.now a.k (type_of a.r.now)) (there.rest a.code.now a.k (type_of a.r.now)) refl refl refl in
     let is = ap op_term (sym c.deref-in-lets-3.ensures ∙ c.in-Let.is) in
     let light = i.1 in
     let lighter = there.light in
     let heavy = ap weight is in (
       nest_is again
-          (ap (λ (e : CoreTerm). run_where a.code.now a.k a.past.now.value e (types_over c.chosen.new.lets.items (types_in a.scope.now)) (type_of a.r.now) (streams_over c.chosen.new.lets.items (streams_in a.scope.now))) is)
-          (ap (λ (e : CoreTerm). rest_where a.code.now a.k a.past.now.value e (types_over c.chosen.new.lets.items (types_in a.scope.now)) (type_of a.r.now) (streams_over c.chosen.new.lets.items (streams_in a.scope.now))) is),
+          (ap (λ (e : CoreTerm). run_where a.code.now a.k c.inward.new.past.value e (types_over c.inward.new.lets.items (types_in a.scope.now)) (type_of a.r.now) (streams_over c.inward.new.lets.items (streams_in a.scope.now))) is)
+          (ap (λ (e : CoreTerm). rest_where a.code.now a.k c.inward.new.past.value e (types_over c.inward.new.lets.items (types_in a.scope.now)) (type_of a.r.now) (streams_over c.inward.new.lets.items (streams_in a.scope.now))) is),
       omega (arith, light, lighter, heavy),
     )
 

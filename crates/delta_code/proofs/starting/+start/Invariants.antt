@@ -97,8 +97,8 @@ invariant-reach_let-lets l =
     let rest = let_term l.x.0 (type_of l.s) (op_term l.a.value) (op_term l.b.value) in
     let types = types_over l.lets.items (types_in l.scope) in
     let streams = streams_over l.lets.items (streams_in l.scope) in
-    Nested (op_run l.code l.k l.scope l.past.value all (type_of l.r)) (run_where l.code l.k l.past.value rest types (type_of l.r) streams)
-    (op_rest l.code l.k l.scope l.past.value all (type_of l.r)) (rest_where l.code l.k l.past.value rest types (type_of l.r) streams)
+    Nested (op_run l.code l.k l.scope l.past.value all (type_of l.r)) (run_where l.code l.k l.known.value rest types (type_of l.r) streams)
+    (op_rest l.code l.k l.scope l.past.value all (type_of l.r)) (rest_where l.code l.k l.known.value rest types (type_of l.r) streams)
     l.initial.way l.way l.initial.left l.left l.levels
     × (weight (op_term l.a.value) + weight (op_term l.b.value) ≤ weight (op_term l.initial.a.value) + weight (op_term l.initial.b.value))
 

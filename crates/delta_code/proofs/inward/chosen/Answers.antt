@@ -4,7 +4,7 @@ use Rattle.std.proofs.lemmas.Result.{IfOk-weaker}
 use Rattle.stream_type.specs.StreamType.{type_of}
 use Rattle.core_term.specs.CoreTerm.{case_sum_term}
 use Rattle.template_state.specs.Readers.{op_term}
-use Rattle.delta_code.proofs.chosen.chosen.Goals as goal
+use Rattle.delta_code.proofs.inward.chosen.Goals as goal
 
 pub returns-in-CaseSum-clause-run : goal.returns-in-CaseSum-clause-run
 returns-in-CaseSum-clause-run c =

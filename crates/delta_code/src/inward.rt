@@ -1,12 +1,12 @@
-//! Cases on sums whose side has come, on the way through lets: of an `if` in front of others nothing waits on
-//! the stack.
+//! Cases on sums whose side has come, and waits for what is whole, on the way through lets: of an `if` or a
+//! `wait` in front of others nothing waits on the stack.
 
 ghost use Rattle.std.specs.Prelude.{◌≡◌, ◌≤◌, ℕ, IfOk, OnOk};
 ghost use Rattle.stream_type.specs.StreamType.{StreamType, type_of};
 ghost use Rattle.stream_prefix.specs.StreamPrefix.{der};
 ghost use Rattle.stream_prefix.specs.Tree.{prefix_of};
 ghost use Rattle.bunch.specs.Names.{put};
-ghost use Rattle.core_term.specs.CoreTerm.{case_sum_term};
+ghost use Rattle.core_term.specs.CoreTerm.{case_sum_term, wait_term};
 ghost use Rattle.core_term.specs.Environment.{Environment, NameTypes};
 ghost use Rattle.delta_state.specs.StateTree.{StateTree, var_state, let_state};
 ghost use Rattle.machine_parts.specs.Scope.{types_in, streams_in, types_over, streams_over};
@@ -17,6 +17,7 @@ ghost use Rattle.template_state.specs.Readers.{op_term};
 ghost use Rattle.delta_code.specs.Steps.{run_where, rest_where};
 ghost use Rattle.delta_code.specs.Way.{within};
 
+use crate::seeing::knowing;
 use crate::way::{Layers, into_alias};
 use bunch::Name;
 use machine_parts::entry::Entry;
@@ -24,13 +25,81 @@ use machine_parts::parts::{Sided, side_taken, sum_types};
 use machine_parts::scope::{Scope, stream_at, type_at};
 use std::alloc::Global;
 use std::rc::Rc;
-use stream_prefix::Prefix;
+use stream_prefix::{Prefix, maximal};
 use stream_type::{Memory, Ty};
-use template_state::Op;
+use template_state::{Op, Past};
 
 /// Goes on into the branch of a case on a sum whose side has come, with its name bound behind the lets, and
-/// answers the branch; of another term, the term. Its only error is want of memory.
-pub fn chosen<'a>(
+/// there behind waits for what is whole, whose values are known then; and answers what stands there. Its only
+/// error is want of memory.
+pub fn inward<'a>(
+    alloc: Global,
+    scope: &Scope<'_>,
+    lets: &mut Vec<Entry>,
+    layers: &mut Layers,
+    past: &mut Rc<Past>,
+    n: &'a Rc<Op>,
+) -> Result<&'a Rc<Op>, Memory>
+    ensures run { IfOk result (λ m. (c : Code) (k : ℕ) (r : StreamType) → run_where c k past.new.value (op_term m.now.value) (types_over lets.new.items (types_in scope.now)) r (streams_over lets.new.items (streams_in scope.now)) ≡ run_where c k past.old.value (op_term n.now.value) (types_over lets.old.items (types_in scope.now)) r (streams_over lets.old.items (streams_in scope.now))) }
+    ensures rest { IfOk result (λ m. (c : Code) (k : ℕ) (r : StreamType) → within layers.new (rest_where c k past.new.value (op_term m.now.value) (types_over lets.new.items (types_in scope.now)) r (streams_over lets.new.items (streams_in scope.now))) ≡ within layers.old (rest_where c k past.old.value (op_term n.now.value) (types_over lets.old.items (types_in scope.now)) r (streams_over lets.old.items (streams_in scope.now)))) }
+    ensures light { IfOk result (λ m. weight (op_term m.now.value) ≤ weight (op_term n.now.value)) }
+{
+    let branch = match chosen(alloc, &*scope, lets, layers, n) {
+        Ok(branch) => branch,
+        Err(Memory) => return Err(Memory),
+    };
+    waited(alloc, &*scope, &*lets, past, branch)
+}
+
+// What stands behind waits for what is whole.
+#[cycle(waited)]
+fn waited<'a>(
+    alloc: Global,
+    scope: &Scope<'_>,
+    lets: &[Entry],
+    past: &mut Rc<Past>,
+    n: &'a Rc<Op>,
+) -> Result<&'a Rc<Op>, Memory>
+    ensures run { IfOk result (λ m. (c : Code) (k : ℕ) (r : StreamType) → run_where c k past.new.value (op_term m.now.value) (types_over lets.now (types_in scope.now)) r (streams_over lets.now (streams_in scope.now)) ≡ run_where c k past.old.value (op_term n.now.value) (types_over lets.now (types_in scope.now)) r (streams_over lets.now (streams_in scope.now))) }
+    ensures rest { IfOk result (λ m. (c : Code) (k : ℕ) (r : StreamType) → rest_where c k past.new.value (op_term m.now.value) (types_over lets.now (types_in scope.now)) r (streams_over lets.now (streams_in scope.now)) ≡ rest_where c k past.old.value (op_term n.now.value) (types_over lets.now (types_in scope.now)) r (streams_over lets.now (streams_in scope.now))) }
+    ensures light { IfOk result (λ m. weight (op_term m.now.value) ≤ weight (op_term n.now.value)) }
+{
+    match &**n {
+        Op::Wait(x, _, a) => waited_for(alloc, scope, lets, past, n, *x, a),
+        _ => Ok(n),
+    }
+}
+
+// The same of a wait.
+#[cycle(waited)]
+fn waited_for<'a>(
+    alloc: Global,
+    scope: &Scope<'_>,
+    lets: &[Entry],
+    past: &mut Rc<Past>,
+    n: &'a Rc<Op>,
+    x: Name,
+    a: &'a Rc<Op>,
+) -> Result<&'a Rc<Op>, Memory>
+    ensures run { IfOk result (λ m. (c : Code) (k : ℕ) (r t : StreamType) → op_term n.now.value ≡ wait_term x.0 t (op_term a.now.value) → run_where c k past.new.value (op_term m.now.value) (types_over lets.now (types_in scope.now)) r (streams_over lets.now (streams_in scope.now)) ≡ run_where c k past.old.value (op_term n.now.value) (types_over lets.now (types_in scope.now)) r (streams_over lets.now (streams_in scope.now))) }
+    ensures rest { IfOk result (λ m. (c : Code) (k : ℕ) (r t : StreamType) → op_term n.now.value ≡ wait_term x.0 t (op_term a.now.value) → rest_where c k past.new.value (op_term m.now.value) (types_over lets.now (types_in scope.now)) r (streams_over lets.now (streams_in scope.now)) ≡ rest_where c k past.old.value (op_term n.now.value) (types_over lets.now (types_in scope.now)) r (streams_over lets.now (streams_in scope.now))) }
+    ensures light { IfOk result (λ m. (t : StreamType) → op_term n.now.value ≡ wait_term x.0 t (op_term a.now.value) → weight (op_term m.now.value) ≤ weight (op_term n.now.value)) }
+{
+    let all = Scope::Lets(lets, &*scope);
+    let p = stream_at(&all, x, &Prefix::EpsEmp);
+    if !maximal(p) {
+        return Ok(n);
+    }
+    let known = match knowing(alloc, x, type_at(&all, x, &Ty::Eps), p, &*past) {
+        Ok(known) => known,
+        Err(Memory) => return Err(Memory),
+    };
+    *past = known;
+    waited(alloc, scope, lets, past, a)
+}
+
+// Goes on into the branch of a case on a sum whose side has come; another term stays.
+fn chosen<'a>(
     alloc: Global,
     scope: &Scope<'_>,
     lets: &mut Vec<Entry>,
