@@ -1,5 +1,8 @@
 -- What is left of a run, by how it ended.
-use Rattle.std.proofs.Common.{◌≡◌, ◌≢◌, ◌⊎◌, inl, inr, ◌≤◌, ◌<◌, ◌^◌, ℕ, List, Option, Some, length, refl, sym, subst, ◌∙◌, arith}
+use Rattle.std.proofs.Common.{◌≡◌, ◌⊎◌, inl, inr, ◌≤◌, ◌^◌, ℕ, List, Option, length, refl, sym, subst, ◌∙◌, arith}
+use Rattle.std.specs.Prelude.{Result, Ok, Err, IfOk}
+use Rattle.std.specs.declared.vec.Vec.{Vec}
+use Rattle.std.specs.declared.alloc.Global.{Global}
 use Rattle.port.specs.Files.{ChangesOnly, Keeps}
 use Rattle.event_word.specs.StreamEvent.{StreamEvent}
 use Rattle.event_frame.specs.Reading.{whole}
@@ -10,28 +13,35 @@ use Rattle.delta_session.specs.declared.session.Life.TheVariants.{Open as IsRunn
 use Rattle.delta_session.specs.Standing.{Runs}
 use Rattle.kept_state.specs.Laws.{IsKept}
 use Rattle.kept_state.specs.KeptTree.{KeptTree}
-use Rattle.kept_state.specs.KeptBytes.{kept_bytes, most_bytes}
-use Rattle.delta_end.specs.declared.objection.StateName.TheVariants.{Large}
-use Rattle.delta_end.specs.declared.objection.Objection.TheVariants.{State}
+use Rattle.kept_state.specs.KeptBytes.{kept_bytes}
+use Rattle.kept_state.specs.KeptSizes.{HasSizes}
+use Rattle.delta_keep.specs.declared.refusal.SaveRefusal.{SaveRefusal}
+use Rattle.delta_keep.specs.Saving.{TellsLarge}
 use Rattle.delta_end.specs.declared.end.End.{End}
 use Rattle.delta_end.specs.declared.end.End.TheVariants.{Done, Usage, Refused, Input, Budget, Deep, Open, FileFailed, ReadFailed, WriteFailed, Memory, Long, Objected}
-use Rattle.delta_end.specs.End.{IsOfLoop, FileCause, ReadCause, WriteCause}
-use Rattle.delta_loop.specs.Loop.{IsWellEnded, Ran, RanTo}
+use Rattle.delta_end.specs.End.{IsOfLoop, FileCause}
+use Rattle.delta_loop.specs.Loop.{IsWellEnded, RanTo}
 use Rattle.delta_loop.proofs.Counts.{events_whole}
 use Rattle.delta_runner.specs.declared.runner.Runner.{Runner}
 use Rattle.delta_runner.specs.Standing.{IsOf, StandsFor}
-use Rattle.command_save.specs.Leaving.{StandsForSome, KeptAs, Way, Ended, EndedWell, Leaves, IsSaved, IsTooLarge, SavesSo}
+use Rattle.command_save.specs.Leaving.{KeptAs, AreIts, AreTooMany, Way, Ended, EndedWell, Leaves, IsSaved, IsTooLarge, SavesSo}
 
 -- where nothing was written each name holds what it held
 pub changes_nothing : (files : Option (List ℕ → List ℕ)) (name : List ℕ) → ChangesOnly files files name
 changes_nothing files name told is = (told, is, λ other ne. refl)
+
+-- what is told of a state that is written, told at once
+pub are_its : (k : KeptTree) (places : List ℕ) (r : Result (Vec ℕ Global) SaveRefusal) → IfOk r (λ v. v.items ≡ kept_bytes k places) → IfOk r (λ v. HasSizes k) → TellsLarge (kept_bytes k places) r
+    → IfOk r (λ v. AreIts v.items k (kept_bytes k places))
+are_its k places (Ok v) same sizes few = record { same = same; few = few; sizes = sizes }
+are_its k places (Err refusal) same sizes few = tt
 
 -- what the machine of a runner keeps is kept of the runner
 pub kept_as : {M : Type 0} (seen : M → MachineView) (stands : M → List StreamEvent → Type 0) (after : (m : M) (word : List StreamEvent) → stands m word → StandsAfter (seen m) word)
     (runner : Runner M) (machine : M) → Runs runner.session machine → (k : KeptTree) (places : List ℕ)
     → ((word : List StreamEvent) → stands machine word → (seen machine).events ≤ 2 ^ 41 → IsKept (seen machine).program (input_of (seen machine).program word) k)
     → ((word : List StreamEvent) → stands machine word → k.out ≡ output_left (seen machine).program (input_of (seen machine).program word))
-    → (holds : List ℕ → Type 0) → holds (kept_bytes k places) → KeptAs seen stands runner holds
+    → (holds : KeptTree → List ℕ → Type 0) → holds k (kept_bytes k places) → KeptAs seen stands runner holds
 kept_as {M} seen stands after runner machine runs k places kept output holds it P c word s of few =
     let same : (seen machine).program ≡ c = of machine runs in
     let both : IsRunning machine ≡ IsRunning s.standing.machine = sym runs ∙ s.standing.is_open in
@@ -53,20 +63,20 @@ module _ {M : Type 0} (seen : M → MachineView) (stands : M → List StreamEven
   few = omega (arith, events_whole to.ran.input, to.ran.limit.most)
 
   -- so what is kept of it is what is to be kept of the run
-  leaves : (holds : List ℕ → Type 0) → KeptAs seen stands runner holds → (k : KeptTree) × (places : List ℕ) × Leaves w end k × holds (kept_bytes k places)
+  leaves : (holds : KeptTree → List ℕ → Type 0) → KeptAs seen stands runner holds → (k : KeptTree) × (places : List ℕ) × Leaves w end k × holds k (kept_bytes k places)
   leaves holds kept =
       let is = kept w.meaning w.core (whole to.ran.input) (to.state well) of few in (is.0, is.1, record { ran = to.ran; well = well; kept = is.2; output = is.3 }, is.4)
 
   -- the bytes that were written are its
-  pub is_saved : (files : Option (List ℕ → List ℕ)) (name bytes : List ℕ) → KeptAs seen stands runner (λ its. bytes ≡ its) → Keeps files name bytes → IsSaved w files name end
+  pub is_saved : (files : Option (List ℕ → List ℕ)) (name bytes : List ℕ) → KeptAs seen stands runner (AreIts bytes) → Keeps files name bytes → IsSaved w files name end
   is_saved files name bytes kept keeps =
-      let is = leaves (λ its. bytes ≡ its) kept in
-      record { state = is.0; places = is.1; leaves = is.2; held = λ told there. let h : told name ≡ bytes = keeps told there in rw is.3 at h }
+      let is = leaves (AreIts bytes) kept in
+      record { state = is.0; places = is.1; leaves = is.2; sizes = is.3.sizes; few = is.3.few; held = λ told there. keeps told there ∙ is.3.same }
 
   -- or they are too many
-  pub is_too_large : KeptAs seen stands runner (λ its. most_bytes < length its) → IsTooLarge w
+  pub is_too_large : KeptAs seen stands runner AreTooMany → IsTooLarge w
   is_too_large kept =
-      let is = leaves (λ its. most_bytes < length its) kept in record { end = end; state = is.0; places = is.1; leaves = is.2; large = is.3 }
+      let is = leaves AreTooMany kept in record { end = end; state = is.0; places = is.1; leaves = is.2; large = is.3 }
 
   pub ended_well : EndedWell w
   ended_well = (end, well, to.ran)

@@ -1,5 +1,5 @@
 -- A run of a text's checked core that leaves its state is one of its program.
-use Rattle.std.proofs.Common.{◌≡◌, ◌⊎◌, inl, inr, ℕ, List, Option, Some, None, subst}
+use Rattle.std.proofs.Common.{inr, ℕ, List, Option, subst}
 use Rattle.port.specs.declared.link.Move.{Move}
 use Rattle.event_frame.specs.declared.version.Version.{Version}
 use Rattle.delta_tree.specs.SyntaxTree.{ProgramTree}
@@ -9,7 +9,6 @@ use Rattle.delta_end.specs.declared.end.End.TheVariants.{Done, Usage, Refused, I
 use Rattle.checked_program.specs.Acceptance.{IsWritable}
 use Rattle.delta_output.specs.OneShot.{OneShot, meaning_of}
 use Rattle.delta_runner.specs.CoreOneShot.{one_shot}
-use Rattle.output_laws.specs.TreeOneShot.{one_shot_of}
 use Rattle.output_laws.proofs.Meant.{same_one_shot}
 use Rattle.command_save.specs.Leaving.{Saves}
 use Rattle.command_save.specs.Saving.{SavesIts, SavesText}

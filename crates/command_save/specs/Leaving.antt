@@ -15,6 +15,7 @@ use Rattle.delta_state.specs.MachineView.{MachineView, input_of}
 use Rattle.delta_state.specs.Stands.{output_left}
 use Rattle.kept_state.specs.KeptTree.{KeptTree}
 use Rattle.kept_state.specs.KeptBytes.{kept_bytes, most_bytes}
+use Rattle.kept_state.specs.KeptSizes.{HasSizes}
 use Rattle.kept_state.specs.Laws.{IsKept}
 use Rattle.delta_end.specs.declared.objection.StateName.TheVariants.{Large}
 use Rattle.delta_end.specs.declared.objection.Objection.TheVariants.{State}
@@ -30,11 +31,22 @@ module _ {M : Type 0} (seen : M → MachineView) (stands : M → List StreamEven
   abbrev pub StandsForSome : Type 0
   StandsForSome = (P : Meaning) × (word : List StreamEvent) × StandsFor seen stands runner P word
 
-  -- some bytes of what is kept of it are so: of the program that it runs, after the word that it took
-  abbrev pub KeptAs : (List ℕ → Type 0) → Type 0
+  -- this holds of what is kept of it and of some bytes of that: of the program that it runs, after the word that it took
+  abbrev pub KeptAs : (KeptTree → List ℕ → Type 0) → Type 0
   KeptAs holds =
       (P : Meaning) (c : CoreProgram) (word : List StreamEvent) → StandsFor seen stands runner P word → IsOf seen runner.session c → length word ≤ 2 ^ 41
-      → (k : KeptTree) × (places : List ℕ) × IsKept c (input_of c word) k × (k.out ≡ output_left c (input_of c word)) × holds (kept_bytes k places)
+      → (k : KeptTree) × (places : List ℕ) × IsKept c (input_of c word) k × (k.out ≡ output_left c (input_of c word)) × holds k (kept_bytes k places)
+
+-- what was written are these bytes of a state, of which there are no more than there may be, and the numbers of the state
+-- have their sizes
+pub record AreIts (written : List ℕ) (k : KeptTree) (bytes : List ℕ) : Type 0 where
+  pub same : written ≡ bytes
+  pub few : length bytes ≤ most_bytes
+  pub sizes : HasSizes k
+
+-- there are more of them
+abbrev pub AreTooMany : KeptTree → List ℕ → Type 0
+AreTooMany k bytes = most_bytes < length bytes
 
 -- a run of a program with this core, what is told of the link before and after it, and what it left of the input
 pub record Way : Type 0 where
@@ -60,11 +72,14 @@ pub record Leaves (w : Way) (end : End) (k : KeptTree) : Type 0 where
   pub kept : IsKept w.core (input_of w.core (whole ran.input)) k
   pub output : k.out ≡ output_left w.core (input_of w.core (whole ran.input))
 
--- the file of this name holds the bytes of what is to be kept of it
+-- the file of this name holds the bytes of what is to be kept of it. They are no more than there may be, and its numbers
+-- have their sizes, so they are those of no other typed state whose numbers have theirs
 pub record IsSaved (w : Way) (files : Option (List ℕ → List ℕ)) (name : List ℕ) (end : End) : Type 0 where
   pub state : KeptTree
   pub places : List ℕ
   pub leaves : Leaves w end state
+  pub sizes : HasSizes state
+  pub few : length (kept_bytes state places) ≤ most_bytes
   pub held : Keeps files name (kept_bytes state places)
 
 -- the bytes of what is to be kept of it are too many

@@ -12,7 +12,7 @@ ghost use Rattle.delta_loop.specs.Meaning.{Meaning};
 ghost use Rattle.delta_output.specs.OneShot.{meaning_of};
 ghost use Rattle.delta_runner.specs.CoreOneShot.{one_shot};
 ghost use Rattle.delta_runner.specs.Standing.{IsOf, StandsFor};
-ghost use Rattle.command_save.specs.Leaving.{StandsForSome, KeptAs, Saves};
+ghost use Rattle.command_save.specs.Leaving.{StandsForSome, KeptAs, AreIts, AreTooMany, Saves};
 
 use core_term::Checked;
 use delta_end::{End, Objection, StateName};
@@ -27,8 +27,8 @@ use std::alloc::Global;
 // The bytes of what is to be kept of a program that runs.
 fn bytes_of<M: Keeping>(alloc: Global, runner: &Runner<M>) -> Result<Vec<u8>, SaveRefusal>
     requires { StandsForSome M.seen M.stands runner.now }
-    ensures bytes { IfOk result (λ v. KeptAs M.seen M.stands runner.now (λ bytes. v.items ≡ bytes)) }
-    ensures large { (n : ℕ) → IsErrOf result (SaveRefusal.Large n) → KeptAs M.seen M.stands runner.now (λ bytes. most_bytes < length bytes) }
+    ensures bytes { IfOk result (λ v. KeptAs M.seen M.stands runner.now (AreIts v.items)) }
+    ensures large { (n : ℕ) → IsErrOf result (SaveRefusal.Large n) → KeptAs M.seen M.stands runner.now AreTooMany }
 {
     match runner.session.machine() {
         Some(machine) => match machine.to_kept(alloc) {

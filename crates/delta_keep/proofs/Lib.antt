@@ -1,5 +1,4 @@
 -- The lemmas.
-pub mod Joined
 pub mod Lists
 pub mod PutInTurn
 pub mod Trees
@@ -7,6 +6,7 @@ pub mod PlacedBytes
 pub mod Walks
 pub mod Pieces
 pub mod ReadLists
+pub mod PutSizes
 pub mod Sizes
 pub mod Shapes
 pub mod Faults

@@ -20,7 +20,7 @@ pub record ReadSome {A B : Type 0} (item : Item) (f : B → List ℕ) (g : A →
   pub sizes : AllByRecursion Fits (map g xs)
 
 -- a fact of all is one of one more
-all_more : {B : Type 0} (Fits : B → Type 0) (ys : List B) (y : B) → AllByRecursion Fits ys → Fits y → AllByRecursion Fits (ys ++ y ∷ [])
+pub all_more : {B : Type 0} (Fits : B → Type 0) (ys : List B) (y : B) → AllByRecursion Fits ys → Fits y → AllByRecursion Fits (ys ++ y ∷ [])
 all_more Fits [] y h k = (k, tt)
 all_more Fits (z ∷ ys) y (h, hs) k = (h, all_more Fits ys y hs k)
 

@@ -1,6 +1,6 @@
 -- The bytes of trees that hold rows of trees.
 use mathlib.Core.Former.{Count}
-use Rattle.std.proofs.Common.{Box, ◌≡◌, ◌∙◌, ◌+◌, ℕ, suc, List, [], ◌∷◌, ◌++◌, map, length, ap, ap₂, refl, sym, arith, append_assoc}
+use Rattle.std.proofs.Common.{Box, ◌≡◌, ◌∙◌, ℕ, suc, List, [], ◌∷◌, ◌++◌, map, length, ap, ap₂, refl, sym, append_assoc}
 use Rattle.std.specs.List.{concat}
 use Rattle.std.specs.declared.vec.Vec.{Vec}
 use Rattle.std.specs.declared.alloc.Global.{Global}
@@ -100,16 +100,6 @@ arguments_bytes_are v =
     ap₂ (λ n bs. short_bytes n ++ bs)
     (count-arguments _ (hidden-the_row-Argument-0 v) ∙ ap length (items_hidden-the_row-Argument-0 v)) (arguments-list _ (hidden-the_row-Argument-0 v) ∙ ap (λ ns. concat (map written_argument ns)) (items_hidden-the_row-Argument-0 v))
 
--- a list's value, put out
-pub put_list : (out mid next : List ℕ) (v : Value) (items : Vec Value Global) (seen : List Value) → v ≡ ListValue items → seen ≡ items.items → mid ≡ out ++ 5 ∷ [] → next ≡ mid ++ list_bytes value_bytes (map hist_value_of seen) → next ≡ out ++ value_bytes (hist_value_of v)
-put_list out mid next v items seen is e h k =
-    k
-    ∙ (ap₂ (λ bs ys. bs ++ list_bytes value_bytes (map hist_value_of ys)) h e
-    ∙ (append_assoc out (5 ∷ []) (list_bytes value_bytes (map hist_value_of items.items)) ∙ ap (λ bs. out ++ bs) (sym (list_value_bytes items) ∙ ap (λ w. value_bytes (hist_value_of w)) (sym is))))
-
 -- a frame's bytes
 pub frame_bytes : (args : Vec Argument Global) (s : Box KeptState Global) → written_state (Frame args s) ≡ 10 ∷ list_bytes written_argument args.items ++ written_state s.value
 frame_bytes args s = ap (λ bs. 10 ∷ bs ++ written_state s.value) (arguments_bytes_are args)
-
--- for functions over the trees
-pub ruleset trees = (append_assoc, star_bytes, list_value_bytes, call_bytes, frame_bytes, arguments_bytes_are)

@@ -6,8 +6,10 @@ ghost use Rattle.stream_prefix.specs.Tree.{prefix_of, end_of};
 ghost use Rattle.hist_value.specs.HistValue.{hist_value_of};
 ghost use Rattle.hist_value.specs.HistExpr.{expr_of};
 ghost use Rattle.kept_state.specs.KeptBytes.{short_bytes, list_bytes, bool_bytes, type_bytes, prefix_bytes, rest_bytes, value_bytes, op_byte, expr_bytes, known_bytes, held_name_bytes};
+ghost use Rattle.kept_state.specs.KeptSizes.{FitsShort, FitsPrefix, FitsValue, FitsExpr, FitsExprs, FitsKnown, FitsHeldName, FitsHeld};
 ghost use Rattle.delta_keep.specs.KeptView.{known_of, held_of};
-ghost use Rattle.delta_keep.specs.Putting.{Puts};
+ghost use Rattle.delta_keep.specs.Putting.{Puts, IsCounted};
+ghost use Rattle.delta_keep.specs.Reads.{FitsList};
 
 use crate::kept::{HeldName, Known};
 use crate::output::{Output, put_byte};
@@ -68,7 +70,8 @@ pub(crate) fn put_marks(out: &mut Output, marks: &[bool])
 /// Appends a prefix.
 #[cycle(put_prefixes)]
 pub(crate) fn put_prefix(out: &mut Output, p: &Prefix)
-    ensures { Puts out.old out.new (prefix_bytes (prefix_of p.now)) }
+    ensures puts { Puts out.old out.new (prefix_bytes (prefix_of p.now)) }
+    ensures sizes { IsCounted out.new → FitsPrefix (prefix_of p.now) }
 {
     match p {
         Prefix::EpsEmp => put_byte(out, 0),
@@ -95,7 +98,8 @@ pub(crate) fn put_prefix(out: &mut Output, p: &Prefix)
 
 #[cycle(put_prefixes)]
 fn put_one_prefix(out: &mut Output, form: u8, p: &Prefix)
-    ensures { Puts out.old out.new (form ∷ prefix_bytes (prefix_of p.now)) }
+    ensures puts { Puts out.old out.new (form ∷ prefix_bytes (prefix_of p.now)) }
+    ensures sizes { IsCounted out.new → FitsPrefix (prefix_of p.now) }
 {
     put_byte(out, form);
     put_prefix(out, p);
@@ -103,7 +107,8 @@ fn put_one_prefix(out: &mut Output, form: u8, p: &Prefix)
 
 #[cycle(put_prefixes)]
 fn put_two_prefixes(out: &mut Output, form: u8, p: &Prefix, q: &Prefix)
-    ensures { Puts out.old out.new (form ∷ prefix_bytes (prefix_of p.now) ++ prefix_bytes (prefix_of q.now)) }
+    ensures puts { Puts out.old out.new (form ∷ prefix_bytes (prefix_of p.now) ++ prefix_bytes (prefix_of q.now)) }
+    ensures sizes { IsCounted out.new → FitsPrefix (prefix_of p.now) × FitsPrefix (prefix_of q.now) }
 {
     put_byte(out, form);
     put_prefix(out, p);
@@ -113,7 +118,8 @@ fn put_two_prefixes(out: &mut Output, form: u8, p: &Prefix, q: &Prefix)
 // What stands after the whole items of a star.
 #[cycle(put_prefixes)]
 fn put_end(out: &mut Output, end: &StarEnd)
-    ensures { Puts out.old out.new (rest_bytes (end_of end.now)) }
+    ensures puts { Puts out.old out.new (rest_bytes (end_of end.now)) }
+    ensures sizes { IsCounted out.new → FitsPrefix (end_of end.now) }
 {
     match end {
         StarEnd::Emp => put_byte(out, 0),
@@ -124,7 +130,8 @@ fn put_end(out: &mut Output, end: &StarEnd)
 
 #[cycle(put_prefixes)]
 fn put_prefixes(out: &mut Output, items: &[Prefix])
-    ensures { Puts out.old out.new (list_bytes prefix_bytes (map prefix_of items.now)) }
+    ensures puts { Puts out.old out.new (list_bytes prefix_bytes (map prefix_of items.now)) }
+    ensures sizes { IsCounted out.new → FitsList FitsPrefix (map prefix_of items.now) }
 {
     put_count(out, items.len());
     for item in items {
@@ -135,7 +142,8 @@ fn put_prefixes(out: &mut Output, items: &[Prefix])
 /// Appends a value.
 #[cycle(put_values)]
 pub(crate) fn put_value(out: &mut Output, v: &Value)
-    ensures { Puts out.old out.new (value_bytes (hist_value_of v.now)) }
+    ensures puts { Puts out.old out.new (value_bytes (hist_value_of v.now)) }
+    ensures sizes { IsCounted out.new → FitsValue (hist_value_of v.now) }
 {
     match v {
         Value::Unit => put_byte(out, 0),
@@ -165,7 +173,8 @@ pub(crate) fn put_value(out: &mut Output, v: &Value)
 
 #[cycle(put_values)]
 fn put_values(out: &mut Output, items: &[Value])
-    ensures { Puts out.old out.new (list_bytes value_bytes (map hist_value_of items.now)) }
+    ensures puts { Puts out.old out.new (list_bytes value_bytes (map hist_value_of items.now)) }
+    ensures sizes { IsCounted out.new → FitsList FitsValue (map hist_value_of items.now) }
 {
     put_count(out, items.len());
     for item in items {
@@ -190,7 +199,8 @@ fn byte_of(op: Op) -> u8
 /// Appends a historical expression.
 #[cycle(put_exprs)]
 pub(crate) fn put_expr(out: &mut Output, m: &Expr)
-    ensures { Puts out.old out.new (expr_bytes (expr_of m.now)) }
+    ensures puts { Puts out.old out.new (expr_bytes (expr_of m.now)) }
+    ensures sizes { IsCounted out.new → FitsExpr (expr_of m.now) }
 {
     match m {
         Expr::Var(x) => {
@@ -220,7 +230,8 @@ pub(crate) fn put_expr(out: &mut Output, m: &Expr)
 
 #[cycle(put_exprs)]
 fn put_one_expr(out: &mut Output, form: u8, a: &Expr)
-    ensures { Puts out.old out.new (form ∷ expr_bytes (expr_of a.now)) }
+    ensures puts { Puts out.old out.new (form ∷ expr_bytes (expr_of a.now)) }
+    ensures sizes { IsCounted out.new → FitsExpr (expr_of a.now) }
 {
     put_byte(out, form);
     put_expr(out, a);
@@ -228,7 +239,8 @@ fn put_one_expr(out: &mut Output, form: u8, a: &Expr)
 
 #[cycle(put_exprs)]
 fn put_two_exprs(out: &mut Output, form: u8, a: &Expr, b: &Expr)
-    ensures { Puts out.old out.new (form ∷ expr_bytes (expr_of a.now) ++ expr_bytes (expr_of b.now)) }
+    ensures puts { Puts out.old out.new (form ∷ expr_bytes (expr_of a.now) ++ expr_bytes (expr_of b.now)) }
+    ensures sizes { IsCounted out.new → FitsExpr (expr_of a.now) × FitsExpr (expr_of b.now) }
 {
     put_byte(out, form);
     put_expr(out, a);
@@ -237,7 +249,8 @@ fn put_two_exprs(out: &mut Output, form: u8, a: &Expr, b: &Expr)
 
 #[cycle(put_exprs)]
 fn put_choice(out: &mut Output, a: &Expr, x: Name, b: &Expr, y: Name, c: &Expr)
-    ensures { Puts out.old out.new (9 ∷ expr_bytes (expr_of a.now) ++ (short_bytes x.0 ++ (expr_bytes (expr_of b.now) ++ (short_bytes y.0 ++ expr_bytes (expr_of c.now))))) }
+    ensures puts { Puts out.old out.new (9 ∷ expr_bytes (expr_of a.now) ++ (short_bytes x.0 ++ (expr_bytes (expr_of b.now) ++ (short_bytes y.0 ++ expr_bytes (expr_of c.now))))) }
+    ensures sizes { IsCounted out.new → FitsExpr (expr_of a.now) × FitsShort x.0 × FitsExpr (expr_of b.now) × FitsShort y.0 × FitsExpr (expr_of c.now) }
 {
     put_one_expr(out, 9, a);
     put_name(out, x);
@@ -248,7 +261,8 @@ fn put_choice(out: &mut Output, a: &Expr, x: Name, b: &Expr, y: Name, c: &Expr)
 
 #[cycle(put_exprs)]
 fn put_fold(out: &mut Output, a: &Expr, s: &Expr, x: Name, y: Name, b: &Expr)
-    ensures { Puts out.old out.new (12 ∷ expr_bytes (expr_of a.now) ++ (expr_bytes (expr_of s.now) ++ (short_bytes x.0 ++ (short_bytes y.0 ++ expr_bytes (expr_of b.now))))) }
+    ensures puts { Puts out.old out.new (12 ∷ expr_bytes (expr_of a.now) ++ (expr_bytes (expr_of s.now) ++ (short_bytes x.0 ++ (short_bytes y.0 ++ expr_bytes (expr_of b.now))))) }
+    ensures sizes { IsCounted out.new → FitsExpr (expr_of a.now) × FitsExpr (expr_of s.now) × FitsShort x.0 × FitsShort y.0 × FitsExpr (expr_of b.now) }
 {
     put_two_exprs(out, 12, a, s);
     put_name(out, x);
@@ -258,7 +272,8 @@ fn put_fold(out: &mut Output, a: &Expr, s: &Expr, x: Name, y: Name, b: &Expr)
 
 /// Appends a list of historical expressions.
 pub(crate) fn put_exprs(out: &mut Output, exprs: &[Expr])
-    ensures { Puts out.old out.new (list_bytes expr_bytes (map expr_of exprs.now)) }
+    ensures puts { Puts out.old out.new (list_bytes expr_bytes (map expr_of exprs.now)) }
+    ensures sizes { IsCounted out.new → FitsExprs (map expr_of exprs.now) }
 {
     put_count(out, exprs.len());
     for expr in exprs {
@@ -268,7 +283,8 @@ pub(crate) fn put_exprs(out: &mut Output, exprs: &[Expr])
 
 /// Appends what code sees of the past.
 pub(crate) fn put_past(out: &mut Output, past: &[Known])
-    ensures { Puts out.old out.new (list_bytes known_bytes (map known_of past.now)) }
+    ensures puts { Puts out.old out.new (list_bytes known_bytes (map known_of past.now)) }
+    ensures sizes { IsCounted out.new → FitsList FitsKnown (map known_of past.now) }
 {
     put_count(out, past.len());
     for known in past {
@@ -277,7 +293,8 @@ pub(crate) fn put_past(out: &mut Output, past: &[Known])
 }
 
 fn put_known(out: &mut Output, known: &Known)
-    ensures { Puts out.old out.new (known_bytes (known_of known.now)) }
+    ensures puts { Puts out.old out.new (known_bytes (known_of known.now)) }
+    ensures sizes { IsCounted out.new → FitsKnown (known_of known.now) }
 {
     put_name(out, known.name);
     put_type(out, &known.ty);
@@ -286,7 +303,8 @@ fn put_known(out: &mut Output, known: &Known)
 
 /// Appends what a form holds.
 pub(crate) fn put_held(out: &mut Output, held: &[HeldName])
-    ensures { Puts out.old out.new (list_bytes held_name_bytes (map held_of held.now)) }
+    ensures puts { Puts out.old out.new (list_bytes held_name_bytes (map held_of held.now)) }
+    ensures sizes { IsCounted out.new → FitsHeld (map held_of held.now) }
 {
     put_count(out, held.len());
     for name in held {
@@ -295,7 +313,8 @@ pub(crate) fn put_held(out: &mut Output, held: &[HeldName])
 }
 
 fn put_held_name(out: &mut Output, held: &HeldName)
-    ensures { Puts out.old out.new (held_name_bytes (held_of held.now)) }
+    ensures puts { Puts out.old out.new (held_name_bytes (held_of held.now)) }
+    ensures sizes { IsCounted out.new → FitsHeldName (held_of held.now) }
 {
     put_name(out, held.name);
     put_type(out, &held.ty);

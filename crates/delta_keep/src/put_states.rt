@@ -3,8 +3,10 @@
 ghost use Rattle.std.specs.Prelude.{◌∷◌, ◌++◌, map};
 ghost use Rattle.stream_type.specs.StreamType.{type_of};
 ghost use Rattle.kept_state.specs.KeptBytes.{short_bytes, list_bytes, type_bytes, held_name_bytes};
-ghost use Rattle.delta_keep.specs.KeptView.{held_of};
-ghost use Rattle.delta_keep.specs.Putting.{Puts};
+ghost use Rattle.delta_keep.specs.KeptView.{held_of, later_of, state_of};
+ghost use Rattle.kept_state.specs.KeptSizes.{FitsShort, FitsHeld, FitsLater, FitsState};
+ghost use Rattle.delta_keep.specs.Putting.{Puts, IsCounted};
+ghost use Rattle.delta_keep.specs.Reads.{FitsList, FitsArgument};
 ghost use Rattle.delta_keep.specs.Written.{written_later, written_state, written_argument};
 
 use crate::kept::{Argument, HeldName, KeptState, Waiting};
@@ -17,7 +19,8 @@ use stream_type::Ty;
 
 /// Appends code that isn't reached.
 fn put_later(out: &mut Output, l: &Waiting)
-    ensures { Puts out.old out.new (written_later l.now) }
+    ensures puts { Puts out.old out.new (written_later l.now) }
+    ensures sizes { IsCounted out.new → FitsLater (later_of l.now) }
 {
     put_node(out, &l.code);
     put_past(out, &l.past);
@@ -27,7 +30,8 @@ fn put_later(out: &mut Output, l: &Waiting)
 /// Appends a state.
 #[cycle(put_states)]
 pub(crate) fn put_state(out: &mut Output, s: &KeptState)
-    ensures { Puts out.old out.new (written_state s.now) }
+    ensures puts { Puts out.old out.new (written_state s.now) }
+    ensures sizes { IsCounted out.new → FitsState (state_of s.now) }
 {
     match s {
         KeptState::Sink(t) => {
@@ -81,7 +85,8 @@ pub(crate) fn put_state(out: &mut Output, s: &KeptState)
 
 // A form, its subject, its result's type and what it holds.
 fn put_holding(out: &mut Output, form: u8, z: Name, t: &Ty, held: &[HeldName])
-    ensures { Puts out.old out.new (form ∷ short_bytes z.0 ++ (type_bytes (type_of t.now) ++ list_bytes held_name_bytes (map held_of held.now))) }
+    ensures puts { Puts out.old out.new (form ∷ short_bytes z.0 ++ (type_bytes (type_of t.now) ++ list_bytes held_name_bytes (map held_of held.now))) }
+    ensures sizes { IsCounted out.new → FitsShort z.0 × FitsHeld (map held_of held.now) }
 {
     put_form_name_type(out, form, z, t);
     put_held(out, held);
@@ -89,7 +94,8 @@ fn put_holding(out: &mut Output, form: u8, z: Name, t: &Ty, held: &[HeldName])
 
 // Both branches of a case on a sum, each after its name.
 fn put_branches(out: &mut Output, x: Name, l: &Waiting, y: Name, m: &Waiting)
-    ensures { Puts out.old out.new (short_bytes x.0 ++ (written_later l.now ++ (short_bytes y.0 ++ written_later m.now))) }
+    ensures puts { Puts out.old out.new (short_bytes x.0 ++ (written_later l.now ++ (short_bytes y.0 ++ written_later m.now))) }
+    ensures sizes { IsCounted out.new → FitsShort x.0 × FitsLater (later_of l.now) × FitsShort y.0 × FitsLater (later_of m.now) }
 {
     put_name(out, x);
     put_later(out, l);
@@ -108,7 +114,8 @@ fn put_case_star(
     ys: Name,
     m: &Waiting,
 )
-    ensures { Puts out.old out.new (8 ∷ short_bytes z.0 ++ (type_bytes (type_of t.now) ++ (list_bytes held_name_bytes (map held_of held.now) ++ (written_later l.now ++ (short_bytes y.0 ++ (short_bytes ys.0 ++ written_later m.now)))))) }
+    ensures puts { Puts out.old out.new (8 ∷ short_bytes z.0 ++ (type_bytes (type_of t.now) ++ (list_bytes held_name_bytes (map held_of held.now) ++ (written_later l.now ++ (short_bytes y.0 ++ (short_bytes ys.0 ++ written_later m.now)))))) }
+    ensures sizes { IsCounted out.new → FitsShort z.0 × FitsHeld (map held_of held.now) × FitsLater (later_of l.now) × FitsShort y.0 × FitsShort ys.0 × FitsLater (later_of m.now) }
 {
     put_form_name_type(out, 8, z, t);
     put_held(out, held);
@@ -117,7 +124,8 @@ fn put_case_star(
 
 // Both branches of a case on a star: that at the end, and that of an item after its two names.
 fn put_ends(out: &mut Output, l: &Waiting, y: Name, ys: Name, m: &Waiting)
-    ensures { Puts out.old out.new (written_later l.now ++ (short_bytes y.0 ++ (short_bytes ys.0 ++ written_later m.now))) }
+    ensures puts { Puts out.old out.new (written_later l.now ++ (short_bytes y.0 ++ (short_bytes ys.0 ++ written_later m.now))) }
+    ensures sizes { IsCounted out.new → FitsLater (later_of l.now) × FitsShort y.0 × FitsShort ys.0 × FitsLater (later_of m.now) }
 {
     put_later(out, l);
     put_name(out, y);
@@ -128,7 +136,8 @@ fn put_ends(out: &mut Output, l: &Waiting, y: Name, ys: Name, m: &Waiting)
 // The form of a frame and its arguments.
 #[cycle(put_states)]
 fn put_arguments(out: &mut Output, args: &[Argument])
-    ensures { Puts out.old out.new (10 ∷ list_bytes written_argument args.now) }
+    ensures puts { Puts out.old out.new (10 ∷ list_bytes written_argument args.now) }
+    ensures sizes { IsCounted out.new → FitsList FitsArgument args.now }
 {
     put_byte(out, 10);
     put_count(out, args.len());
@@ -139,7 +148,8 @@ fn put_arguments(out: &mut Output, args: &[Argument])
 
 #[cycle(put_states)]
 fn put_argument(out: &mut Output, arg: &Argument)
-    ensures { Puts out.old out.new (written_argument arg.now) }
+    ensures puts { Puts out.old out.new (written_argument arg.now) }
+    ensures sizes { IsCounted out.new → FitsArgument arg.now }
 {
     put_name(out, arg.name);
     put_type(out, &arg.ty);

@@ -3,8 +3,11 @@
 ghost use Rattle.std.specs.Prelude.{◌∷◌, ◌++◌, map};
 ghost use Rattle.stream_type.specs.StreamType.{type_of};
 ghost use Rattle.hist_value.specs.HistExpr.{expr_of};
+ghost use Rattle.core_term.specs.CoreTerm.{term_in};
 ghost use Rattle.kept_state.specs.KeptBytes.{short_bytes, list_bytes, type_bytes, expr_bytes};
-ghost use Rattle.delta_keep.specs.Putting.{Puts};
+ghost use Rattle.kept_state.specs.KeptSizes.{FitsShort, FitsExprs, FitsTerm};
+ghost use Rattle.delta_keep.specs.Putting.{Puts, IsCounted};
+ghost use Rattle.delta_keep.specs.Reads.{FitsList, FitsNode};
 ghost use Rattle.delta_keep.specs.Written.{written_node, written_term};
 
 use crate::output::{Output, put_byte};
@@ -18,7 +21,8 @@ use stream_type::Ty;
 /// Appends a node: its place and its term.
 #[cycle(put_nodes)]
 pub(crate) fn put_node(out: &mut Output, n: &Node)
-    ensures { Puts out.old out.new (written_node n.now) }
+    ensures puts { Puts out.old out.new (written_node n.now) }
+    ensures sizes { IsCounted out.new → FitsNode n.now }
 {
     put_short(out, n.at);
     put_term(out, &n.term);
@@ -26,7 +30,8 @@ pub(crate) fn put_node(out: &mut Output, n: &Node)
 
 #[cycle(put_nodes)]
 fn put_term(out: &mut Output, t: &Term)
-    ensures { Puts out.old out.new (written_term t.now) }
+    ensures puts { Puts out.old out.new (written_term t.now) }
+    ensures sizes { IsCounted out.new → FitsTerm (term_in t.now) }
 {
     match t {
         Term::Var(x) => {
@@ -70,7 +75,8 @@ fn put_term(out: &mut Output, t: &Term)
 
 /// Appends a form, a name and a type.
 pub(crate) fn put_form_name_type(out: &mut Output, form: u8, x: Name, t: &Ty)
-    ensures { Puts out.old out.new (form ∷ short_bytes x.0 ++ type_bytes (type_of t.now)) }
+    ensures puts { Puts out.old out.new (form ∷ short_bytes x.0 ++ type_bytes (type_of t.now)) }
+    ensures sizes { FitsShort x.0 }
 {
     put_byte(out, form);
     put_name(out, x);
@@ -79,7 +85,8 @@ pub(crate) fn put_form_name_type(out: &mut Output, form: u8, x: Name, t: &Ty)
 
 #[cycle(put_nodes)]
 fn put_one_node(out: &mut Output, form: u8, a: &Node)
-    ensures { Puts out.old out.new (form ∷ written_node a.now) }
+    ensures puts { Puts out.old out.new (form ∷ written_node a.now) }
+    ensures sizes { IsCounted out.new → FitsNode a.now }
 {
     put_byte(out, form);
     put_node(out, a);
@@ -87,7 +94,8 @@ fn put_one_node(out: &mut Output, form: u8, a: &Node)
 
 #[cycle(put_nodes)]
 fn put_two_nodes(out: &mut Output, form: u8, a: &Node, b: &Node)
-    ensures { Puts out.old out.new (form ∷ written_node a.now ++ written_node b.now) }
+    ensures puts { Puts out.old out.new (form ∷ written_node a.now ++ written_node b.now) }
+    ensures sizes { IsCounted out.new → FitsNode a.now × FitsNode b.now }
 {
     put_byte(out, form);
     put_node(out, a);
@@ -96,7 +104,8 @@ fn put_two_nodes(out: &mut Output, form: u8, a: &Node, b: &Node)
 
 #[cycle(put_nodes)]
 fn put_case_sum(out: &mut Output, z: Name, t: &Ty, x: Name, a: &Node, y: Name, b: &Node)
-    ensures { Puts out.old out.new (13 ∷ short_bytes z.0 ++ (type_bytes (type_of t.now) ++ (short_bytes x.0 ++ (written_node a.now ++ (short_bytes y.0 ++ written_node b.now))))) }
+    ensures puts { Puts out.old out.new (13 ∷ short_bytes z.0 ++ (type_bytes (type_of t.now) ++ (short_bytes x.0 ++ (written_node a.now ++ (short_bytes y.0 ++ written_node b.now))))) }
+    ensures sizes { IsCounted out.new → FitsShort z.0 × FitsShort x.0 × FitsNode a.now × FitsShort y.0 × FitsNode b.now }
 {
     put_form_name_type(out, 13, z, t);
     put_name(out, x);
@@ -107,7 +116,8 @@ fn put_case_sum(out: &mut Output, z: Name, t: &Ty, x: Name, a: &Node, y: Name, b
 
 #[cycle(put_nodes)]
 fn put_case_star(out: &mut Output, z: Name, t: &Ty, a: &Node, y: Name, ys: Name, b: &Node)
-    ensures { Puts out.old out.new (14 ∷ short_bytes z.0 ++ (type_bytes (type_of t.now) ++ (written_node a.now ++ (short_bytes y.0 ++ (short_bytes ys.0 ++ written_node b.now))))) }
+    ensures puts { Puts out.old out.new (14 ∷ short_bytes z.0 ++ (type_bytes (type_of t.now) ++ (written_node a.now ++ (short_bytes y.0 ++ (short_bytes ys.0 ++ written_node b.now))))) }
+    ensures sizes { IsCounted out.new → FitsShort z.0 × FitsNode a.now × FitsShort y.0 × FitsShort ys.0 × FitsNode b.now }
 {
     put_form_name_type(out, 14, z, t);
     put_node(out, a);
@@ -119,7 +129,8 @@ fn put_case_star(out: &mut Output, z: Name, t: &Ty, a: &Node, y: Name, ys: Name,
 // A call: its function, its historical arguments and its arguments.
 #[cycle(put_nodes)]
 fn put_call(out: &mut Output, es: &[Node], ms: &[Expr], f: u32)
-    ensures { Puts out.old out.new (16 ∷ short_bytes f ++ (list_bytes expr_bytes (map expr_of ms.now) ++ list_bytes written_node es.now)) }
+    ensures puts { Puts out.old out.new (16 ∷ short_bytes f ++ (list_bytes expr_bytes (map expr_of ms.now) ++ list_bytes written_node es.now)) }
+    ensures sizes { IsCounted out.new → FitsShort f × (FitsExprs (map expr_of ms.now) × FitsList FitsNode es.now) }
 {
     put_byte(out, 16);
     put_short(out, f);
@@ -129,7 +140,8 @@ fn put_call(out: &mut Output, es: &[Node], ms: &[Expr], f: u32)
 
 #[cycle(put_nodes)]
 fn put_nodes(out: &mut Output, nodes: &[Node])
-    ensures { Puts out.old out.new (list_bytes written_node nodes.now) }
+    ensures puts { Puts out.old out.new (list_bytes written_node nodes.now) }
+    ensures sizes { IsCounted out.new → FitsList FitsNode nodes.now }
 {
     put_count(out, nodes.len());
     for node in nodes {

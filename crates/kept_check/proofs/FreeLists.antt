@@ -1,5 +1,5 @@
 -- The names of joined lists, less some.
-use Rattle.std.proofs.Common.{◌≡◌, ◌∙◌, ◌<◌, ◌≤◌, ◌+◌, ℕ, Bool, true, false, true≢false, ◌&&◌, ◌||◌, not, eqb, if◌then◌else◌, List, [], ◌∷◌, ◌++◌, length, get_or, drop, refl, ap, ap₂, sym}
+use Rattle.std.proofs.Common.{◌≡◌, ◌∙◌, ◌<◌, ◌≤◌, ◌+◌, ℕ, Bool, true, false, true≢false, ◌&&◌, ◌||◌, not, eqb, if◌then◌else◌, List, [], ◌∷◌, ◌++◌, length, get_or, drop, refl, ap, sym}
 use Rattle.std.proofs.lemmas.Bool.{eqb-true}
 use Rattle.std.proofs.lemmas.List.{at_drop_more, drop_all}
 use Rattle.bunch.specs.declared.name.Name.{Name}
@@ -50,10 +50,9 @@ holds-without_all x (y ∷ ys) zs =
 pub holds-joined : (x : ℕ) (xs ys zs : List ℕ) → holds x (xs ++ without_all ys zs) ≡ (holds x xs || (holds x zs && not (holds x ys)))
 holds-joined x xs ys zs = holds-append x xs (without_all ys zs) ∙ ap (λ b. holds x xs || b) (holds-without_all x ys zs)
 
--- the same of lists that have the same names
-pub names_joined : (v f s : List Name) (xs ys zs : List ℕ) → HasNames v (numbers_of f ++ without_all ys (numbers_of s)) → HasNames f xs → HasNames s zs → HasNames v (xs ++ without_all ys zs)
-names_joined v f s xs ys zs h k m x =
-    h x ∙ (holds-joined x (numbers_of f) ys (numbers_of s) ∙ (ap₂ (λ a b. a || (b && not (holds x ys))) (k x) (m x) ∙ sym (holds-joined x xs ys zs)))
+-- the same of names that are the same
+pub names_less : (v m : List Name) (xs ys zs : List ℕ) → HasNames v (xs ++ without_all ys (numbers_of m)) → HasNames m zs → HasNames v (xs ++ without_all ys zs)
+names_less v m xs ys zs h k x = h x ∙ (holds-joined x xs ys (numbers_of m) ∙ (ap (λ b. holds x xs || (b && not (holds x ys))) (k x) ∙ sym (holds-joined x xs ys zs)))
 
 -- names each once are the same names
 pub names_once : (v : List Name) (xs : List ℕ) → numbers_of v ≡ once xs → HasNames v xs

@@ -7,7 +7,7 @@ pub mod ReadSizes
 pub mod Turns
 pub mod ParameterFacts
 pub mod LetPlaces
-pub mod BoundTogether
+pub mod DistinctNames
 pub mod InputContexts
 pub mod Placed
 pub mod FirstStates
@@ -18,5 +18,6 @@ pub mod Gathered
 pub mod Contexts
 pub mod SameNames
 pub mod LaterRules
+pub mod KnownApart
 pub mod StateForms
 mod Examples

@@ -60,13 +60,12 @@ all_before : (c : Context) (xs ys : List ℕ) → AllBefore c xs ys → are_befo
 all_before c xs ys h = holds-all (λ u. list_all (λ v. is_before c u v) ys) xs (λ x i. holds-all (λ v. is_before c x v) ys (λ y j. h x y i j))
 
 -- what was tested of the names that were found
-pub tested : (c : Context) (b : Bool) (xs : List ℕ) (found : List Name) (ys : List ℕ) → (IsTrue b ↔ AllBefore c xs (numbers_of found)) → HasNames found ys → b ≡ are_before c xs ys
-tested c b xs found ys h k = go b (are_before c xs (numbers_of found)) h refl ∙ before_same c xs (numbers_of found) xs ys (λ x. refl) k
-  where
-    go : (b a : Bool) → (IsTrue b ↔ AllBefore c xs (numbers_of found)) → are_before c xs (numbers_of found) ≡ a → b ≡ are_before c xs (numbers_of found)
-    go true a h e = sym (all_before c xs (numbers_of found) (h.0 refl))
-    go false true h e = absurd (true≢false (sym (h.1 (before_all c xs (numbers_of found) e))))
-    go false false h e = sym e
+pub tested : (c : Context) (b : Bool) (xs : List ℕ) (found : List Name) (ys : List ℕ) → b ≡ are_before c xs (numbers_of found) → HasNames found ys → b ≡ are_before c xs ys
+tested c b xs found ys h k = h ∙ before_same c xs (numbers_of found) xs ys (λ x. refl) k
+
+pub before_told : (c : Context) (b : Bool) (v w : List Name) (xs ys : List ℕ) → HasNames v xs → HasNames w ys → b ≡ are_before c (numbers_of v) (numbers_of w) → IsTrue b ↔ AllBefore c xs ys
+before_told c b v w xs ys h k e =
+    let same = e ∙ before_same c (numbers_of v) (numbers_of w) xs ys h k in (λ t. before_all c xs ys (sym same ∙ t), λ a. same ∙ all_before c xs ys a)
 
 some_same : (p q : StateTree → Bool) (args : ArgumentTrees) (x : ℕ) → ((s : StateTree) → p s ≡ q s) → some_argument p args x ≡ some_argument q args x
 some_same p q args x h = ap (λ f. some_argument f args x) (fun_ext h)

@@ -25,6 +25,10 @@ and_both a b h k = ap (λ c. c && b) h ∙ k
 abbrev pub are_same : List ℕ → List ℕ → Bool
 are_same xs ys = list_all (λ x. holds x ys) xs && list_all (λ x. holds x xs) ys
 
+-- and the first has none twice
+abbrev pub are_just : List ℕ → List ℕ → Bool
+are_just xs ys = is_distinct xs && are_same xs ys
+
 pub names_of_same : (xs ys : List ℕ) → are_same xs ys ≡ true → (x : ℕ) → holds x xs ≡ holds x ys
 names_of_same xs ys h x =
     same_test (holds x xs) (holds x ys)
@@ -48,17 +52,17 @@ AreLeft c held = All (λ h. IsPrefix h.type h.prefix) held × All (λ h. c.types
 
 module _ (c : Context) (names : List Name) (free : List ℕ) (held : List HeldName) (e : numbers_of names ≡ held_names held) where
   -- names that are each once, and the same as the free ones
-  pub held_where : is_distinct (numbers_of names) ≡ true → are_same (numbers_of names) free ≡ true → AreLeft c held ↔ IsHeld c free held
-  held_where d s = (
-    λ a. record { are_prefixes = a.0; are_left = a.1; are_free = λ x. ap (holds x) (sym e) ∙ names_of_same (numbers_of names) free s x; are_once = ap is_distinct (sym e) ∙ d },
-    λ i. (i.are_prefixes, i.are_left),
-  )
+  pub held_where : are_just (numbers_of names) free ≡ true → AreLeft c held ↔ IsHeld c free held
+  held_where j =
+      let d = and_first (is_distinct (numbers_of names)) (are_same (numbers_of names) free) j in
+      let s = and_second (is_distinct (numbers_of names)) (are_same (numbers_of names) free) j in (
+        λ a. record { are_prefixes = a.0; are_left = a.1; are_free = λ x. ap (holds x) (sym e) ∙ names_of_same (numbers_of names) free s x; are_once = ap is_distinct (sym e) ∙ d },
+        λ i. (i.are_prefixes, i.are_left),
+      )
 
-  pub held_once : IsHeld c free held → is_distinct (numbers_of names) ≡ true
-  held_once i = ap is_distinct e ∙ i.are_once
-
-  pub held_free : IsHeld c free held → are_same (numbers_of names) free ≡ true
-  held_free i = same_of_names (numbers_of names) free (λ x. ap (holds x) e ∙ i.are_free x)
+  pub held_just : IsHeld c free held → are_just (numbers_of names) free ≡ true
+  held_just i =
+      and_both (is_distinct (numbers_of names)) (are_same (numbers_of names) free) (ap is_distinct e ∙ i.are_once) (same_of_names (numbers_of names) free (λ x. ap (holds x) e ∙ i.are_free x))
 
 -- whatever list has these names
 pub held_like : (c : Context) (v : List Name) (free : List ℕ) (held : List HeldName) → HasNames v free → IsHeld c (numbers_of v) held ↔ IsHeld c free held

@@ -1,30 +1,25 @@
 -- The rules of the forms of states, from what their parts are asked.
-use Rattle.std.proofs.Common.{◌≡◌, ◌∙◌, ◌↔◌, ℕ, Bool, false, true≢false, IsTrue, List, [], ◌∷◌, ap, sym, subst}
+use Rattle.std.proofs.Common.{◌≡◌, ◌∙◌, ◌↔◌, ℕ, Bool, false, true≢false, IsTrue, List, [], ◌∷◌, ap, refl, sym, subst}
 use Rattle.std.specs.Prelude.{Result, IfOk, Option, Some, None, unwrap_or}
 use Rattle.std.proofs.lemmas.Result.{IfOk-weaker}
 use Rattle.stream_type.specs.StreamType.{StreamType, eps, sum, star, null_of}
-use Rattle.bunch.specs.declared.name.Name.{Name}
-use Rattle.bunch.specs.Names.{holds, numbers_of}
+use Rattle.bunch.specs.Names.{holds}
 use Rattle.core_term.specs.CoreTerm.{CoreBody}
 use Rattle.core_term.specs.FreeNames.{free_names}
 use Rattle.core_term.specs.Parts.{sum_left, sum_right, star_item, star_items}
-use Rattle.core_term.specs.Typing.{Context, type_at, AllBefore, HasForm, with_name_like, with_fact, with_parts}
-use Rattle.delta_state.specs.StateTree.{LaterTree}
-use Rattle.delta_state.specs.StateTyping.{with_known}
-use Rattle.kept_rules.specs.StateRules.{IsGoodLater, IsGoodSum, IsGoodStar, IsGoodWait}
-use Rattle.kept_check.specs.Free.{HasNames}
+use Rattle.core_term.specs.Typing.{Context, type_at, HasForm, with_name_like, with_fact, with_parts}
+use Rattle.delta_state.specs.StateTree.{HeldName, LaterTree, StateTree, sink, var_state, par_state, cat_state, let_state, let_par_state, let_cat_state, sum_state, star_state, wait_state, frame_state, free_in_state}
+use Rattle.delta_state.specs.StateTyping.{context_held, with_known, IsHeld}
+use Rattle.kept_rules.specs.StateRules.{FollowsRule, IsGoodLater, IsGoodSum, IsGoodStar, IsGoodWait}
+use Rattle.kept_check.specs.HeldRules.{IsHolding, is_decided, MayGoOn}
+use Rattle.kept_check.proofs.KnownApart.{name_before, item_before, value_before}
+use Rattle.kept_check.proofs.LaterRules.{bound_before}
 
 -- a part that isn't so
 pub fails : (P R : Type 0) → (R → P) → (P → ⊥) → IsTrue false ↔ R
 fails P R i n = (λ t. absurd (true≢false (sym t)), λ r. absurd (n (i r)))
 
 -- the last of several parts, where the others are so
-pub last_of_two : {E : Type 0} (b : Result Bool E) (P Q R : Type 0) → (P × Q) ↔ R → P → IfOk b (λ t. IsTrue t ↔ Q) → IfOk b (λ t. IsTrue t ↔ R)
-last_of_two b P Q R w p h = IfOk-weaker b (λ t. IsTrue t ↔ Q) (λ t. IsTrue t ↔ R) (λ t i. (λ y. w.0 (p, i.0 y), λ r. i.1 (w.1 r).1)) h
-
-pub last_of_three : {E : Type 0} (b : Result Bool E) (P Q R W : Type 0) → (P × Q × R) ↔ W → P → Q → IfOk b (λ t. IsTrue t ↔ R) → IfOk b (λ t. IsTrue t ↔ W)
-last_of_three b P Q R W w p q h = IfOk-weaker b (λ t. IsTrue t ↔ R) (λ t. IsTrue t ↔ W) (λ t i. (λ y. w.0 (p, q, i.0 y), λ r. i.1 (w.1 r).2)) h
-
 pub last_of_four : {E : Type 0} (b : Result Bool E) (P Q R S : Type 0) → P → Q → R → IfOk b (λ t. IsTrue t ↔ S) → IfOk b (λ t. IsTrue t ↔ (P × Q × R × S))
 last_of_four b P Q R S p q r h = IfOk-weaker b (λ t. IsTrue t ↔ S) (λ t. IsTrue t ↔ (P × Q × R × S)) (λ t i. (λ y. (p, q, r, i.0 y), λ f. i.1 f.3)) h
 
@@ -39,60 +34,81 @@ form_at c z s F e = subst (λ (o : Option StreamType). (s ≡ F s) ↔ (o ≡ So
 pub form_none : (c : Context) (z : ℕ) (s : StreamType) → c.types z ≡ None → HasForm c z s → ⊥
 form_none c z s e h = absurd (cc (sym e ∙ h))
 
--- each name of one list stands before each of another, whichever list has the first of these names,
-pub before_like : (c : Context) (v : List Name) (xs ys : List ℕ) → HasNames v xs → AllBefore c (numbers_of v) ys ↔ AllBefore c xs ys
-before_like c v xs ys h = (λ a x y m n. a x y (h x ∙ m) n, λ a x y m n. a x y (sym (h x) ∙ m) n)
-
--- and whichever has the second
-pub behind_like : (c : Context) (xs : List ℕ) (w : List Name) (ys : List ℕ) → HasNames w ys → AllBefore c xs (numbers_of w) ↔ AllBefore c xs ys
-behind_like c xs w ys k = (λ a x y m n. a x y m (k y ∙ n), λ a x y m n. a x y m (sym (k y) ∙ n))
-
 module _ (funs : List CoreBody) (depth : ℕ) (c : Context) (z : ℕ) where
-  -- a case on a sum whose sides' types are known
-  pub good_sum : (x : ℕ) (l : LaterTree) (y : ℕ) (m : LaterTree) (r s t : StreamType) → c.types z ≡ Some (sum s t)
-      → (IsGoodLater funs depth c (with_name_like x s z) (x ∷ []) l r × IsGoodLater funs depth c (with_name_like y t z) (y ∷ []) m r) ↔ IsGoodSum funs depth c z x l y m r
-  good_sum x l y m r s t e = (
-    λ g. record {
-      subject = subst (λ (u : StreamType). c.types z ≡ Some (sum (sum_left u) (sum_right u))) (sym q) e;
-      left = subst (λ (u : StreamType). IsGoodLater funs depth c (with_name_like x (sum_left u) z) (x ∷ []) l r) (sym q) g.0;
-      right = subst (λ (u : StreamType). IsGoodLater funs depth c (with_name_like y (sum_right u) z) (y ∷ []) m r) (sym q) g.1;
-    },
-    λ g. (
-      subst (λ (u : StreamType). IsGoodLater funs depth c (with_name_like x (sum_left u) z) (x ∷ []) l r) q g.left,
-      subst (λ (u : StreamType). IsGoodLater funs depth c (with_name_like y (sum_right u) z) (y ∷ []) m r) q g.right,
-    ),
-  )
-    where
-      q : type_at c z ≡ sum s t
-      q = ap (λ o. unwrap_or o eps) e
+  -- the branches of a case on a sum
+  pub left_bad : (x : ℕ) (l : LaterTree) (y : ℕ) (m : LaterTree) (r : StreamType) → (IsGoodLater funs depth (with_name_like x (sum_left (type_at c z)) z c) (λ d. d) (x ∷ []) l r → ⊥) → IsTrue false ↔ IsGoodSum funs depth c z x l y m r
+  left_bad x l y m r n =
+      fails (IsGoodLater funs depth c (with_name_like x (sum_left (type_at c z)) z) (x ∷ []) l r) (IsGoodSum funs depth c z x l y m r) (λ g. g.left)
+      (λ g. n ((bound_before funs depth c (with_name_like x (sum_left (type_at c z)) z c) (with_name_like x (sum_left (type_at c z)) z) (x ∷ []) l r (name_before c l x (sum_left (type_at c z)) z)).1 g))
 
-  -- a case on a star
-  pub good_star : (l : LaterTree) (y ys : ℕ) (m : LaterTree) (r s : StreamType) → c.types z ≡ Some (star s)
-      → (IsGoodLater funs depth c (λ d. d) [] l r × IsGoodLater funs depth c (λ d. with_fact y ys (with_parts y s ys (star s) z d)) (y ∷ (ys ∷ [])) m r) ↔ IsGoodStar funs depth c z l y ys m r
-  good_star l y ys m r s e = (
-    λ g. record {
-      subject = subst (λ (u : StreamType). c.types z ≡ Some (star (star_item u))) (sym q) e;
-      at_end = g.0;
-      at_item = subst (λ (u : StreamType). IsGoodLater funs depth c (λ d. with_fact y ys (with_parts y (star_item u) ys (star_items u) z d)) (y ∷ (ys ∷ [])) m r) (sym q) g.1;
-    },
-    λ g. (g.at_end, subst (λ (u : StreamType). IsGoodLater funs depth c (λ d. with_fact y ys (with_parts y (star_item u) ys (star_items u) z d)) (y ∷ (ys ∷ [])) m r) q g.at_item),
-  )
-    where
-      q : type_at c z ≡ star s
-      q = ap (λ o. unwrap_or o eps) e
+  pub right_told : {E : Type 0} (b : Result Bool E) (x : ℕ) (l : LaterTree) (y : ℕ) (m : LaterTree) (r : StreamType) → HasForm c z (sum (sum_left (type_at c z)) (sum_right (type_at c z)))
+      → IsGoodLater funs depth (with_name_like x (sum_left (type_at c z)) z c) (λ d. d) (x ∷ []) l r
+      → IfOk b (λ t. IsTrue t ↔ IsGoodLater funs depth (with_name_like y (sum_right (type_at c z)) z c) (λ d. d) (y ∷ []) m r) → IfOk b (λ t. IsTrue t ↔ IsGoodSum funs depth c z x l y m r)
+  right_told b x l y m r f g h =
+      let left = bound_before funs depth c (with_name_like x (sum_left (type_at c z)) z c) (with_name_like x (sum_left (type_at c z)) z) (x ∷ []) l r (name_before c l x (sum_left (type_at c z)) z) in
+      let right = bound_before funs depth c (with_name_like y (sum_right (type_at c z)) z c) (with_name_like y (sum_right (type_at c z)) z) (y ∷ []) m r (name_before c m y (sum_right (type_at c z)) z) in
+      IfOk-weaker b (λ t. IsTrue t ↔ IsGoodLater funs depth (with_name_like y (sum_right (type_at c z)) z c) (λ d. d) (y ∷ []) m r) (λ t. IsTrue t ↔ IsGoodSum funs depth c z x l y m r)
+      (λ t i. (λ k. record { subject = f; left = left.0 g; right = right.0 (i.0 k) }, λ k. i.1 (right.1 k.right))) h
 
-  -- a wait for a stream whose type is known
-  pub good_wait : (l : LaterTree) (r t : StreamType) → c.types z ≡ Some t
-      → ((null_of t ≡ false) × (holds z (free_names l.term) ≡ false) × IsGoodLater funs depth c (with_known z t) (z ∷ []) l r) ↔ IsGoodWait funs depth c z l r
-  good_wait l r t e = (
-    λ g. record {
-      subject = subst (λ (u : StreamType). c.types z ≡ Some u) (sym q) e;
-      not_null = ap null_of q ∙ g.0;
-      rest = subst (λ (u : StreamType). IsGoodLater funs depth c (with_known z u) (z ∷ []) l r) (sym q) g.2;
-      not_used = g.1;
-    },
-    λ g. (ap null_of (sym q) ∙ g.not_null, g.not_used, subst (λ (u : StreamType). IsGoodLater funs depth c (with_known z u) (z ∷ []) l r) q g.rest),
-  )
+  -- the branch of an item
+  pub item_told : {E : Type 0} (b : Result Bool E) (l : LaterTree) (y ys : ℕ) (m : LaterTree) (r : StreamType) → HasForm c z (star (star_item (type_at c z))) → IsGoodLater funs depth c (λ d. d) [] l r
+      → IfOk b (λ t. IsTrue t ↔ IsGoodLater funs depth (with_fact y ys (with_parts y (star_item (type_at c z)) ys (star_items (type_at c z)) z c)) (λ d. d) (y ∷ (ys ∷ [])) m r)
+      → IfOk b (λ t. IsTrue t ↔ IsGoodStar funs depth c z l y ys m r)
+  item_told b l y ys m r f g h =
+      let inner = with_fact y ys (with_parts y (star_item (type_at c z)) ys (star_items (type_at c z)) z c) in
+      let item = bound_before funs depth c inner (λ d. with_fact y ys (with_parts y (star_item (type_at c z)) ys (star_items (type_at c z)) z d)) (y ∷ (ys ∷ [])) m r (item_before c m y ys (star_item (type_at c z)) (star_items (type_at c z)) z) in
+      IfOk-weaker b (λ t. IsTrue t ↔ IsGoodLater funs depth inner (λ d. d) (y ∷ (ys ∷ [])) m r) (λ t. IsTrue t ↔ IsGoodStar funs depth c z l y ys m r)
+      (λ t i. (λ k. record { subject = f; at_end = g; at_item = item.0 (i.0 k) }, λ k. i.1 (item.1 k.at_item))) h
+
+  -- what is of no stream is null
+  subject_is : null_of (type_at c z) ≡ false → HasForm c z (type_at c z)
+  subject_is n = go (c.types z) n
     where
-      q : type_at c z ≡ t
-      q = ap (λ o. unwrap_or o eps) e
+      go : (o : Option StreamType) → null_of (unwrap_or o eps) ≡ false → o ≡ Some (unwrap_or o eps)
+      go (Some t) k = refl
+      go None k = absurd (true≢false k)
+
+  -- what follows a wait
+  pub rest_told : {E : Type 0} (b : Result Bool E) (l : LaterTree) (r : StreamType) → null_of (type_at c z) ≡ false → holds z (free_names l.term) ≡ false
+      → IfOk b (λ t. IsTrue t ↔ IsGoodLater funs depth c (with_known z (type_at c z)) (z ∷ []) l r) → IfOk b (λ t. IsTrue t ↔ IsGoodWait funs depth c z l r)
+  rest_told b l r n u h =
+      IfOk-weaker b (λ t. IsTrue t ↔ IsGoodLater funs depth c (with_known z (type_at c z)) (z ∷ []) l r) (λ t. IsTrue t ↔ IsGoodWait funs depth c z l r)
+      (λ t i. (λ k. record { subject = subject_is n; not_null = n; rest = i.0 k; not_used = u }, λ k. i.1 k.rest)) h
+
+  -- where its subject has a value
+  pub value_told : {E : Type 0} (b : Result Bool E) (d : Context) (t : StreamType) (l : LaterTree) (r : StreamType) → d ≡ with_known z t c → IfOk b (λ u. IsTrue u ↔ IsGoodLater funs depth d (λ e. e) (z ∷ []) l r)
+      → IfOk b (λ u. IsTrue u ↔ IsGoodLater funs depth c (with_known z t) (z ∷ []) l r)
+  value_told b d t l r e h =
+      let moved = bound_before funs depth c (with_known z t c) (with_known z t) (z ∷ []) l r (value_before c l z t) in
+      IfOk-weaker b (λ u. IsTrue u ↔ IsGoodLater funs depth (with_known z t c) (λ k. k) (z ∷ []) l r) (λ u. IsTrue u ↔ IsGoodLater funs depth c (with_known z t) (z ∷ []) l r) (λ u i. (λ k. moved.0 (i.0 k), λ k. i.1 (moved.1 k)))
+      (subst (λ (k : Context). IfOk b (λ u. IsTrue u ↔ IsGoodLater funs depth k (λ w. w) (z ∷ []) l r)) e h)
+
+-- a case or a wait
+module _ (funs : List CoreBody) (depth : ℕ) (c : Context) (t : StreamType) (held : List HeldName) (r : StreamType) where
+  -- is asked for its type, what it holds, and how it goes on
+  abbrev Asked : StateTree → Type 0
+  Asked s = (t ≡ r) × IsHeld c (free_in_state s) held × (is_decided s ≡ false) × MayGoOn funs depth (context_held held c.order) s r
+
+  pub asked_held : (s : StateTree) → IsHolding t held s → FollowsRule funs depth c s r ↔ Asked s
+  asked_held (sum_state z u more x l y m) h = rw (h.0, h.1) (λ f. f, λ f. f)
+  asked_held (star_state z u more l y ys m) h = rw (h.0, h.1) (λ f. f, λ f. f)
+  asked_held (wait_state x u more l) h = rw (h.0, h.1) (λ f. f, λ f. f)
+  asked_held (sink u) h = absurd h
+  asked_held (var_state x) h = absurd h
+  asked_held (par_state a b) h = absurd h
+  asked_held (cat_state a l) h = absurd h
+  asked_held (let_state x u a b) h = absurd h
+  asked_held (let_par_state x y z a) h = absurd h
+  asked_held (let_cat_state x y z a) h = absurd h
+  asked_held (frame_state args s) h = absurd h
+
+  -- one of these isn't so
+  pub not_asked : (s : StateTree) → IsHolding t held s → (Asked s → ⊥) → IsTrue false ↔ FollowsRule funs depth c s r
+  not_asked s h n = fails (Asked s) (FollowsRule funs depth c s r) (asked_held s h).0 n
+
+  -- the last decides
+  pub asked_last : {E : Type 0} (b : Result Bool E) (s : StateTree) → IsHolding t held s → t ≡ r → IsHeld c (free_in_state s) held → is_decided s ≡ false
+      → IfOk b (λ u. IsTrue u ↔ MayGoOn funs depth (context_held held c.order) s r) → IfOk b (λ u. IsTrue u ↔ FollowsRule funs depth c s r)
+  asked_last b s h e i d k =
+      let asked = asked_held s h in
+      IfOk-weaker b (λ u. IsTrue u ↔ MayGoOn funs depth (context_held held c.order) s r) (λ u. IsTrue u ↔ FollowsRule funs depth c s r) (λ u j. (λ y. asked.1 (e, i, d, j.0 y), λ f. j.1 (asked.0 f).3)) k

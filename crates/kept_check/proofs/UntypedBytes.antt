@@ -1,7 +1,6 @@
 -- The bytes of a kept state that isn't typed are those of no typed one.
 use Rattle.std.proofs.Common.{◌≡◌, ◌∙◌, ℕ, List, Err, sym, subst}
 use Rattle.core_term.specs.CoreTerm.{CoreProgram}
-use Rattle.kept_state.specs.KeptTree.{KeptTree}
 use Rattle.kept_state.specs.KeptTyping.{IsTypedKept}
 use Rattle.kept_state.specs.KeptBytes.{kept_bytes}
 use Rattle.kept_state.specs.KeptSizes.{HasSizes}

@@ -1,6 +1,6 @@
 //! The names that terms and historical expressions bind.
 
-ghost use Rattle.std.specs.Prelude.{◌≡◌, ◌++◌, ◌∷◌, map, IfOk, OnOk};
+ghost use Rattle.std.specs.Prelude.{◌≡◌, ◌++◌, map, OnOk};
 ghost use Rattle.bunch.specs.Names.{numbers_of};
 ghost use Rattle.hist_value.specs.HistExpr.{expr_of};
 ghost use Rattle.core_term.specs.CoreTerm.{term_of, terms_from};
@@ -9,50 +9,20 @@ ghost use Rattle.core_term.specs.FreeNames.{bound_in_expr, bound_in_exprs, bound
 use bunch::Name;
 use core_term::{Node, Term};
 use hist_value::Expr;
-use std::alloc::Global;
 use stream_type::Memory;
 
-/// Names, and behind them those that a term binds, in the order of reading. Its only error is want of
-/// memory.
-pub fn bound_in(alloc: Global, first: &[Name], n: &Node) -> Result<Vec<Name>, Memory>
-    ensures { IfOk result (λ v. numbers_of v.items ≡ numbers_of first.now ++ bound_names (term_of n.now)) }
+/// Adds these names. Its only error is want of memory.
+#[tactic(auto, using(crate::proofs::NameLists::name_lists))]
+pub fn add_names(names: &[Name], found: &mut Vec<Name>) -> Result<(), Memory>
+    ensures { OnOk result (numbers_of found.new.items ≡ numbers_of found.old.items ++ numbers_of names.now) }
 {
-    behind(Vec::new(alloc), first, n)
-}
-
-/// The same twice. Its only error is want of memory.
-pub fn bound_in_both(
-    alloc: Global,
-    first: &[Name],
-    n: &Node,
-    then: &[Name],
-    m: &Node,
-) -> Result<Vec<Name>, Memory>
-    ensures { IfOk result (λ v. numbers_of v.items ≡ numbers_of first.now ++ (bound_names (term_of n.now) ++ (numbers_of then.now ++ bound_names (term_of m.now)))) }
-{
-    match bound_in(alloc, first, n) {
-        Ok(names) => behind(names, then, m),
-        Err(_) => Err(Memory),
-    }
-}
-
-// Names, others behind them, and behind these those that a term binds.
-fn behind(names: Vec<Name>, more: &[Name], n: &Node) -> Result<Vec<Name>, Memory>
-    ensures { IfOk result (λ v. numbers_of v.items ≡ numbers_of names.items ++ (numbers_of more.now ++ bound_names (term_of n.now))) }
-{
-    let mut names = names;
-    match add_behind(more, n, &mut names) {
-        Ok(()) => Ok(names),
-        Err(_) => {
-            drop(names);
-            Err(Memory)
-        }
-    }
+    found.extend_from_slice(names)?;
+    Ok(())
 }
 
 // Adds the names that a term binds, in the order of reading: `bound_names` in the specs of core_term.
 #[cycle(bound)]
-#[tactic(auto, using(core_term::proofs::Rows::rows, crate::proofs::NameLists::name_lists))]
+#[tactic(auto, using(crate::proofs::NameLists::name_lists))]
 fn add_bound(n: &Node, found: &mut Vec<Name>) -> Result<(), Memory>
     ensures { OnOk result (numbers_of found.new.items ≡ numbers_of found.old.items ++ bound_names (term_of n.now)) }
 {
@@ -69,20 +39,22 @@ fn add_bound(n: &Node, found: &mut Vec<Name>) -> Result<(), Memory>
     }
 }
 
-// Names, and behind them those of a term.
+/// Adds names, and behind them those that a term binds. Its only error is want of memory.
 #[cycle(bound)]
 #[tactic(auto, using(crate::proofs::NameLists::name_lists))]
-fn add_behind(first: &[Name], a: &Node, found: &mut Vec<Name>) -> Result<(), Memory>
+pub fn add_behind(first: &[Name], a: &Node, found: &mut Vec<Name>) -> Result<(), Memory>
     ensures { OnOk result (numbers_of found.new.items ≡ numbers_of found.old.items ++ (numbers_of first.now ++ bound_names (term_of a.now))) }
 {
-    found.extend_from_slice(first)?;
-    add_bound(a, found)
+    match add_names(first, found) {
+        Ok(()) => add_bound(a, found),
+        Err(_) => Err(Memory),
+    }
 }
 
-// The same twice.
+/// The same twice. Its only error is want of memory.
 #[cycle(bound)]
 #[tactic(auto, using(crate::proofs::NameLists::name_lists))]
-fn add_parts(
+pub fn add_parts(
     first: &[Name],
     a: &Node,
     then: &[Name],
@@ -92,11 +64,13 @@ fn add_parts(
     ensures { OnOk result (numbers_of found.new.items
         ≡ numbers_of found.old.items ++ ((numbers_of first.now ++ bound_names (term_of a.now)) ++ (numbers_of then.now ++ bound_names (term_of b.now)))) }
 {
-    add_behind(first, a, found)?;
-    add_behind(then, b, found)
+    match add_behind(first, a, found) {
+        Ok(()) => add_behind(then, b, found),
+        Err(_) => Err(Memory),
+    }
 }
 
-// Those of the arguments of a call.
+// Adds the names that a call's historical expressions bind, and those of its arguments.
 #[cycle(bound)]
 #[tactic(auto, using(crate::proofs::NameLists::name_lists))]
 fn add_of_call(arguments: &[Node], past: &[Expr], found: &mut Vec<Name>) -> Result<(), Memory>
@@ -104,22 +78,13 @@ fn add_of_call(arguments: &[Node], past: &[Expr], found: &mut Vec<Name>) -> Resu
         ≡ numbers_of found.old.items ++ (bound_in_exprs (map expr_of past.now) ++ bound_in_terms (terms_from (map term_of arguments.now)))) }
 {
     add_bound_in_exprs(past, found)?;
-    add_of_all(arguments, found)
-}
-
-// Those of terms in turn.
-#[cycle(bound)]
-#[tactic(auto, using(crate::proofs::NameLists::name_lists))]
-fn add_of_all(terms: &[Node], found: &mut Vec<Name>) -> Result<(), Memory>
-    ensures { OnOk result (numbers_of found.new.items ≡ numbers_of found.old.items ++ bound_in_terms (terms_from (map term_of terms.now))) }
-{
-    for term in terms {
+    for term in arguments {
         add_bound(term, found)?;
     }
     Ok(())
 }
 
-// Those of historical expressions in turn.
+// Adds the names that historical expressions bind, in turn.
 #[tactic(auto, using(crate::proofs::NameLists::name_lists))]
 fn add_bound_in_exprs(exprs: &[Expr], found: &mut Vec<Name>) -> Result<(), Memory>
     ensures { OnOk result (numbers_of found.new.items ≡ numbers_of found.old.items ++ bound_in_exprs (map expr_of exprs.now)) }
@@ -138,58 +103,39 @@ fn add_bound_in_expr(m: &Expr, found: &mut Vec<Name>) -> Result<(), Memory>
 {
     match m {
         Expr::Var(_) | Expr::Lit(_) | Expr::Unit | Expr::Nil => Ok(()),
-        Expr::Bin(_, a, b) | Expr::Pair(a, b) | Expr::Cons(a, b) => add_of_exprs(a, &[], b, found),
+        Expr::Bin(_, a, b) | Expr::Pair(a, b) | Expr::Cons(a, b) => add_of_two(a, &[], b, found),
         Expr::Fst(a) | Expr::Snd(a) | Expr::Inl(a) | Expr::Inr(a) => add_bound_in_expr(a, found),
-        Expr::Choose(a, x, b, y, c) => add_of_choice(a, *x, b, *y, c, found),
-        Expr::Fold(a, s, x, y, b) => add_of_fold(a, s, *x, *y, b, found),
+        Expr::Choose(a, x, b, y, c) => add_of_three(a, &[*x], b, &[*y], c, found),
+        Expr::Fold(a, s, x, y, b) => add_of_three(a, &[], s, &[*x, *y], b, found),
     }
 }
 
 // Those of one, names, and those of another.
 #[cycle(bound_in_expr)]
 #[tactic(auto, using(crate::proofs::NameLists::name_lists))]
-fn add_of_exprs(a: &Expr, then: &[Name], b: &Expr, found: &mut Vec<Name>) -> Result<(), Memory>
-    ensures { OnOk result (numbers_of found.new.items ≡ numbers_of found.old.items ++ (bound_in_expr (expr_of a.now) ++ (numbers_of then.now ++ bound_in_expr (expr_of b.now)))) }
+fn add_of_two(a: &Expr, first: &[Name], b: &Expr, found: &mut Vec<Name>) -> Result<(), Memory>
+    ensures { OnOk result (numbers_of found.new.items ≡ numbers_of found.old.items ++ (bound_in_expr (expr_of a.now) ++ (numbers_of first.now ++ bound_in_expr (expr_of b.now)))) }
 {
     add_bound_in_expr(a, found)?;
-    found.extend_from_slice(then)?;
+    found.extend_from_slice(first)?;
     add_bound_in_expr(b, found)
 }
 
-// Those of a case.
+// The same, and behind them names and those of a third.
 #[cycle(bound_in_expr)]
 #[tactic(auto, using(crate::proofs::NameLists::name_lists))]
-fn add_of_choice(
+fn add_of_three(
     a: &Expr,
-    x: Name,
+    first: &[Name],
     b: &Expr,
-    y: Name,
+    then: &[Name],
     c: &Expr,
     found: &mut Vec<Name>,
 ) -> Result<(), Memory>
     ensures { OnOk result (numbers_of found.new.items
-        ≡ numbers_of found.old.items ++ (bound_in_expr (expr_of a.now) ++ ((x.0 ∷ bound_in_expr (expr_of b.now)) ++ (y.0 ∷ bound_in_expr (expr_of c.now))))) }
+        ≡ numbers_of found.old.items ++ (bound_in_expr (expr_of a.now) ++ ((numbers_of first.now ++ bound_in_expr (expr_of b.now)) ++ (numbers_of then.now ++ bound_in_expr (expr_of c.now))))) }
 {
-    add_of_exprs(a, &[x], b, found)?;
-    found.push(y)?;
+    add_of_two(a, first, b, found)?;
+    found.extend_from_slice(then)?;
     add_bound_in_expr(c, found)
-}
-
-// Those of a fold.
-#[cycle(bound_in_expr)]
-#[tactic(auto, using(crate::proofs::NameLists::name_lists))]
-fn add_of_fold(
-    a: &Expr,
-    s: &Expr,
-    x: Name,
-    y: Name,
-    b: &Expr,
-    found: &mut Vec<Name>,
-) -> Result<(), Memory>
-    ensures { OnOk result (numbers_of found.new.items
-        ≡ numbers_of found.old.items ++ (bound_in_expr (expr_of a.now) ++ (bound_in_expr (expr_of s.now) ++ (x.0 ∷ (y.0 ∷ bound_in_expr (expr_of b.now)))))) }
-{
-    add_of_exprs(a, &[], s, found)?;
-    found.extend_from_slice(&[x, y])?;
-    add_bound_in_expr(b, found)
 }

@@ -1,34 +1,34 @@
 //! The walk over the states of a kept state, to the first that isn't as it should be.
 
-ghost use Rattle.std.specs.Prelude.{◌≡◌, ◌↔◌, ◌==◌, ◌<◌, ◌+◌, ◌^◌, ◌&&◌, ◌||◌, ◌++◌, true, ℕ, IsTrue, IfOk, OnOk};
-ghost use Rattle.stream_type.specs.StreamType.{type_of, eps};
+ghost use Rattle.std.specs.Prelude.{◌≡◌, ◌↔◌, ◌==◌, ◌<◌, ◌+◌, ◌^◌, ◌&&◌, ◌||◌, ◌++◌, true, ℕ, take, IsTrue, IfOk, OnOk};
+ghost use Rattle.stream_type.specs.StreamType.{type_of};
 ghost use Rattle.bunch.specs.Names.{numbers_of};
 ghost use Rattle.bunch.specs.Facts.{place_let};
 ghost use Rattle.core_term.specs.CoreTerm.{typed_names_of};
-ghost use Rattle.core_term.specs.FreeNames.{bound_names, is_distinct};
-ghost use Rattle.core_term.specs.Typing.{type_at};
+ghost use Rattle.core_term.specs.FreeNames.{is_distinct};
 ghost use Rattle.delta_check.specs.Scopes.{context_in, context_given, given_at, facts_given, place_known};
 ghost use Rattle.delta_state.specs.StateTree.{argument_names, free_in_state};
 ghost use Rattle.delta_state.specs.StateTyping.{marks_of_arguments, facts_of_arguments, context_of_arguments};
 ghost use Rattle.kept_state.specs.KeptBytes.{nodes_in_state, nodes_in_arguments};
 ghost use Rattle.kept_rules.specs.InTurn.{own_names, names_in_turn, names_of_parts, names_of_arguments, state_at, states_of, states_in, states_of_arguments, with_state, with_sides, with_steps};
 ghost use Rattle.kept_rules.specs.StateRules.{FollowsRule, IsGood};
-ghost use Rattle.delta_keep.specs.KeptView.{state_of, later_of};
+ghost use Rattle.delta_keep.specs.KeptView.{state_of};
 ghost use Rattle.kept_check.specs.Arguments.{arguments_from, are_before, are_behind};
 ghost use Rattle.kept_check.specs.Judging.{funs_of, IsJudge};
 ghost use Rattle.kept_check.specs.Sizes.{states_number, states_of_parts, states_in_arguments};
 ghost use Rattle.kept_check.specs.Walk.{FindsBad, Finds, ChecksOwn};
 
-use crate::bound::{bound_in, bound_in_both};
+use crate::bound::{add_behind, add_names, add_parts};
+use crate::forms::type_or;
 use crate::free::free_in;
 use crate::judge::Judge;
-use crate::names::{are_apart, are_distinct};
+use crate::names::are_distinct;
 use crate::rules::{all_before, follows_rule, parameters};
 use crate::stop::Stop;
 use bunch::Name;
 use core_term::parts::{cat_types, par_types};
-use delta_check::{Placed, Scope, place_of_let, stream_type};
-use delta_keep::{Argument, KeptState, Waiting};
+use delta_check::{Placed, Scope, place_of_let};
+use delta_keep::{Argument, KeptState};
 use std::alloc::Global;
 use stream_type::{Memory, Ty, copy};
 
@@ -73,44 +73,19 @@ fn check_own(
     requires once { IsTrue (is_distinct (numbers_of bound.old.items)) }
     ensures { ChecksOwn (funs_of judge.now) judge.now.depth number (state_at (context_in scope.now) (type_of r.now) (numbers_of bound.old.items) (state_of s.now)) (numbers_of bound.new.items) result }
 {
-    match own_names(alloc, s) {
-        Ok(own) => {
-            let checked = check_with(alloc, judge, s, r, scope, bound, &own, number);
-            drop(own);
-            checked
-        }
-        Err(_) => Err(Stop::Memory),
-    }
-}
-
-// The same, where `own` are the names that it binds.
-fn check_with(
-    alloc: Global,
-    judge: &Judge<'_>,
-    s: &KeptState,
-    r: &Ty,
-    scope: &Scope<'_>,
-    bound: &mut Vec<Name>,
-    own: &[Name],
-    number: u32,
-) -> Result<(), Stop>
-    requires size { nodes_in_state (state_of s.now) < 2 ^ 32 }
-    requires judge { IsJudge judge.now }
-    requires once { IsTrue (is_distinct (numbers_of bound.old.items)) }
-    requires own { numbers_of own.now ≡ own_names (state_of s.now) }
-    ensures { ChecksOwn (funs_of judge.now) judge.now.depth number (state_at (context_in scope.now) (type_of r.now) (numbers_of bound.old.items) (state_of s.now)) (numbers_of bound.new.items) result }
-{
-    match is_good(alloc, judge, scope, s, r, bound, own) {
-        Ok(true) => match bound.extend_from_slice(own) {
-            Ok(()) => Ok(()),
+    let before = bound.len();
+    match add_own(s, bound) {
+        Ok(()) => match is_good(alloc, judge, scope, s, r, bound, before) {
+            Ok(true) => Ok(()),
+            Ok(false) => Err(Stop::At(number)),
             Err(_) => Err(Stop::Memory),
         },
-        Ok(false) => Err(Stop::At(number)),
         Err(_) => Err(Stop::Memory),
     }
 }
 
-// Whether a state follows its rule and binds no name again, where `own` are the names that it binds.
+// Whether a state follows its rule and binds no name again, where the names from this place on are those
+// that it binds.
 fn is_good(
     alloc: Global,
     judge: &Judge<'_>,
@@ -118,62 +93,41 @@ fn is_good(
     s: &KeptState,
     r: &Ty,
     bound: &[Name],
-    own: &[Name],
+    before: usize,
 ) -> Result<bool, Memory>
     requires size { nodes_in_state (state_of s.now) < 2 ^ 32 }
     requires judge { IsJudge judge.now }
-    requires once { IsTrue (is_distinct (numbers_of bound.now)) }
-    requires own { numbers_of own.now ≡ own_names (state_of s.now) }
-    ensures { IfOk result (λ b. IsTrue b ↔ IsGood (funs_of judge.now) judge.now.depth (state_at (context_in scope.now) (type_of r.now) (numbers_of bound.now) (state_of s.now))) }
+    requires once { IsTrue (is_distinct (numbers_of (take before bound.now))) }
+    requires own { numbers_of bound.now ≡ numbers_of (take before bound.now) ++ own_names (state_of s.now) }
+    ensures { IfOk result (λ b. IsTrue b ↔ IsGood (funs_of judge.now) judge.now.depth (state_at (context_in scope.now) (type_of r.now) (numbers_of (take before bound.now)) (state_of s.now))) }
 {
-    if binds_once(bound, own) {
+    if are_distinct(bound, before) {
         follows_rule(alloc, judge, scope, s, r)
     } else {
         Ok(false)
     }
 }
 
-// Whether the names beside those that are bound before them are bound once.
-fn binds_once(bound: &[Name], own: &[Name]) -> bool
-    requires { IsTrue (is_distinct (numbers_of bound.now)) }
-    ensures { result ≡ is_distinct (numbers_of bound.now ++ numbers_of own.now) }
-{
-    are_distinct(own) && are_apart(own, bound)
-}
-
-// The names that a state binds by its own form and in its code that isn't reached.
-fn own_names(alloc: Global, s: &KeptState) -> Result<Vec<Name>, Memory>
-    ensures { IfOk result (λ v. numbers_of v.items ≡ own_names (state_of s.now)) }
+// Adds the names that a state binds by its own form and in its code that isn't reached.
+fn add_own(s: &KeptState, bound: &mut Vec<Name>) -> Result<(), Memory>
+    ensures { OnOk result (numbers_of bound.new.items ≡ numbers_of bound.old.items ++ own_names (state_of s.now)) }
 {
     match s {
-        KeptState::Cat(_, l) | KeptState::Wait(_, _, _, l) => bound_in(alloc, &[], &l.code),
-        KeptState::Let(x, _, _, _) => copied(alloc, &[*x]),
-        KeptState::LetPar(x, y, _, _) | KeptState::LetCat(x, y, _, _) => copied(alloc, &[*x, *y]),
-        KeptState::CaseSum(_, _, _, x, l, y, m) => bound_in_both(
-            alloc,
-            &[*x],
-            &l.code,
-            &[*y],
-            &m.code,
-        ),
-        KeptState::CaseStar(_, _, _, l, y, ys, m) => bound_in_both(
-            alloc,
-            &[],
-            &l.code,
-            &[*y, *ys],
-            &m.code,
-        ),
+        KeptState::Cat(_, l) | KeptState::Wait(_, _, _, l) => add_behind(&[], &l.code, bound),
+        KeptState::Let(x, _, _, _) => add_names(&[*x], bound),
+        KeptState::LetPar(x, y, _, _) | KeptState::LetCat(x, y, _, _) => {
+            add_names(&[*x, *y], bound)
+        }
+        KeptState::CaseSum(_, _, _, x, l, y, m) => {
+            add_parts(&[*x], &l.code, &[*y], &m.code, bound)
+        }
+        KeptState::CaseStar(_, _, _, l, y, ys, m) => {
+            add_parts(&[], &l.code, &[*y, *ys], &m.code, bound)
+        }
         KeptState::Sink(_) | KeptState::Var(_) | KeptState::Par(_, _) | KeptState::Frame(_, _) => {
-            Ok(Vec::new(alloc))
+            Ok(())
         }
     }
-}
-
-// These names.
-fn copied(alloc: Global, names: &[Name]) -> Result<Vec<Name>, Memory>
-    ensures { IfOk result (λ v. numbers_of v.items ≡ numbers_of names.now) }
-{
-    Ok(names.to_vec(alloc)?)
 }
 
 // The same of the states in a state.
@@ -275,17 +229,6 @@ fn check_steps<'a>(
     let second = Scope::Like(y, right, z, &first);
     let inner = Scope::Fact(x, y, &second);
     check_state(alloc, judge, a, r, &inner, bound, number)
-}
-
-// The type of a stream variable; any other name counts as of type `eps`.
-fn type_or<'a>(scope: &Scope<'a>, x: Name, other: &'a Ty) -> &'a Ty
-    requires { type_of other.now ≡ eps }
-    ensures { type_of result.now ≡ type_at (context_in scope.now) x.0 }
-{
-    match stream_type(scope, x) {
-        Some(t) => t,
-        None => other,
-    }
 }
 
 // The same of two states in turn.

@@ -2,9 +2,8 @@
 
 ghost use Rattle.std.specs.Prelude.{◌≡◌, ◌==◌, ◌++◌, ◌∷◌, ◌||◌, ◌&&◌, not, ℕ, List, [], IfOk, OnOk};
 ghost use Rattle.bunch.specs.Names.{numbers_of, holds};
-ghost use Rattle.core_term.specs.CoreTerm.{term_of};
 ghost use Rattle.core_term.specs.FreeNames.{free_names};
-ghost use Rattle.delta_state.specs.StateTree.{free_in_state, free_in_arguments, free_in_wait};
+ghost use Rattle.delta_state.specs.StateTree.{free_in_state, free_in_arguments};
 ghost use Rattle.delta_keep.specs.KeptView.{state_of, later_of};
 ghost use Rattle.kept_check.specs.Arguments.{arguments_from};
 ghost use Rattle.kept_check.specs.Free.{HasNames, without_all};
@@ -18,39 +17,38 @@ use stream_type::Memory;
 
 /// The free stream names of a state, each once or more often. Its only error is want of memory.
 #[cycle(free)]
-#[tactic(auto, using(crate::proofs::Arguments::rows))]
 pub fn free_in(alloc: Global, s: &KeptState) -> Result<Vec<Name>, Memory>
     ensures { IfOk result (λ v. HasNames v.items (free_in_state (state_of s.now))) }
 {
     match s {
         KeptState::Sink(_) => Ok(Vec::new(alloc)),
         KeptState::Var(x) => alone(alloc, *x),
-        KeptState::Par(a, b) => free_in_two(alloc, a, b, &[]),
-        KeptState::Let(x, _, a, b) => free_in_two(alloc, a, b, &[*x]),
-        KeptState::Cat(a, l) => free_in_both(alloc, a, l),
+        KeptState::Par(a, b) => joined(free_in(alloc, a), free_in(alloc, b), &[]),
+        KeptState::Cat(a, l) => joined(free_in(alloc, a), free_in_code(alloc, l), &[]),
+        KeptState::Let(x, _, a, b) => joined(free_in(alloc, a), free_in(alloc, b), &[*x]),
         KeptState::LetPar(x, y, z, a) | KeptState::LetCat(x, y, z, a) => {
-            free_behind(alloc, *z, a, &[*x, *y])
+            joined(alone(alloc, *z), free_in(alloc, a), &[*x, *y])
         }
         KeptState::CaseSum(z, _, _, x, l, y, m) => free_of_case(alloc, *z, l, &[*x], m, &[*y]),
         KeptState::CaseStar(z, _, _, l, y, ys, m) => {
             free_of_case(alloc, *z, l, &[], m, &[*y, *ys])
         }
-        KeptState::Wait(x, _, _, l) => free_of_wait(alloc, *x, l),
+        KeptState::Wait(x, _, _, l) => joined(alone(alloc, *x), free_in_code(alloc, l), &[]),
         KeptState::Frame(args, _) => free_of_all(alloc, args),
     }
 }
 
-// Names, and beside them those of a second list less some, where there is one.
+// Names, and beside them others less some, where both are there.
 fn joined(
-    first: Vec<Name>,
+    first: Result<Vec<Name>, Memory>,
     second: Result<Vec<Name>, Memory>,
     less: &[Name],
 ) -> Result<Vec<Name>, Memory>
-    ensures { (xs zs : List ℕ) → HasNames first.items xs → IfOk second (λ v. HasNames v.items zs) → IfOk result (λ v. HasNames v.items (xs ++ without_all (numbers_of less.now) zs)) }
+    ensures { (xs zs : List ℕ) → IfOk first (λ v. HasNames v.items xs) → IfOk second (λ v. HasNames v.items zs) → IfOk result (λ v. HasNames v.items (xs ++ without_all (numbers_of less.now) zs)) }
 {
     match second {
         Ok(more) => {
-            let all = and_less(first, &more, less);
+            let all = beside(first, &more, less);
             drop(more);
             all
         }
@@ -61,18 +59,17 @@ fn joined(
     }
 }
 
-// Names, and beside them others less some.
-fn and_less(names: Vec<Name>, more: &[Name], less: &[Name]) -> Result<Vec<Name>, Memory>
-    ensures { IfOk result (λ v. HasNames v.items (numbers_of names.items ++ without_all (numbers_of less.now) (numbers_of more.now))) }
+// Names, and beside them these less some.
+fn beside(
+    first: Result<Vec<Name>, Memory>,
+    more: &[Name],
+    less: &[Name],
+) -> Result<Vec<Name>, Memory>
+    ensures { (xs : List ℕ) → IfOk first (λ v. HasNames v.items xs) → IfOk result (λ v. HasNames v.items (xs ++ without_all (numbers_of less.now) (numbers_of more.now))) }
 {
-    let mut names = names;
-    match add_less(&mut names, more, less) {
-        Ok(()) => Ok(names),
-        Err(_) => {
-            drop(names);
-            Err(Memory)
-        }
-    }
+    let mut names = first?;
+    add_less(&mut names, more, less)?;
+    Ok(names)
 }
 
 // A name alone.
@@ -110,47 +107,8 @@ fn add_unless(names: &mut Vec<Name>, y: Name, less: &[Name]) -> Result<(), Memor
     Ok(())
 }
 
-// The free names of two states, those of the second less some.
-#[cycle(free)]
-fn free_in_two(
-    alloc: Global,
-    a: &KeptState,
-    b: &KeptState,
-    less: &[Name],
-) -> Result<Vec<Name>, Memory>
-    ensures { IfOk result (λ v. HasNames v.items (free_in_state (state_of a.now) ++ without_all (numbers_of less.now) (free_in_state (state_of b.now)))) }
-{
-    match free_in(alloc, a) {
-        Ok(first) => joined(first, free_in(alloc, b), less),
-        Err(_) => Err(Memory),
-    }
-}
-
-// Those of a state, and of code behind it.
-#[cycle(free)]
-fn free_in_both(alloc: Global, a: &KeptState, l: &Waiting) -> Result<Vec<Name>, Memory>
-    ensures { IfOk result (λ v. HasNames v.items (free_in_state (state_of a.now) ++ free_names (later_of l.now).term)) }
-{
-    match free_in(alloc, a) {
-        Ok(first) => joined(first, free_in_code(alloc, l), &[]),
-        Err(_) => Err(Memory),
-    }
-}
-
-// A name, and those of a state less some.
-#[cycle(free)]
-fn free_behind(alloc: Global, z: Name, a: &KeptState, less: &[Name]) -> Result<Vec<Name>, Memory>
-    ensures { IfOk result (λ v. HasNames v.items (z.0 ∷ without_all (numbers_of less.now) (free_in_state (state_of a.now)))) }
-{
-    match alone(alloc, z) {
-        Ok(subject) => joined(subject, free_in(alloc, a), less),
-        Err(_) => Err(Memory),
-    }
-}
-
-/// The free names of a case on `z`: those of its branches less the names that it binds for each. Its
-/// only error is want of memory.
-pub fn free_of_case(
+// The free names of a case on `z`: those of its branches less the names that it binds for each.
+fn free_of_case(
     alloc: Global,
     z: Name,
     l: &Waiting,
@@ -160,33 +118,11 @@ pub fn free_of_case(
 ) -> Result<Vec<Name>, Memory>
     ensures { IfOk result (λ v. HasNames v.items (z.0 ∷ (without_all (numbers_of less.now) (free_names (later_of l.now).term) ++ without_all (numbers_of lesser.now) (free_names (later_of m.now).term)))) }
 {
-    match free_at_branch(alloc, z, l, less) {
-        Ok(names) => joined(names, free_in_code(alloc, m), lesser),
-        Err(_) => Err(Memory),
-    }
+    let names = joined(alone(alloc, z), free_in_code(alloc, l), less);
+    joined(names, free_in_code(alloc, m), lesser)
 }
 
-// The name z, and beside it the free names of a branch less some.
-fn free_at_branch(alloc: Global, z: Name, l: &Waiting, less: &[Name]) -> Result<Vec<Name>, Memory>
-    ensures { IfOk result (λ v. HasNames v.items (z.0 ∷ without_all (numbers_of less.now) (free_names (later_of l.now).term))) }
-{
-    match alone(alloc, z) {
-        Ok(subject) => joined(subject, free_in_code(alloc, l), less),
-        Err(_) => Err(Memory),
-    }
-}
-
-/// Those of a wait for `x`. Its only error is want of memory.
-pub fn free_of_wait(alloc: Global, x: Name, l: &Waiting) -> Result<Vec<Name>, Memory>
-    ensures { IfOk result (λ v. HasNames v.items (free_in_wait x.0 (later_of l.now))) }
-{
-    match alone(alloc, x) {
-        Ok(subject) => joined(subject, free_in_code(alloc, l), &[]),
-        Err(_) => Err(Memory),
-    }
-}
-
-// Those of the arguments of a frame.
+// The free names of the arguments of a frame.
 #[cycle(free)]
 fn free_of_all(alloc: Global, args: &[Argument]) -> Result<Vec<Name>, Memory>
     ensures { IfOk result (λ v. HasNames v.items (free_in_arguments (arguments_from args.now))) }

@@ -37,18 +37,8 @@ fn has_begun(items: &[Prefix], end: &StarEnd) -> bool
     ensures { result ≡ has_tag (star_of (map prefix_of items.now) (end_of end.now)) }
 {
     match items {
-        [] => goes_on(end),
+        [] => !matches!(end, StarEnd::Emp),
         _ => true,
-    }
-}
-
-// Whether behind the whole items a further one or the end has come.
-fn goes_on(end: &StarEnd) -> bool
-    ensures { result ≡ has_tag (end_of end.now) }
-{
-    match end {
-        StarEnd::Emp => false,
-        StarEnd::Done | StarEnd::First(_) => true,
     }
 }
 

@@ -4,6 +4,7 @@
 mod bound;
 mod checking;
 mod fault;
+mod forms;
 mod free;
 mod holding;
 mod judge;

@@ -1,38 +1,40 @@
 //! The rule of a state's own form.
 
-ghost use Rattle.std.specs.Prelude.{◌≡◌, ◌↔◌, ◌<◌, ◌^◌, ◌++◌, ◌∷◌, ℕ, map, true, Some, IsTrue, IfOk};
+ghost use Rattle.std.specs.Prelude.{◌≡◌, ◌↔◌, ◌<◌, ◌^◌, ◌∷◌, [], map, true, IsTrue, IfOk};
 ghost use Rattle.std.specs.List.{list_all};
-ghost use Rattle.stream_type.specs.StreamType.{type_of, cat, par, sum, star, null_of};
+ghost use Rattle.stream_type.specs.StreamType.{type_of, null_of};
 ghost use Rattle.bunch.specs.Names.{numbers_of};
 ghost use Rattle.core_term.specs.CoreTerm.{node_count};
 ghost use Rattle.core_term.specs.FreeNames.{free_names, is_distinct};
-ghost use Rattle.core_term.specs.Parts.{par_left, par_right, cat_first, cat_second};
-ghost use Rattle.core_term.specs.Typing.{AllBefore, HasForm, is_before, type_at};
+ghost use Rattle.core_term.specs.Typing.{AllBefore, is_before};
 ghost use Rattle.delta_check.specs.Scopes.{context_in};
-ghost use Rattle.delta_state.specs.StateTree.{cat_state, sum_state, star_state, wait_state, argument_names, free_in_state, free_in_wait};
-ghost use Rattle.delta_state.specs.StateTyping.{context_held, IsHeld};
+ghost use Rattle.delta_state.specs.StateTree.{cat_state, argument_names, free_in_state};
+ghost use Rattle.delta_state.specs.StateTyping.{context_held, with_known};
 ghost use Rattle.delta_keep.specs.KeptView.{state_of, held_of, later_of};
-ghost use Rattle.kept_check.specs.Arguments.{arguments_from};
-ghost use Rattle.kept_rules.specs.StateRules.{FollowsRule, IsGoodSum, IsGoodStar, IsGoodWait};
-ghost use Rattle.kept_check.specs.Free.{without_all};
+ghost use Rattle.kept_check.specs.Arguments.{arguments_from, are_before};
+ghost use Rattle.kept_rules.specs.StateRules.{FollowsRule, IsGoodSum, IsGoodStar, IsGoodWait, IsGoodLater};
+ghost use Rattle.kept_check.specs.HeldRules.{IsHolding, is_decided, MayGoOn};
 ghost use Rattle.kept_check.specs.Judging.{funs_of, IsJudge};
 ghost use Rattle.kept_check.specs.Sizes.{codes_fit};
 
-use crate::free::{free_in, free_of_case, free_of_wait};
+use crate::forms::{Form, has_form, is_of_form, type_or};
+use crate::free::free_in;
 use crate::holding::{before_held, tag_held, whole_held};
 use crate::judge::Judge;
-use crate::laters::{is_good, is_good_at_item, is_good_behind, is_good_with};
+use crate::laters::is_good;
 use crate::names::{are_distinct, is_there};
 use crate::values::{is_held, is_stream};
 use bunch::Name;
 use core_term::free;
+use core_term::parts::{cat_types, star_types, sum_types};
 use delta_check::{Scope, before, stream_type};
 use delta_keep::{Argument, HeldName, KeptState, Waiting};
+use hist_value::past;
 use std::alloc::Global;
 use stream_type::{Memory, Ty, null, same};
 
-/// Whether a state follows the rule of its own form, whatever its parts are: `FollowsRule` in
-/// `specs/StateRules.antt`. Its only error is want of memory.
+/// Whether a state follows the rule of its own form, whatever its parts are: `FollowsRule` in the specs
+/// of kept_rules. Its only error is want of memory.
 pub fn follows_rule(
     alloc: Global,
     judge: &Judge<'_>,
@@ -47,18 +49,16 @@ pub fn follows_rule(
     match s {
         KeptState::Sink(t) => Ok(is_finished(t, r)),
         KeptState::Var(x) => Ok(is_stream(scope, *x, r)),
-        KeptState::Par(_, _) => Ok(has_sides(r)),
+        KeptState::Par(_, _) => Ok(has_form(Form::Par, r)),
         KeptState::Cat(a, l) => cat_rule(alloc, judge, scope, a, l, r),
         KeptState::Let(_, _, _, _) => Ok(true),
-        KeptState::LetPar(_, _, z, _) => Ok(splits_in_sides(scope, *z)),
-        KeptState::LetCat(_, _, z, _) => Ok(splits_in_steps(scope, *z)),
-        KeptState::CaseSum(z, t, held, x, l, y, m) => sum_rule(
-            alloc, judge, scope, *z, t, held, *x, l, *y, m, r,
-        ),
-        KeptState::CaseStar(z, t, held, l, y, ys, m) => star_rule(
-            alloc, judge, scope, *z, t, held, l, *y, *ys, m, r,
-        ),
-        KeptState::Wait(x, t, held, l) => { wait_rule(alloc, judge, scope, *x, t, held, l, r) }
+        KeptState::LetPar(_, _, z, _) => Ok(is_of_form(Form::Par, scope, *z)),
+        KeptState::LetCat(_, _, z, _) => Ok(is_of_form(Form::Cat, scope, *z)),
+        KeptState::CaseSum(z, t, held, _, _, _, _) | KeptState::CaseStar(z, t, held, _, _, _, _) =>
+            { held_rule(alloc, judge, scope, s, t, held, tag_held(held, *z), r) }
+        KeptState::Wait(x, t, held, _) => {
+            held_rule(alloc, judge, scope, s, t, held, whole_held(held, *x), r)
+        }
         KeptState::Frame(args, _) => frame_rule(alloc, args),
     }
 }
@@ -68,40 +68,6 @@ fn is_finished(t: &Ty, r: &Ty) -> bool
     ensures { IsTrue result ↔ ((type_of t.now ≡ type_of r.now) × (null_of (type_of t.now) ≡ true)) }
 {
     same(t, r) && null(t)
-}
-
-// Whether it is a type of two sides.
-fn has_sides(r: &Ty) -> bool
-    ensures { IsTrue result ↔ (type_of r.now ≡ par (par_left (type_of r.now)) (par_right (type_of r.now))) }
-{
-    matches!(r, Ty::Par(_, _))
-}
-
-// Whether it is a type of two parts in turn.
-fn has_steps(r: &Ty) -> bool
-    ensures { IsTrue result ↔ (type_of r.now ≡ cat (cat_first (type_of r.now)) (cat_second (type_of r.now))) }
-{
-    matches!(r, Ty::Cat(_, _))
-}
-
-// Whether the name is a stream of two sides.
-fn splits_in_sides(scope: &Scope<'_>, z: Name) -> bool
-    ensures { IsTrue result ↔ HasForm (context_in scope.now) z.0 (par (par_left (type_at (context_in scope.now) z.0)) (par_right (type_at (context_in scope.now) z.0))) }
-{
-    match stream_type(scope, z) {
-        Some(t) => has_sides(t),
-        None => false,
-    }
-}
-
-// Whether the name is a stream of two parts in turn.
-fn splits_in_steps(scope: &Scope<'_>, z: Name) -> bool
-    ensures { IsTrue result ↔ HasForm (context_in scope.now) z.0 (cat (cat_first (type_at (context_in scope.now) z.0)) (cat_second (type_at (context_in scope.now) z.0))) }
-{
-    match stream_type(scope, z) {
-        Some(t) => has_steps(t),
-        None => false,
-    }
 }
 
 // A sequence: a first part that isn't null, and code behind it.
@@ -117,74 +83,32 @@ fn cat_rule(
     requires judge { IsJudge judge.now }
     ensures { IfOk result (λ b. IsTrue b ↔ FollowsRule (funs_of judge.now) judge.now.depth (context_in scope.now) (cat_state (state_of a.now) (later_of l.now)) (type_of r.now)) }
 {
-    match r {
-        Ty::Cat(s, t) => steps_rule(alloc, judge, scope, a, s, l, t),
-        _ => Ok(false),
-    }
-}
-
-// The same, where the types of both parts are known.
-fn steps_rule(
-    alloc: Global,
-    judge: &Judge<'_>,
-    scope: &Scope<'_>,
-    a: &KeptState,
-    s: &Ty,
-    l: &Waiting,
-    t: &Ty,
-) -> Result<bool, Memory>
-    requires size { node_count (later_of l.now).term < 2 ^ 32 }
-    requires judge { IsJudge judge.now }
-    ensures { IfOk result (λ b. IsTrue b ↔ FollowsRule (funs_of judge.now) judge.now.depth (context_in scope.now) (cat_state (state_of a.now) (later_of l.now)) (cat (type_of s.now) (type_of t.now))) }
-{
-    if null(s) {
+    if !has_form(Form::Cat, r) {
         return Ok(false);
     }
-    let good = is_good(alloc, judge, scope, l, t)?;
-    if !good {
+    let (first, second) = cat_types(r, &Ty::Eps);
+    if null(first) {
         return Ok(false);
     }
-    is_behind(alloc, scope, a, l)
+    match is_good(alloc, judge, scope, l, &[], second) {
+        Ok(true) => is_behind(alloc, scope, a, l),
+        Ok(false) => Ok(false),
+        Err(_) => Err(Memory),
+    }
 }
 
 // Whether each free name of the state stands before each of the code.
 fn is_behind(alloc: Global, scope: &Scope<'_>, a: &KeptState, l: &Waiting) -> Result<bool, Memory>
     ensures { IfOk result (λ b. IsTrue b ↔ AllBefore (context_in scope.now) (free_in_state (state_of a.now)) (free_names (later_of l.now).term)) }
 {
-    match free_in(alloc, a) {
-        Ok(first) => {
-            let behind = are_behind(alloc, scope, &first, l);
-            drop(first);
-            behind
-        }
-        Err(_) => Err(Memory),
-    }
-}
-
-// Whether each of these names stands before each free name of the code.
-fn are_behind(alloc: Global, scope: &Scope<'_>, names: &[Name], l: &Waiting) -> Result<bool, Memory>
-    ensures { IfOk result (λ b. IsTrue b ↔ AllBefore (context_in scope.now) (numbers_of names.now) (free_names (later_of l.now).term)) }
-{
-    match free(alloc, &l.code) {
-        Ok(others) => {
-            let behind = all_before(scope, names, &others);
-            drop(others);
-            Ok(behind)
-        }
-        Err(_) => Err(Memory),
-    }
+    let first = free_in(alloc, a)?;
+    let second = free(alloc, &l.code)?;
+    Ok(all_before(scope, &first, &second))
 }
 
 /// Whether each of the first names stands before each of the second.
 pub fn all_before(scope: &Scope<'_>, first: &[Name], second: &[Name]) -> bool
-    ensures { IsTrue result ↔ AllBefore (context_in scope.now) (numbers_of first.now) (numbers_of second.now) }
-{
-    are_before(scope, first, second)
-}
-
-// The same as a test.
-fn are_before(scope: &Scope<'_>, first: &[Name], second: &[Name]) -> bool
-    ensures { result ≡ list_all (λ x. list_all (λ y. is_before (context_in scope.now) x y) (numbers_of second.now)) (numbers_of first.now) }
+    ensures { result ≡ are_before (context_in scope.now) (numbers_of first.now) (numbers_of second.now) }
 {
     for x in first {
         if !stands_before(scope, *x, second) {
@@ -213,85 +137,54 @@ fn is_before(scope: &Scope<'_>, x: Name, y: Name) -> bool
     stream_type(scope, x).is_some() && stream_type(scope, y).is_some() && before(scope, x, y)
 }
 
-// A case on a sum.
-fn sum_rule(
+// A case or a wait of this type, which holds this: whether it isn't decided by what it holds, and what it
+// holds and what goes on are as they should be.
+fn held_rule(
     alloc: Global,
     judge: &Judge<'_>,
     scope: &Scope<'_>,
-    z: Name,
+    s: &KeptState,
     t: &Ty,
     held: &[HeldName],
-    x: Name,
-    l: &Waiting,
-    y: Name,
-    m: &Waiting,
+    decided: bool,
     r: &Ty,
 ) -> Result<bool, Memory>
-    requires left { node_count (later_of l.now).term < 2 ^ 32 }
-    requires right { node_count (later_of m.now).term < 2 ^ 32 }
+    requires holding { IsHolding (type_of t.now) (map held_of held.now) (state_of s.now) }
+    requires decided { decided ≡ is_decided (state_of s.now) }
+    requires size { codes_fit (state_of s.now) }
     requires judge { IsJudge judge.now }
-    ensures { IfOk result (λ b. IsTrue b ↔ FollowsRule (funs_of judge.now) judge.now.depth (context_in scope.now)
-        (sum_state z.0 (type_of t.now) (map held_of held.now) x.0 (later_of l.now) y.0 (later_of m.now)) (type_of r.now)) }
+    ensures { IfOk result (λ b. IsTrue b ↔ FollowsRule (funs_of judge.now) judge.now.depth (context_in scope.now) (state_of s.now) (type_of r.now)) }
 {
+    if decided {
+        return Ok(false);
+    }
     if !same(t, r) {
         return Ok(false);
     }
-    if tag_held(held, z) {
-        return Ok(false);
-    }
-    match is_held_case(alloc, scope, held, z, l, &[x], m, &[y]) {
-        Ok(true) => sum_branches(alloc, judge, scope, held, z, x, l, y, m, r),
+    match is_held(alloc, scope, held, s) {
+        Ok(true) => goes_on(alloc, judge, scope, held, s, r),
         Ok(false) => Ok(false),
         Err(_) => Err(Memory),
     }
 }
 
-// Whether what is held is that of the free names of a case, whose branches bind these names.
-fn is_held_case(
-    alloc: Global,
-    scope: &Scope<'_>,
-    held: &[HeldName],
-    z: Name,
-    l: &Waiting,
-    less: &[Name],
-    m: &Waiting,
-    lesser: &[Name],
-) -> Result<bool, Memory>
-    ensures { IfOk result (λ b. IsTrue b ↔ IsHeld (context_in scope.now)
-        (z.0 ∷ (without_all (numbers_of less.now) (free_names (later_of l.now).term) ++ without_all (numbers_of lesser.now) (free_names (later_of m.now).term))) (map held_of held.now)) }
-{
-    match free_of_case(alloc, z, l, less, m, lesser) {
-        Ok(free) => {
-            let fits = is_held(alloc, scope, held, &free);
-            drop(free);
-            fits
-        }
-        Err(_) => Err(Memory),
-    }
-}
-
-// The branches of a case on a sum, over the types from before anything was held.
-fn sum_branches(
+// What goes on, over the types from before anything was held.
+fn goes_on(
     alloc: Global,
     judge: &Judge<'_>,
     scope: &Scope<'_>,
     held: &[HeldName],
-    z: Name,
-    x: Name,
-    l: &Waiting,
-    y: Name,
-    m: &Waiting,
+    s: &KeptState,
     r: &Ty,
 ) -> Result<bool, Memory>
-    requires left { node_count (later_of l.now).term < 2 ^ 32 }
-    requires right { node_count (later_of m.now).term < 2 ^ 32 }
+    requires size { codes_fit (state_of s.now) }
     requires judge { IsJudge judge.now }
-    ensures { IfOk result (λ b. IsTrue b ↔ IsGoodSum (funs_of judge.now) judge.now.depth (context_held (map held_of held.now) (context_in scope.now).order) z.0 x.0 (later_of l.now) y.0 (later_of m.now) (type_of r.now)) }
+    ensures { IfOk result (λ b. IsTrue b ↔ MayGoOn (funs_of judge.now) judge.now.depth (context_held (map held_of held.now) (context_in scope.now).order) (state_of s.now) (type_of r.now)) }
 {
     match before_held(alloc, scope, held) {
         Ok(before) => {
             let inner = Scope::Among(&before.types, &before.order);
-            let good = has_branches(alloc, judge, &inner, z, x, l, y, m, r);
+            let good = may_go_on(alloc, judge, &inner, s, r);
             drop(before);
             good
         }
@@ -300,10 +193,34 @@ fn sum_branches(
 }
 
 // The same in a scope.
-fn has_branches(
+fn may_go_on<'a>(
     alloc: Global,
     judge: &Judge<'_>,
-    scope: &Scope<'_>,
+    scope: &'a Scope<'a>,
+    s: &KeptState,
+    r: &Ty,
+) -> Result<bool, Memory>
+    requires size { codes_fit (state_of s.now) }
+    requires judge { IsJudge judge.now }
+    ensures { IfOk result (λ b. IsTrue b ↔ MayGoOn (funs_of judge.now) judge.now.depth (context_in scope.now) (state_of s.now) (type_of r.now)) }
+{
+    match s {
+        KeptState::CaseSum(z, _, _, x, l, y, m) => {
+            has_sides(alloc, judge, scope, *z, *x, l, *y, m, r)
+        }
+        KeptState::CaseStar(z, _, _, l, y, ys, m) => {
+            has_items(alloc, judge, scope, *z, l, *y, *ys, m, r)
+        }
+        KeptState::Wait(x, _, _, l) => has_rest(alloc, judge, scope, *x, l, r),
+        _ => Ok(true),
+    }
+}
+
+// The branches of a case on a sum.
+fn has_sides<'a>(
+    alloc: Global,
+    judge: &Judge<'_>,
+    scope: &'a Scope<'a>,
     z: Name,
     x: Name,
     l: &Waiting,
@@ -316,131 +233,24 @@ fn has_branches(
     requires judge { IsJudge judge.now }
     ensures { IfOk result (λ b. IsTrue b ↔ IsGoodSum (funs_of judge.now) judge.now.depth (context_in scope.now) z.0 x.0 (later_of l.now) y.0 (later_of m.now) (type_of r.now)) }
 {
-    match stream_type(scope, z) {
-        Some(t) => on_sum(alloc, judge, scope, z, t, x, l, y, m, r),
-        None => Ok(false),
-    }
-}
-
-// The same, where the subject's type is known.
-fn on_sum(
-    alloc: Global,
-    judge: &Judge<'_>,
-    scope: &Scope<'_>,
-    z: Name,
-    of: &Ty,
-    x: Name,
-    l: &Waiting,
-    y: Name,
-    m: &Waiting,
-    r: &Ty,
-) -> Result<bool, Memory>
-    requires form { (context_in scope.now).types z.0 ≡ Some (type_of of.now) }
-    requires left { node_count (later_of l.now).term < 2 ^ 32 }
-    requires right { node_count (later_of m.now).term < 2 ^ 32 }
-    requires judge { IsJudge judge.now }
-    ensures { IfOk result (λ b. IsTrue b ↔ IsGoodSum (funs_of judge.now) judge.now.depth (context_in scope.now) z.0 x.0 (later_of l.now) y.0 (later_of m.now) (type_of r.now)) }
-{
-    match of {
-        Ty::Sum(s, t) => on_sides(alloc, judge, scope, z, x, s, l, y, t, m, r),
-        _ => Ok(false),
-    }
-}
-
-// The same, where the types of both sides are known.
-fn on_sides(
-    alloc: Global,
-    judge: &Judge<'_>,
-    scope: &Scope<'_>,
-    z: Name,
-    x: Name,
-    s: &Ty,
-    l: &Waiting,
-    y: Name,
-    t: &Ty,
-    m: &Waiting,
-    r: &Ty,
-) -> Result<bool, Memory>
-    requires form { (context_in scope.now).types z.0 ≡ Some (sum (type_of s.now) (type_of t.now)) }
-    requires left { node_count (later_of l.now).term < 2 ^ 32 }
-    requires right { node_count (later_of m.now).term < 2 ^ 32 }
-    requires judge { IsJudge judge.now }
-    ensures { IfOk result (λ b. IsTrue b ↔ IsGoodSum (funs_of judge.now) judge.now.depth (context_in scope.now) z.0 x.0 (later_of l.now) y.0 (later_of m.now) (type_of r.now)) }
-{
-    let left = is_good_with(alloc, judge, scope, x, s, z, l, r)?;
-    if !left {
+    if !is_of_form(Form::Sum, &*scope, z) {
         return Ok(false);
     }
-    is_good_with(alloc, judge, scope, y, t, z, m, r)
-}
-
-// A case on a star.
-fn star_rule(
-    alloc: Global,
-    judge: &Judge<'_>,
-    scope: &Scope<'_>,
-    z: Name,
-    t: &Ty,
-    held: &[HeldName],
-    l: &Waiting,
-    y: Name,
-    ys: Name,
-    m: &Waiting,
-    r: &Ty,
-) -> Result<bool, Memory>
-    requires left { node_count (later_of l.now).term < 2 ^ 32 }
-    requires right { node_count (later_of m.now).term < 2 ^ 32 }
-    requires judge { IsJudge judge.now }
-    ensures { IfOk result (λ b. IsTrue b ↔ FollowsRule (funs_of judge.now) judge.now.depth (context_in scope.now)
-        (star_state z.0 (type_of t.now) (map held_of held.now) (later_of l.now) y.0 ys.0 (later_of m.now)) (type_of r.now)) }
-{
-    if !same(t, r) {
-        return Ok(false);
-    }
-    if tag_held(held, z) {
-        return Ok(false);
-    }
-    match is_held_case(alloc, scope, held, z, l, &[], m, &[y, ys]) {
-        Ok(true) => star_branches(alloc, judge, scope, held, z, l, y, ys, m, r),
+    let (s, t) = sum_types(type_or(&*scope, z, &Ty::Eps), &Ty::Eps);
+    let left = Scope::Like(x, s, z, &*scope);
+    let right = Scope::Like(y, t, z, &*scope);
+    match is_good(alloc, judge, &left, l, &[x], r) {
+        Ok(true) => is_good(alloc, judge, &right, m, &[y], r),
         Ok(false) => Ok(false),
         Err(_) => Err(Memory),
     }
 }
 
-// The branches of a case on a star, over the types from before anything was held.
-fn star_branches(
+// The branches of a case on a star.
+fn has_items<'a>(
     alloc: Global,
     judge: &Judge<'_>,
-    scope: &Scope<'_>,
-    held: &[HeldName],
-    z: Name,
-    l: &Waiting,
-    y: Name,
-    ys: Name,
-    m: &Waiting,
-    r: &Ty,
-) -> Result<bool, Memory>
-    requires left { node_count (later_of l.now).term < 2 ^ 32 }
-    requires right { node_count (later_of m.now).term < 2 ^ 32 }
-    requires judge { IsJudge judge.now }
-    ensures { IfOk result (λ b. IsTrue b ↔ IsGoodStar (funs_of judge.now) judge.now.depth (context_held (map held_of held.now) (context_in scope.now).order) z.0 (later_of l.now) y.0 ys.0 (later_of m.now) (type_of r.now)) }
-{
-    match before_held(alloc, scope, held) {
-        Ok(before) => {
-            let inner = Scope::Among(&before.types, &before.order);
-            let good = has_items(alloc, judge, &inner, z, l, y, ys, m, r);
-            drop(before);
-            good
-        }
-        Err(_) => Err(Memory),
-    }
-}
-
-// The same in a scope.
-fn has_items(
-    alloc: Global,
-    judge: &Judge<'_>,
-    scope: &Scope<'_>,
+    scope: &'a Scope<'a>,
     z: Name,
     l: &Waiting,
     y: Name,
@@ -453,144 +263,25 @@ fn has_items(
     requires judge { IsJudge judge.now }
     ensures { IfOk result (λ b. IsTrue b ↔ IsGoodStar (funs_of judge.now) judge.now.depth (context_in scope.now) z.0 (later_of l.now) y.0 ys.0 (later_of m.now) (type_of r.now)) }
 {
-    match stream_type(scope, z) {
-        Some(t) => on_star(alloc, judge, scope, z, t, l, y, ys, m, r),
-        None => Ok(false),
-    }
-}
-
-// The same, where the subject's type is known.
-fn on_star(
-    alloc: Global,
-    judge: &Judge<'_>,
-    scope: &Scope<'_>,
-    z: Name,
-    t: &Ty,
-    l: &Waiting,
-    y: Name,
-    ys: Name,
-    m: &Waiting,
-    r: &Ty,
-) -> Result<bool, Memory>
-    requires form { (context_in scope.now).types z.0 ≡ Some (type_of t.now) }
-    requires left { node_count (later_of l.now).term < 2 ^ 32 }
-    requires right { node_count (later_of m.now).term < 2 ^ 32 }
-    requires judge { IsJudge judge.now }
-    ensures { IfOk result (λ b. IsTrue b ↔ IsGoodStar (funs_of judge.now) judge.now.depth (context_in scope.now) z.0 (later_of l.now) y.0 ys.0 (later_of m.now) (type_of r.now)) }
-{
-    match t {
-        Ty::Star(s) => on_items(alloc, judge, scope, z, s, t, l, y, ys, m, r),
-        _ => Ok(false),
-    }
-}
-
-// The same, where the type of an item is known, and that of the items after it.
-fn on_items(
-    alloc: Global,
-    judge: &Judge<'_>,
-    scope: &Scope<'_>,
-    z: Name,
-    s: &Ty,
-    t: &Ty,
-    l: &Waiting,
-    y: Name,
-    ys: Name,
-    m: &Waiting,
-    r: &Ty,
-) -> Result<bool, Memory>
-    requires form { (context_in scope.now).types z.0 ≡ Some (star (type_of s.now)) }
-    requires items { type_of t.now ≡ star (type_of s.now) }
-    requires left { node_count (later_of l.now).term < 2 ^ 32 }
-    requires right { node_count (later_of m.now).term < 2 ^ 32 }
-    requires judge { IsJudge judge.now }
-    ensures { IfOk result (λ b. IsTrue b ↔ IsGoodStar (funs_of judge.now) judge.now.depth (context_in scope.now) z.0 (later_of l.now) y.0 ys.0 (later_of m.now) (type_of r.now)) }
-{
-    let at_end = is_good(alloc, judge, scope, l, r)?;
-    if !at_end {
+    if !is_of_form(Form::Star, &*scope, z) {
         return Ok(false);
     }
-    is_good_at_item(alloc, judge, scope, y, s, ys, t, z, m, r)
-}
-
-// A wait.
-fn wait_rule(
-    alloc: Global,
-    judge: &Judge<'_>,
-    scope: &Scope<'_>,
-    x: Name,
-    t: &Ty,
-    held: &[HeldName],
-    l: &Waiting,
-    r: &Ty,
-) -> Result<bool, Memory>
-    requires size { node_count (later_of l.now).term < 2 ^ 32 }
-    requires judge { IsJudge judge.now }
-    ensures { IfOk result (λ b. IsTrue b ↔ FollowsRule (funs_of judge.now) judge.now.depth (context_in scope.now)
-        (wait_state x.0 (type_of t.now) (map held_of held.now) (later_of l.now)) (type_of r.now)) }
-{
-    if !same(t, r) {
-        return Ok(false);
-    }
-    if whole_held(held, x) {
-        return Ok(false);
-    }
-    match is_held_wait(alloc, scope, held, x, l) {
-        Ok(true) => wait_rest(alloc, judge, scope, held, x, l, r),
+    let (s, t) = star_types(type_or(&*scope, z, &Ty::Eps), &Ty::Eps);
+    let item = Scope::Like(y, s, z, &*scope);
+    let items = Scope::Like(ys, t, z, &item);
+    let inner = Scope::Fact(y, ys, &items);
+    match is_good(alloc, judge, &*scope, l, &[], r) {
+        Ok(true) => is_good(alloc, judge, &inner, m, &[y, ys], r),
         Ok(false) => Ok(false),
         Err(_) => Err(Memory),
     }
 }
 
-// Whether what is held is that of the free names of a wait.
-fn is_held_wait(
-    alloc: Global,
-    scope: &Scope<'_>,
-    held: &[HeldName],
-    x: Name,
-    l: &Waiting,
-) -> Result<bool, Memory>
-    ensures { IfOk result (λ b. IsTrue b ↔ IsHeld (context_in scope.now) (free_in_wait x.0 (later_of l.now)) (map held_of held.now)) }
-{
-    match free_of_wait(alloc, x, l) {
-        Ok(free) => {
-            let fits = is_held(alloc, scope, held, &free);
-            drop(free);
-            fits
-        }
-        Err(_) => Err(Memory),
-    }
-}
-
-// What follows a wait, over the types from before anything was held.
-fn wait_rest(
+// What follows a wait: its subject isn't null, and isn't used there as a stream.
+fn has_rest<'a>(
     alloc: Global,
     judge: &Judge<'_>,
-    scope: &Scope<'_>,
-    held: &[HeldName],
-    x: Name,
-    l: &Waiting,
-    r: &Ty,
-) -> Result<bool, Memory>
-    requires size { node_count (later_of l.now).term < 2 ^ 32 }
-    requires judge { IsJudge judge.now }
-    ensures { IfOk result (λ b. IsTrue b ↔ IsGoodWait (funs_of judge.now) judge.now.depth (context_held (map held_of held.now) (context_in scope.now).order) x.0 (later_of l.now) (type_of r.now)) }
-{
-    match before_held(alloc, scope, held) {
-        Ok(before) => {
-            let inner = Scope::Among(&before.types, &before.order);
-            let good = has_rest(alloc, judge, &inner, x, l, r);
-            drop(before);
-            good
-        }
-        Err(_) => Err(Memory),
-    }
-}
-
-// The same in a scope.
-fn has_rest(
-    alloc: Global,
-    judge: &Judge<'_>,
-    scope: &Scope<'_>,
+    scope: &'a Scope<'a>,
     x: Name,
     l: &Waiting,
     r: &Ty,
@@ -599,27 +290,7 @@ fn has_rest(
     requires judge { IsJudge judge.now }
     ensures { IfOk result (λ b. IsTrue b ↔ IsGoodWait (funs_of judge.now) judge.now.depth (context_in scope.now) x.0 (later_of l.now) (type_of r.now)) }
 {
-    match stream_type(scope, x) {
-        Some(t) => behind_wait(alloc, judge, scope, x, t, l, r),
-        None => Ok(false),
-    }
-}
-
-// The same, where the subject's type is known.
-fn behind_wait(
-    alloc: Global,
-    judge: &Judge<'_>,
-    scope: &Scope<'_>,
-    x: Name,
-    t: &Ty,
-    l: &Waiting,
-    r: &Ty,
-) -> Result<bool, Memory>
-    requires form { (context_in scope.now).types x.0 ≡ Some (type_of t.now) }
-    requires size { node_count (later_of l.now).term < 2 ^ 32 }
-    requires judge { IsJudge judge.now }
-    ensures { IfOk result (λ b. IsTrue b ↔ IsGoodWait (funs_of judge.now) judge.now.depth (context_in scope.now) x.0 (later_of l.now) (type_of r.now)) }
-{
+    let t = type_or(&*scope, x, &Ty::Eps);
     if null(t) {
         return Ok(false);
     }
@@ -627,7 +298,33 @@ fn behind_wait(
     if is_there(&used, x) {
         return Ok(false);
     }
-    is_good_behind(alloc, judge, scope, x, t, l, r)
+    is_good_behind(alloc, judge, &*scope, x, t, l, r)
+}
+
+// Whether code is good where the stream of `x`, whose type is `t`, has a value.
+fn is_good_behind(
+    alloc: Global,
+    judge: &Judge<'_>,
+    scope: &Scope<'_>,
+    x: Name,
+    t: &Ty,
+    l: &Waiting,
+    r: &Ty,
+) -> Result<bool, Memory>
+    requires size { node_count (later_of l.now).term < 2 ^ 32 }
+    requires judge { IsJudge judge.now }
+    ensures { IfOk result (λ b. IsTrue b ↔ IsGoodLater (funs_of judge.now) judge.now.depth (context_in scope.now) (with_known x.0 (type_of t.now)) (x.0 ∷ []) (later_of l.now) (type_of r.now)) }
+{
+    match past(alloc, t) {
+        Ok(value) => {
+            let values = [(x, value)];
+            let inner = Scope::Valued(&values, scope);
+            let good = is_good(alloc, judge, &inner, l, &[x], r);
+            drop(values);
+            good
+        }
+        Err(_) => Err(Memory),
+    }
 }
 
 // The parameters of a frame are distinct.
@@ -635,7 +332,7 @@ fn frame_rule(alloc: Global, args: &[Argument]) -> Result<bool, Memory>
     ensures { IfOk result (λ b. IsTrue b ↔ IsTrue (is_distinct (argument_names (arguments_from args.now)))) }
 {
     let names = parameters(alloc, args)?;
-    Ok(are_distinct(&names))
+    Ok(are_distinct(&names, 0))
 }
 
 /// The parameters that the arguments are for, in turn. Its only error is want of memory.

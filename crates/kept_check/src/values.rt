@@ -10,15 +10,16 @@ ghost use Rattle.hist_value.specs.HistValue.{HasType};
 ghost use Rattle.core_term.specs.CoreTerm.{typed_names_of};
 ghost use Rattle.core_term.specs.Typing.{Context};
 ghost use Rattle.delta_check.specs.Scopes.{context_in, with_values, given_at};
-ghost use Rattle.delta_state.specs.StateTree.{held_names};
+ghost use Rattle.delta_state.specs.StateTree.{free_in_state, held_names};
 ghost use Rattle.delta_state.specs.StateTyping.{with_past, marks_held, IsHeld};
 ghost use Rattle.kept_state.specs.KeptNames.{known_names};
-ghost use Rattle.delta_keep.specs.KeptView.{known_of, held_of};
+ghost use Rattle.delta_keep.specs.KeptView.{state_of, known_of, held_of};
 
-use crate::names::{are_distinct, are_same};
+use crate::free::free_in;
+use crate::names::are_just;
 use bunch::Name;
 use delta_check::{Scope, stream_type};
-use delta_keep::{HeldName, Known};
+use delta_keep::{HeldName, KeptState, Known};
 use hist_value::{HTy, has_type, past};
 use std::alloc::Global;
 use stream_prefix::{derive, is_prefix};
@@ -88,41 +89,39 @@ pub fn types_held(alloc: Global, held: &[HeldName]) -> Result<Vec<(Name, Ty)>, M
     Ok(types)
 }
 
-/// Whether a form with these free names holds something of each of them, and what it leaves is the type
-/// in the scope: `IsHeld` in the specs of delta_state. Its only error is want of memory.
+/// Whether a state holds something of each of its free names, and what it leaves is the type in the
+/// scope: `IsHeld` in the specs of delta_state. Its only error is want of memory.
 pub fn is_held(
     alloc: Global,
     scope: &Scope<'_>,
     held: &[HeldName],
-    free: &[Name],
+    s: &KeptState,
 ) -> Result<bool, Memory>
-    ensures { IfOk result (λ b. IsTrue b ↔ IsHeld (context_in scope.now) (numbers_of free.now) (map held_of held.now)) }
+    ensures { IfOk result (λ b. IsTrue b ↔ IsHeld (context_in scope.now) (free_in_state (state_of s.now)) (map held_of held.now)) }
 {
-    match names_held(alloc, held) {
-        Ok(names) => {
-            let fits = is_held_by(alloc, scope, held, &names, free);
-            drop(names);
+    match free_in(alloc, s) {
+        Ok(free) => {
+            let fits = is_held_of(alloc, scope, held, &free);
+            drop(free);
             fits
         }
         Err(_) => Err(Memory),
     }
 }
 
-// The same, where these are the names of which something is held.
-fn is_held_by(
+// The same of a form with these free names.
+fn is_held_of(
     alloc: Global,
     scope: &Scope<'_>,
     held: &[HeldName],
-    names: &[Name],
     free: &[Name],
 ) -> Result<bool, Memory>
-    requires { numbers_of names.now ≡ held_names (map held_of held.now) }
     ensures { IfOk result (λ b. IsTrue b ↔ IsHeld (context_in scope.now) (numbers_of free.now) (map held_of held.now)) }
 {
-    if !are_distinct(names) {
-        return Ok(false);
-    }
-    if !are_same(names, free) {
+    let names = names_held(alloc, held)?;
+    let fits = are_just(&names, free);
+    drop(names);
+    if !fits {
         return Ok(false);
     }
     are_left(alloc, scope, held)

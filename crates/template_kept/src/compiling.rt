@@ -7,6 +7,7 @@ ghost use Rattle.core_term.specs.CoreTerm.{CoreTerm, CoreTerms, past_term, par_t
 ghost use Rattle.template_state.specs.Readers.{op_term, shared_term, operand_terms};
 ghost use Rattle.template_kept.specs.Makes.{Makes, MakesBoth};
 
+use crate::results::{added, boxed, pair};
 use bunch::Name;
 use core_term::{Node, Term};
 use hist_value::{Expr, copy_expr};
@@ -45,10 +46,7 @@ pub fn op(alloc: Global, n: &Node) -> Result<Rc<Op>, Memory>
 fn both(alloc: Global, a: &Node, b: &Node) -> Result<(Rc<Op>, Rc<Op>), Memory>
     ensures { MakesBoth shared_term result (term_of a.now) (term_of b.now) }
 {
-    match op(alloc, a) {
-        Ok(first) => beside(first, op(alloc, b)),
-        Err(Memory) => Err(Memory),
-    }
+    pair(op(alloc, a), op(alloc, b))
 }
 
 #[cycle(op)]
@@ -57,22 +55,9 @@ fn ops(alloc: Global, nodes: &[Node]) -> Result<Vec<Rc<Op>>, Memory>
 {
     let mut made = Vec::new(alloc);
     for node in nodes {
-        made.push(op(alloc, node)?)?;
+        made = added(made, op(alloc, node))?;
     }
     Ok(made)
-}
-
-// The first part beside the second.
-fn beside(first: Rc<Op>, second: Result<Rc<Op>, Memory>) -> Result<(Rc<Op>, Rc<Op>), Memory>
-    ensures { (b : CoreTerm) → Makes shared_term second b → MakesBoth shared_term result (op_term first.value) b }
-{
-    match second {
-        Ok(second) => Ok((first, second)),
-        Err(Memory) => {
-            drop(first);
-            Err(Memory)
-        }
-    }
 }
 
 // A template of its own.
@@ -144,15 +129,8 @@ fn let_of(
 ) -> Result<Rc<Op>, Memory>
     ensures { (a b : CoreTerm) → MakesBoth shared_term parts a b → Makes shared_term result (let_term x.0 (type_of t.now) a b) }
 {
-    match parts {
-        Ok((a, b)) => match stream_type::copy(alloc, t) {
-            Ok(ty) => made(alloc, Op::Let(x, ty, a, b)),
-            Err(Memory) => {
-                drop(a);
-                drop(b);
-                Err(Memory)
-            }
-        },
+    match pair(stream_type::copy(alloc, t), parts) {
+        Ok((ty, (a, b))) => made(alloc, Op::Let(x, ty, a, b)),
         Err(Memory) => Err(Memory),
     }
 }
@@ -197,15 +175,8 @@ fn sum_of(
 ) -> Result<Rc<Op>, Memory>
     ensures { (a b : CoreTerm) → MakesBoth shared_term parts a b → Makes shared_term result (case_sum_term z.0 (type_of t.now) x.0 a y.0 b) }
 {
-    match parts {
-        Ok((a, b)) => match stream_type::copy(alloc, t) {
-            Ok(ty) => made(alloc, Op::CaseSum(z, ty, x, a, y, b)),
-            Err(Memory) => {
-                drop(a);
-                drop(b);
-                Err(Memory)
-            }
-        },
+    match pair(stream_type::copy(alloc, t), parts) {
+        Ok((ty, (a, b))) => made(alloc, Op::CaseSum(z, ty, x, a, y, b)),
         Err(Memory) => Err(Memory),
     }
 }
@@ -220,15 +191,8 @@ fn star_of(
 ) -> Result<Rc<Op>, Memory>
     ensures { (a b : CoreTerm) → MakesBoth shared_term parts a b → Makes shared_term result (case_star_term z.0 (type_of t.now) a y.0 ys.0 b) }
 {
-    match parts {
-        Ok((a, b)) => match stream_type::copy(alloc, t) {
-            Ok(ty) => made(alloc, Op::CaseStar(z, ty, a, y, ys, b)),
-            Err(Memory) => {
-                drop(a);
-                drop(b);
-                Err(Memory)
-            }
-        },
+    match pair(stream_type::copy(alloc, t), parts) {
+        Ok((ty, (a, b))) => made(alloc, Op::CaseStar(z, ty, a, y, ys, b)),
         Err(Memory) => Err(Memory),
     }
 }
@@ -236,14 +200,8 @@ fn star_of(
 fn wait_of(alloc: Global, x: Name, t: &Ty, part: Result<Rc<Op>, Memory>) -> Result<Rc<Op>, Memory>
     ensures { (a : CoreTerm) → Makes shared_term part a → Makes shared_term result (wait_term x.0 (type_of t.now) a) }
 {
-    match part {
-        Ok(a) => match stream_type::copy(alloc, t) {
-            Ok(ty) => made(alloc, Op::Wait(x, ty, a)),
-            Err(Memory) => {
-                drop(a);
-                Err(Memory)
-            }
-        },
+    match pair(stream_type::copy(alloc, t), part) {
+        Ok((ty, a)) => made(alloc, Op::Wait(x, ty, a)),
         Err(Memory) => Err(Memory),
     }
 }
@@ -257,32 +215,22 @@ fn call_of(
 ) -> Result<Rc<Op>, Memory>
     ensures { (es : List CoreTerm) → IfOk parts (λ v. map shared_term v.items ≡ es) → Makes shared_term result (call_term f (map expr_of ms.now) (terms_from es)) }
 {
-    match parts {
-        Ok(all) => {
-            let es = linked(alloc, &all);
-            drop(all);
-            on_arguments(alloc, f, ms, es)
-        }
+    match pair(copy_exprs(alloc, ms), arguments(alloc, parts)) {
+        Ok((ms, es)) => made(alloc, Op::Call(f, ms, es)),
         Err(Memory) => Err(Memory),
     }
 }
 
-fn on_arguments(
-    alloc: Global,
-    f: u32,
-    ms: &[Expr],
-    es: Result<Box<Operands>, Memory>,
-) -> Result<Rc<Op>, Memory>
-    ensures { (all : CoreTerms) → IfOk es (λ r. operand_terms r.value ≡ all) → Makes shared_term result (call_term f (map expr_of ms.now) all) }
+// Terms as the arguments of a call.
+fn arguments(alloc: Global, parts: Result<Vec<Rc<Op>>, Memory>) -> Result<Box<Operands>, Memory>
+    ensures { (es : List CoreTerm) → IfOk parts (λ v. map shared_term v.items ≡ es) → IfOk result (λ r. operand_terms r.value ≡ terms_from es) }
 {
-    match es {
-        Ok(es) => match copy_exprs(alloc, ms) {
-            Ok(ms) => made(alloc, Op::Call(f, ms, es)),
-            Err(Memory) => {
-                drop(es);
-                Err(Memory)
-            }
-        },
+    match parts {
+        Ok(all) => {
+            let es = linked(alloc, &all);
+            drop(all);
+            es
+        }
         Err(Memory) => Err(Memory),
     }
 }
@@ -292,24 +240,28 @@ fn linked(alloc: Global, all: &[Rc<Op>]) -> Result<Box<Operands>, Memory>
     ensures { IfOk result (λ r. operand_terms r.value ≡ terms_from (map shared_term all.now)) }
 {
     match all.split_first() {
-        None => Ok(Box::new(alloc, Operands::None)?),
-        Some((first, rest)) => match linked(alloc, rest) {
-            Ok(others) => before(alloc, first, others),
-            Err(Memory) => Err(Memory),
-        },
+        None => boxed(alloc, Ok(Operands::None)),
+        Some((first, rest)) => before(alloc, first, linked(alloc, rest)),
     }
 }
 
 // One term before others.
-fn before(alloc: Global, first: &Rc<Op>, others: Box<Operands>) -> Result<Box<Operands>, Memory>
-    ensures { IfOk result (λ r. operand_terms r.value ≡ term_before (shared_term first.now) (operand_terms others.value)) }
+fn before(
+    alloc: Global,
+    first: &Rc<Op>,
+    others: Result<Box<Operands>, Memory>,
+) -> Result<Box<Operands>, Memory>
+    ensures { (es : CoreTerms) → IfOk others (λ r. operand_terms r.value ≡ es) → IfOk result (λ r. operand_terms r.value ≡ term_before (shared_term first.now) es) }
 {
-    match first.clone() {
-        Ok(one) => Ok(Box::new(alloc, Operands::Before(one, others))?),
-        Err(_) => {
-            drop(others);
-            Err(Memory)
-        }
+    match others {
+        Ok(others) => match first.clone() {
+            Ok(one) => boxed(alloc, Ok(Operands::Before(one, others))),
+            Err(_) => {
+                drop(others);
+                Err(Memory)
+            }
+        },
+        Err(Memory) => Err(Memory),
     }
 }
 
@@ -318,7 +270,7 @@ fn copy_exprs(alloc: Global, exprs: &[Expr]) -> Result<Vec<Expr>, Memory>
 {
     let mut copies = Vec::new(alloc);
     for expr in exprs {
-        copies.push(copy_expr(alloc, expr)?)?;
+        copies = added(copies, copy_expr(alloc, expr))?;
     }
     Ok(copies)
 }

@@ -1,6 +1,6 @@
 //! States kept: with their marks, and with their code as trees of their own.
 
-ghost use Rattle.std.specs.Prelude.{◌≡◌, ◌∷◌, [], ◌++◌, map, IfOk, OnOk};
+ghost use Rattle.std.specs.Prelude.{◌≡◌, ◌++◌, map, IfOk};
 ghost use Rattle.stream_type.specs.StreamType.{type_of};
 ghost use Rattle.stream_prefix.specs.Tree.{prefix_of};
 ghost use Rattle.hist_value.specs.HistValue.{hist_value_of};
@@ -9,15 +9,15 @@ ghost use Rattle.machine_parts.specs.Entry.{entry_in};
 ghost use Rattle.template_state.specs.Readers.{known_in, later_in, held_in, state_in, arguments_in};
 ghost use Rattle.delta_keep.specs.KeptView.{known_of, held_of, later_of, state_of};
 ghost use Rattle.template_kept.specs.KeptArguments.{arguments_from};
-ghost use Rattle.template_kept.specs.Makes.{Makes, MakesBoth, kept_in};
+ghost use Rattle.template_kept.specs.Makes.{Makes, kept_in};
 
+use crate::results::{added, boxed, in_front, pair};
 use bunch::Name;
 use delta_keep::{Argument, HeldName, KeptState, Known, Waiting};
 use hist_value::{Value, copy_value};
 use machine_parts::boxes::copy_boxed;
 use machine_parts::entry::Entry;
 use std::alloc::Global;
-use stream_prefix::Prefix;
 use stream_type::{Memory, Ty};
 use template_state::{Arguments, Later, Live, Past, node};
 
@@ -30,35 +30,15 @@ pub fn keep(alloc: Global, s: &Live) -> Result<Box<KeptState>, Memory>
     match s {
         Live::Sink(t) => finished(alloc, t),
         Live::Var(x) => made(alloc, KeptState::Var(*x)),
-        Live::Par(a, b) => par_of(alloc, both(alloc, a, b)),
+        Live::Par(a, b) => par_of(alloc, keep(alloc, a), keep(alloc, b)),
         Live::Cat(a, l) => row(alloc, keep(alloc, a), l),
-        Live::Let(x, t, a, b) => bound(alloc, *x, t, both(alloc, a, b)),
+        Live::Let(x, t, a, b) => bound(alloc, *x, t, keep(alloc, a), keep(alloc, b)),
         Live::LetPar(x, y, z, a) => let_par_of(alloc, *x, *y, *z, keep(alloc, a)),
         Live::LetCat(x, y, z, a) => let_cat_of(alloc, *x, *y, *z, keep(alloc, a)),
         Live::CaseSum(z, t, held, x, l, y, m) => on_sum(alloc, *z, t, held, *x, l, *y, m),
         Live::CaseStar(z, t, held, l, y, ys, m) => on_star(alloc, *z, t, held, l, *y, *ys, m),
         Live::Wait(x, t, held, l) => waiting(alloc, *x, t, held, l),
-        Live::Frame(args, a) => keep_frame(alloc, args, a),
-    }
-}
-
-#[cycle(keep)]
-fn both(alloc: Global, a: &Live, b: &Live) -> Result<(Box<KeptState>, Box<KeptState>), Memory>
-    ensures { MakesBoth kept_in result (state_in a.now) (state_in b.now) }
-{
-    match keep(alloc, a) {
-        Ok(first) => beside(first, keep(alloc, b)),
-        Err(Memory) => Err(Memory),
-    }
-}
-
-#[cycle(keep)]
-fn keep_frame(alloc: Global, args: &Arguments, a: &Live) -> Result<Box<KeptState>, Memory>
-    ensures { Makes kept_in result (frame_state (arguments_in args.now) (state_in a.now)) }
-{
-    match keep_all(alloc, args) {
-        Ok(arguments) => framed(alloc, arguments, keep(alloc, a)),
-        Err(Memory) => Err(Memory),
+        Live::Frame(args, a) => framed(alloc, keep_all(alloc, args), keep(alloc, a)),
     }
 }
 
@@ -69,10 +49,9 @@ fn keep_all(alloc: Global, args: &Arguments) -> Result<Vec<Argument>, Memory>
 {
     match args {
         Arguments::None => Ok(Vec::new(alloc)),
-        Arguments::Before(name, t, a, others) => match keep(alloc, a) {
-            Ok(state) => before(alloc, *name, t, state, keep_all(alloc, others)),
-            Err(Memory) => Err(Memory),
-        },
+        Arguments::Before(name, t, a, others) => {
+            before(alloc, *name, t, keep(alloc, a), keep_all(alloc, others))
+        }
     }
 }
 
@@ -83,76 +62,35 @@ fn made(alloc: Global, form: KeptState) -> Result<Box<KeptState>, Memory>
     Ok(Box::new(alloc, form)?)
 }
 
-// The first part beside the second.
-fn beside(
-    first: Box<KeptState>,
-    second: Result<Box<KeptState>, Memory>,
-) -> Result<(Box<KeptState>, Box<KeptState>), Memory>
-    ensures { (b : StateTree) → Makes kept_in second b → MakesBoth kept_in result (state_of first.value) b }
-{
-    match second {
-        Ok(second) => Ok((first, second)),
-        Err(Memory) => {
-            drop(first);
-            Err(Memory)
-        }
-    }
-}
-
 // One argument before others.
 fn before(
     alloc: Global,
     name: Name,
     t: &Ty,
-    state: Box<KeptState>,
+    state: Result<Box<KeptState>, Memory>,
     others: Result<Vec<Argument>, Memory>,
 ) -> Result<Vec<Argument>, Memory>
-    ensures { (args : ArgumentTrees) → IfOk others (λ v. arguments_from v.items ≡ args)
-        → IfOk result (λ v. arguments_from v.items ≡ argument_before name.0 (type_of t.now) (state_of state.value) args) }
+    ensures { (a : StateTree) (args : ArgumentTrees) → Makes kept_in state a → IfOk others (λ v. arguments_from v.items ≡ args)
+        → IfOk result (λ v. arguments_from v.items ≡ argument_before name.0 (type_of t.now) a args) }
 {
-    match others {
-        Ok(others) => match copy_boxed(alloc, t) {
-            Ok(ty) => in_front(Argument { name, ty, state }, others),
-            Err(Memory) => {
-                drop(state);
-                drop(others);
-                Err(Memory)
-            }
-        },
-        Err(Memory) => {
-            drop(state);
-            Err(Memory)
-        }
-    }
-}
-
-fn in_front(arg: Argument, mut others: Vec<Argument>) -> Result<Vec<Argument>, Memory>
-    ensures { IfOk result (λ v. v.items ≡ arg ∷ others.items) }
-{
-    match others.insert(0, arg) {
-        Ok(()) => Ok(others),
-        Err(failed) => {
-            drop(failed);
-            drop(others);
-            Err(Memory)
-        }
+    match pair(pair(copy_boxed(alloc, t), state), others) {
+        Ok(((ty, state), others)) => in_front(Argument { name, ty, state }, others),
+        Err(Memory) => Err(Memory),
     }
 }
 
 // A frame of these.
 fn framed(
     alloc: Global,
-    arguments: Vec<Argument>,
+    arguments: Result<Vec<Argument>, Memory>,
     part: Result<Box<KeptState>, Memory>,
 ) -> Result<Box<KeptState>, Memory>
-    ensures { (a : StateTree) → Makes kept_in part a → Makes kept_in result (frame_state (arguments_from arguments.items) a) }
+    ensures { (args : ArgumentTrees) (a : StateTree) → IfOk arguments (λ v. arguments_from v.items ≡ args) → Makes kept_in part a
+        → Makes kept_in result (frame_state args a) }
 {
-    match part {
-        Ok(a) => made(alloc, KeptState::Frame(arguments, a)),
-        Err(Memory) => {
-            drop(arguments);
-            Err(Memory)
-        }
+    match pair(arguments, part) {
+        Ok((arguments, a)) => made(alloc, KeptState::Frame(arguments, a)),
+        Err(Memory) => Err(Memory),
     }
 }
 
@@ -169,11 +107,12 @@ fn finished(alloc: Global, t: &Ty) -> Result<Box<KeptState>, Memory>
 // Both at once.
 fn par_of(
     alloc: Global,
-    parts: Result<(Box<KeptState>, Box<KeptState>), Memory>,
+    first: Result<Box<KeptState>, Memory>,
+    second: Result<Box<KeptState>, Memory>,
 ) -> Result<Box<KeptState>, Memory>
-    ensures { (a b : StateTree) → MakesBoth kept_in parts a b → Makes kept_in result (par_state a b) }
+    ensures { (a b : StateTree) → Makes kept_in first a → Makes kept_in second b → Makes kept_in result (par_state a b) }
 {
-    match parts {
+    match pair(first, second) {
         Ok((a, b)) => made(alloc, KeptState::Par(a, b)),
         Err(Memory) => Err(Memory),
     }
@@ -187,14 +126,8 @@ fn row(
 ) -> Result<Box<KeptState>, Memory>
     ensures { (a : StateTree) → Makes kept_in part a → Makes kept_in result (cat_state a (later_in l.now)) }
 {
-    match part {
-        Ok(a) => match keep_code(alloc, l) {
-            Ok(code) => made(alloc, KeptState::Cat(a, code)),
-            Err(Memory) => {
-                drop(a);
-                Err(Memory)
-            }
-        },
+    match pair(part, keep_code(alloc, l)) {
+        Ok((a, code)) => made(alloc, KeptState::Cat(a, code)),
         Err(Memory) => Err(Memory),
     }
 }
@@ -204,19 +137,13 @@ fn bound(
     alloc: Global,
     x: Name,
     t: &Ty,
-    parts: Result<(Box<KeptState>, Box<KeptState>), Memory>,
+    first: Result<Box<KeptState>, Memory>,
+    second: Result<Box<KeptState>, Memory>,
 ) -> Result<Box<KeptState>, Memory>
-    ensures { (a b : StateTree) → MakesBoth kept_in parts a b → Makes kept_in result (let_state x.0 (type_of t.now) a b) }
+    ensures { (a b : StateTree) → Makes kept_in first a → Makes kept_in second b → Makes kept_in result (let_state x.0 (type_of t.now) a b) }
 {
-    match parts {
-        Ok((a, b)) => match copy_boxed(alloc, t) {
-            Ok(ty) => made(alloc, KeptState::Let(x, ty, a, b)),
-            Err(Memory) => {
-                drop(a);
-                drop(b);
-                Err(Memory)
-            }
-        },
+    match pair(copy_boxed(alloc, t), pair(first, second)) {
+        Ok((ty, (a, b))) => made(alloc, KeptState::Let(x, ty, a, b)),
         Err(Memory) => Err(Memory),
     }
 }
@@ -252,36 +179,6 @@ fn let_cat_of(
     }
 }
 
-// What a form holds, with its type and the code behind it.
-#[derive(Drop)]
-struct Holding {
-    ty: Box<Ty>,
-    held: Vec<HeldName>,
-    code: Box<Waiting>,
-}
-
-fn keep_holding(alloc: Global, t: &Ty, held: &[Entry], l: &Later) -> Result<Holding, Memory>
-    ensures { IfOk result (λ h. (type_of h.ty.value ≡ type_of t.now) × ((map held_of h.held.items ≡ held_in held.now) × (later_of h.code.value ≡ later_in l.now))) }
-{
-    match keep_entries(alloc, held) {
-        Ok(held) => match copy_boxed(alloc, t) {
-            Ok(ty) => match keep_code(alloc, l) {
-                Ok(code) => Ok(Holding { ty, held, code }),
-                Err(Memory) => {
-                    drop(held);
-                    drop(ty);
-                    Err(Memory)
-                }
-            },
-            Err(Memory) => {
-                drop(held);
-                Err(Memory)
-            }
-        },
-        Err(Memory) => Err(Memory),
-    }
-}
-
 // A case on a sum.
 fn on_sum(
     alloc: Global,
@@ -295,17 +192,12 @@ fn on_sum(
 ) -> Result<Box<KeptState>, Memory>
     ensures { Makes kept_in result (sum_state z.0 (type_of t.now) (held_in held.now) x.0 (later_in l.now) y.0 (later_in m.now)) }
 {
-    match keep_code(alloc, m) {
-        Ok(second) => match keep_holding(alloc, t, held, l) {
-            Ok(h) => made(
-                alloc,
-                KeptState::CaseSum(z, h.ty, h.held, x, h.code, y, second),
-            ),
-            Err(Memory) => {
-                drop(second);
-                Err(Memory)
-            }
-        },
+    let before = pair(copy_boxed(alloc, t), keep_entries(alloc, held));
+    match pair(before, pair(keep_code(alloc, l), keep_code(alloc, m))) {
+        Ok(((ty, held), (first, second))) => made(
+            alloc,
+            KeptState::CaseSum(z, ty, held, x, first, y, second),
+        ),
         Err(Memory) => Err(Memory),
     }
 }
@@ -323,17 +215,12 @@ fn on_star(
 ) -> Result<Box<KeptState>, Memory>
     ensures { Makes kept_in result (star_state z.0 (type_of t.now) (held_in held.now) (later_in l.now) y.0 ys.0 (later_in m.now)) }
 {
-    match keep_code(alloc, m) {
-        Ok(second) => match keep_holding(alloc, t, held, l) {
-            Ok(h) => made(
-                alloc,
-                KeptState::CaseStar(z, h.ty, h.held, h.code, y, ys, second),
-            ),
-            Err(Memory) => {
-                drop(second);
-                Err(Memory)
-            }
-        },
+    let before = pair(copy_boxed(alloc, t), keep_entries(alloc, held));
+    match pair(before, pair(keep_code(alloc, l), keep_code(alloc, m))) {
+        Ok(((ty, held), (first, second))) => made(
+            alloc,
+            KeptState::CaseStar(z, ty, held, first, y, ys, second),
+        ),
         Err(Memory) => Err(Memory),
     }
 }
@@ -348,8 +235,9 @@ fn waiting(
 ) -> Result<Box<KeptState>, Memory>
     ensures { Makes kept_in result (wait_state x.0 (type_of t.now) (held_in held.now) (later_in l.now)) }
 {
-    match keep_holding(alloc, t, held, l) {
-        Ok(h) => made(alloc, KeptState::Wait(x, h.ty, h.held, h.code)),
+    let before = pair(copy_boxed(alloc, t), keep_entries(alloc, held));
+    match pair(before, keep_code(alloc, l)) {
+        Ok(((ty, held), code)) => made(alloc, KeptState::Wait(x, ty, held, code)),
         Err(Memory) => Err(Memory),
     }
 }
@@ -358,70 +246,36 @@ fn waiting(
 fn keep_code(alloc: Global, l: &Later) -> Result<Box<Waiting>, Memory>
     ensures { IfOk result (λ r. later_of r.value ≡ later_in l.now) }
 {
-    match node(alloc, &l.code) {
-        Ok(code) => match keep_past(alloc, &l.past) {
-            Ok(past) => {
-                let depth = l.depth;
-                Ok(Box::new(alloc, Waiting { code, past, depth })?)
-            }
-            Err(Memory) => {
-                drop(code);
-                Err(Memory)
-            }
-        },
+    let depth = l.depth;
+    match pair(
+        node(alloc, &l.code),
+        keep_past(alloc, &l.past, Vec::new(alloc)),
+    ) {
+        Ok((code, past)) => boxed(alloc, Ok(Waiting { code, past, depth })),
         Err(Memory) => Err(Memory),
     }
 }
 
-fn keep_past(alloc: Global, past: &Past) -> Result<Vec<Known>, Memory>
-    ensures { IfOk result (λ v. map known_of v.items ≡ known_in past.now) }
-{
-    let mut found = Vec::new(alloc);
-    match add_known(alloc, past, &mut found) {
-        Ok(()) => Ok(found),
-        Err(Memory) => {
-            drop(found);
-            Err(Memory)
-        }
-    }
-}
-
-// Adds known names, the last one first.
-fn add_known(alloc: Global, past: &Past, found: &mut Vec<Known>) -> Result<(), Memory>
-    ensures { OnOk result (map known_of found.new.items ≡ map known_of found.old.items ++ known_in past.now) }
+// Known names behind these, the last one first.
+fn keep_past(alloc: Global, past: &Past, found: Vec<Known>) -> Result<Vec<Known>, Memory>
+    ensures { IfOk result (λ v. map known_of v.items ≡ map known_of found.items ++ known_in past.now) }
 {
     match past {
-        Past::None => Ok(()),
-        Past::Known(x, t, value, older) => {
-            match add_name(alloc, *x, t, value, found) {
-                Ok(()) => add_known(alloc, older, found),
-                Err(Memory) => Err(Memory),
-            }
-        }
+        Past::None => Ok(found),
+        Past::Known(x, t, value, older) => match added(found, known(alloc, *x, t, value)) {
+            Ok(found) => keep_past(alloc, older, found),
+            Err(Memory) => Err(Memory),
+        },
     }
 }
 
-// Adds a known name.
-fn add_name(
-    alloc: Global,
-    name: Name,
-    t: &Ty,
-    value: &Value,
-    found: &mut Vec<Known>,
-) -> Result<(), Memory>
-    ensures { OnOk result (map known_of found.new.items ≡ map known_of found.old.items ++ record { name = name.0; type = type_of t.now; value = hist_value_of value.now } ∷ []) }
+fn known(alloc: Global, name: Name, t: &Ty, value: &Value) -> Result<Known, Memory>
+    ensures { IfOk result (λ k. known_of k ≡ record { name = name.0; type = type_of t.now; value = hist_value_of value.now }) }
 {
-    let ty = copy_boxed(alloc, t)?;
-    let value = boxed_value(alloc, value)?;
-    found.push(Known { name, ty, value })?;
-    Ok(())
-}
-
-fn boxed_value(alloc: Global, value: &Value) -> Result<Box<Value>, Memory>
-    ensures { IfOk result (λ r. hist_value_of r.value ≡ hist_value_of value.now) }
-{
-    let copy = copy_value(alloc, value)?;
-    Ok(Box::new(alloc, copy)?)
+    match pair(copy_boxed(alloc, t), boxed(alloc, copy_value(alloc, value))) {
+        Ok((ty, value)) => Ok(Known { name, ty, value }),
+        Err(Memory) => Err(Memory),
+    }
 }
 
 // What is held.
@@ -430,7 +284,7 @@ fn keep_entries(alloc: Global, held: &[Entry]) -> Result<Vec<HeldName>, Memory>
 {
     let mut found = Vec::new(alloc);
     for entry in held {
-        found.push(keep_entry(alloc, entry)?)?;
+        found = added(found, keep_entry(alloc, entry))?;
     }
     Ok(found)
 }
@@ -439,14 +293,10 @@ fn keep_entry(alloc: Global, entry: &Entry) -> Result<HeldName, Memory>
     ensures { IfOk result (λ h. held_of h ≡ entry_in entry.now) }
 {
     let name = entry.name;
-    let ty = copy_boxed(alloc, &entry.ty)?;
-    let prefix = boxed_prefix(alloc, &entry.prefix)?;
-    Ok(HeldName { name, ty, prefix })
-}
-
-fn boxed_prefix(alloc: Global, p: &Prefix) -> Result<Box<Prefix>, Memory>
-    ensures { IfOk result (λ r. prefix_of r.value ≡ prefix_of p.now) }
-{
-    let copy = stream_prefix::copy(alloc, p)?;
-    Ok(Box::new(alloc, copy)?)
+    let ty = copy_boxed(alloc, &entry.ty);
+    let prefix = boxed(alloc, stream_prefix::copy(alloc, &entry.prefix));
+    match pair(ty, prefix) {
+        Ok((ty, prefix)) => Ok(HeldName { name, ty, prefix }),
+        Err(Memory) => Err(Memory),
+    }
 }

@@ -3,6 +3,7 @@
 
 mod compiling;
 mod keeping;
+mod results;
 mod waking;
 
 pub use compiling::op;

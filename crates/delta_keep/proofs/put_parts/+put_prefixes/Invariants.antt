@@ -1,15 +1,15 @@
--- What is put out so far are the items seen so far.
+-- What is put out so far are the items seen so far, and the numbers in them have their sizes.
 use Rattle.std.proofs.Common.{◌+◌, ◌*◌, max, take}
 use Rattle.stream_prefix.specs.declared.prefix.Prefix.{size-Prefix}
 use Rattle.stream_prefix.specs.declared.prefix.StarEnd.{size-StarEnd}
 use Rattle.stream_prefix.specs.Tree.{prefix_of}
 use Rattle.kept_state.specs.KeptBytes.{prefix_bytes}
-use Rattle.delta_keep.specs.Putting.{Puts}
-use Rattle.delta_keep.proofs.Lists.{items_bytes}
+use Rattle.kept_state.specs.KeptSizes.{FitsPrefix}
+use Rattle.delta_keep.proofs.PutSizes.{PutSome}
 use Rattle.delta_keep.proofs.put_parts.+put_prefixes.Given as goal
 
 abbrev pub invariant-put_prefixes-loop-item : goal.invariant-put_prefixes-loop-item
-invariant-put_prefixes-loop-item l = Puts l.initial.out l.out (items_bytes prefix_bytes prefix_of (take l.item-index l.items))
+invariant-put_prefixes-loop-item l = PutSome prefix_bytes prefix_of FitsPrefix l.initial.out l.out (take l.item-index l.items)
 
 abbrev pub decreases-put_prefix : goal.decreases-put_prefix
 decreases-put_prefix l = 3 * size-Prefix l.p.now

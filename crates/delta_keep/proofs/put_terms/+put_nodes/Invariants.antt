@@ -1,14 +1,14 @@
--- What is put out so far are the items seen so far.
+-- What is put out so far are the items seen so far, and the numbers in them have their sizes.
 use Rattle.std.proofs.Common.{◌+◌, ◌*◌, max, take}
 use Rattle.core_term.specs.declared.term.Node.{size-Node}
 use Rattle.core_term.specs.declared.term.Term.{size-Term}
 use Rattle.delta_keep.specs.Written.{written_node}
-use Rattle.delta_keep.specs.Putting.{Puts}
-use Rattle.delta_keep.proofs.Lists.{items_bytes}
+use Rattle.delta_keep.specs.Reads.{FitsNode}
+use Rattle.delta_keep.proofs.PutSizes.{PutSome}
 use Rattle.delta_keep.proofs.put_terms.+put_nodes.Given as goal
 
 abbrev pub invariant-put_nodes-loop-node : goal.invariant-put_nodes-loop-node
-invariant-put_nodes-loop-node l = Puts l.initial.out l.out (items_bytes written_node (λ n. n) (take l.node-index l.nodes))
+invariant-put_nodes-loop-node l = PutSome written_node (λ n. n) FitsNode l.initial.out l.out (take l.node-index l.nodes)
 
 abbrev pub decreases-put_node : goal.decreases-put_node
 decreases-put_node l = 5 * size-Node l.n.now + 1

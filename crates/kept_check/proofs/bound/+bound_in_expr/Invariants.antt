@@ -6,11 +6,8 @@ use Rattle.kept_check.proofs.bound.+bound_in_expr.Given as goal
 abbrev pub decreases-add_bound_in_expr : goal.decreases-add_bound_in_expr
 decreases-add_bound_in_expr l = 3 * size-Expr l.m.now
 
-abbrev pub decreases-add_of_exprs : goal.decreases-add_of_exprs
-decreases-add_of_exprs l = max (3 * size-Expr l.a.now) (3 * size-Expr l.b.now) + 1
+abbrev pub decreases-add_of_two : goal.decreases-add_of_two
+decreases-add_of_two l = max (3 * size-Expr l.a.now) (3 * size-Expr l.b.now) + 1
 
-abbrev pub decreases-add_of_choice : goal.decreases-add_of_choice
-decreases-add_of_choice l = max (max (3 * size-Expr l.a.now) (3 * size-Expr l.b.now)) (3 * size-Expr l.c.now) + 2
-
-abbrev pub decreases-add_of_fold : goal.decreases-add_of_fold
-decreases-add_of_fold l = max (max (3 * size-Expr l.a.now) (3 * size-Expr l.s.now)) (3 * size-Expr l.b.now) + 2
+abbrev pub decreases-add_of_three : goal.decreases-add_of_three
+decreases-add_of_three l = max (max (3 * size-Expr l.a.now) (3 * size-Expr l.b.now)) (3 * size-Expr l.c.now) + 2

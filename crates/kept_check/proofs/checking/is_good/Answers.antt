@@ -1,4 +1,4 @@
--- No code of the state is too large.
+-- No code of the state is too large, and its names stand behind those before.
 use Rattle.delta_keep.specs.KeptView.{state_of}
 use Rattle.kept_check.proofs.ReadSizes.{codes_small}
 use Rattle.kept_check.proofs.checking.is_good.Goals as goal

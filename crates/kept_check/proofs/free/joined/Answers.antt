@@ -8,9 +8,10 @@ use Rattle.stream_type.specs.declared.memory.Memory.{Memory}
 use Rattle.bunch.specs.declared.name.Name.{Name}
 use Rattle.bunch.specs.Names.{numbers_of}
 use Rattle.kept_check.specs.Free.{HasNames}
-use Rattle.kept_check.proofs.FreeLists.{names_joined}
+use Rattle.kept_check.proofs.FreeLists.{names_less}
 use Rattle.kept_check.proofs.free.joined.Goals as goal
 
 pub returns-in-Ok : goal.returns-in-Ok
 returns-in-Ok c = λ xs zs h k.
-    IfOk-weaker c.and_less-all.result _ _ (λ v e. names_joined v.items c.args.first.items c.in-Ok.more.items xs (numbers_of c.args.less.now) zs e h (subst (λ (q : Result (Vec Name Global) Memory). IfOk q (λ w. HasNames w.items zs)) c.in-Ok.is k)) (rw c.deref.ensures.value at c.and_less-all.ensures)
+    IfOk-weaker c.beside-all.result _ _ (λ v e. names_less v.items c.in-Ok.more.items xs (numbers_of c.args.less.now) zs e (subst (λ (q : Result (Vec Name Global) Memory). IfOk q (λ w. HasNames w.items zs)) c.in-Ok.is k))
+    (rw c.deref.ensures.value at (c.beside-all.ensures xs h))

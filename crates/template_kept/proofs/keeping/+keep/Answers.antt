@@ -12,13 +12,13 @@ pub keep-returns-in-Var : goal.keep-returns-in-Var
 keep-returns-in-Var t c = makes_same kept_in c.made.result _ _ (sym (ap state_in c.in-Var.is)) c.made.ensures
 
 pub keep-returns-in-Par : goal.keep-returns-in-Par
-keep-returns-in-Par t c = makes_same kept_in c.par_of.result _ _ (sym (ap state_in c.in-Par.is)) (c.par_of.ensures _ _ (rw (c.deref.ensures, c.deref-in-Par.ensures) at c.both.ensures))
+keep-returns-in-Par t c = makes_same kept_in c.par_of.result _ _ (sym (ap state_in c.in-Par.is)) (c.par_of.ensures _ _ (rw c.deref.ensures at c.keep.ensures) (rw c.deref-in-Par.ensures at c.keep-in-Par.ensures))
 
 pub keep-returns-in-Cat : goal.keep-returns-in-Cat
-keep-returns-in-Cat t c = makes_same kept_in c.row.result _ _ (sym (ap state_in c.in-Cat.is)) (c.row.ensures _ (rw c.deref-in-Cat.ensures at c.keep.ensures))
+keep-returns-in-Cat t c = makes_same kept_in c.row.result _ _ (sym (ap state_in c.in-Cat.is)) (c.row.ensures _ (rw c.deref-in-Cat.ensures at c.keep-in-Cat.ensures))
 
 pub keep-returns-in-Let : goal.keep-returns-in-Let
-keep-returns-in-Let t c = makes_same kept_in c.bound.result _ _ (sym (ap state_in c.in-Let.is)) (c.bound.ensures _ _ (rw (c.deref-in-Let.ensures, c.deref-in-Let-2.ensures) at c.both-in-Let.ensures))
+keep-returns-in-Let t c = makes_same kept_in c.bound.result _ _ (sym (ap state_in c.in-Let.is)) (c.bound.ensures _ _ (rw c.deref-in-Let.ensures at c.keep-in-Let.ensures) (rw c.deref-in-Let-2.ensures at c.keep-in-Let-2.ensures))
 
 pub keep-returns-in-LetPar : goal.keep-returns-in-LetPar
 keep-returns-in-LetPar t c = makes_same kept_in c.let_par_of.result _ _ (sym (ap state_in c.in-LetPar.is)) (c.let_par_of.ensures _ (rw c.deref-in-LetPar.ensures at c.keep-in-LetPar.ensures))
@@ -36,4 +36,4 @@ pub keep-returns-in-Wait : goal.keep-returns-in-Wait
 keep-returns-in-Wait t c = makes_same kept_in c.waiting.result _ _ (sym (ap state_in c.in-Wait.is)) (rw c.deref-in-Wait.ensures.value at c.waiting.ensures)
 
 pub keep-returns-in-Frame : goal.keep-returns-in-Frame
-keep-returns-in-Frame t c = makes_same kept_in c.keep_frame.result _ _ (sym (ap state_in c.in-Frame.is)) (rw (c.deref-in-Frame.ensures, c.deref-in-Frame-2.ensures) at c.keep_frame.ensures)
+keep-returns-in-Frame t c = makes_same kept_in c.framed.result _ _ (sym (ap state_in c.in-Frame.is)) (c.framed.ensures _ _ (rw c.deref-in-Frame.ensures at c.keep_all.ensures) (rw c.deref-in-Frame-2.ensures at c.keep-in-Frame.ensures))

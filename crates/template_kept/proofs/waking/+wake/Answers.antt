@@ -14,13 +14,13 @@ pub wake-returns-in-Var : goal.wake-returns-in-Var
 wake-returns-in-Var t c = makes_same live_in c.made.result _ _ (sym (ap state_of c.in-Var.is)) c.made.ensures
 
 pub wake-returns-in-Par : goal.wake-returns-in-Par
-wake-returns-in-Par t c = makes_same live_in c.par_of.result _ _ (sym (ap state_of c.in-Par.is)) (c.par_of.ensures _ _ (rw (c.deref-in-Par.ensures, c.deref-in-Par-2.ensures) at c.both.ensures))
+wake-returns-in-Par t c = makes_same live_in c.par_of.result _ _ (sym (ap state_of c.in-Par.is)) (c.par_of.ensures _ _ (rw c.deref-in-Par.ensures at c.wake.ensures) (rw c.deref-in-Par-2.ensures at c.wake-in-Par.ensures))
 
 pub wake-returns-in-Cat : goal.wake-returns-in-Cat
-wake-returns-in-Cat t c = makes_same live_in c.row.result _ _ (sym (ap state_of c.in-Cat.is)) (rw c.deref-in-Cat-2.ensures at (c.row.ensures _ (rw c.deref-in-Cat.ensures at c.wake.ensures)))
+wake-returns-in-Cat t c = makes_same live_in c.row.result _ _ (sym (ap state_of c.in-Cat.is)) (rw c.deref-in-Cat-2.ensures at (c.row.ensures _ (rw c.deref-in-Cat.ensures at c.wake-in-Cat.ensures)))
 
 pub wake-returns-in-Let : goal.wake-returns-in-Let
-wake-returns-in-Let t c = makes_same live_in c.bound.result _ _ (sym (ap state_of c.in-Let.is)) (rw c.deref-in-Let.ensures at (c.bound.ensures _ _ (rw (c.deref-in-Let-2.ensures, c.deref-in-Let-3.ensures) at c.both-in-Let.ensures)))
+wake-returns-in-Let t c = makes_same live_in c.bound.result _ _ (sym (ap state_of c.in-Let.is)) (rw c.deref-in-Let.ensures at (c.bound.ensures _ _ (rw c.deref-in-Let-2.ensures at c.wake-in-Let.ensures) (rw c.deref-in-Let-3.ensures at c.wake-in-Let-2.ensures)))
 
 pub wake-returns-in-LetPar : goal.wake-returns-in-LetPar
 wake-returns-in-LetPar t c = makes_same live_in c.let_par_of.result _ _ (sym (ap state_of c.in-LetPar.is)) (c.let_par_of.ensures _ (rw c.deref-in-LetPar.ensures at c.wake-in-LetPar.ensures))
@@ -39,5 +39,5 @@ wake-returns-in-Wait t c = makes_same live_in c.waiting.result _ _ (sym (ap stat
 
 pub wake-returns-in-Frame : goal.wake-returns-in-Frame
 wake-returns-in-Frame t c =
-    makes_same live_in c.wake_frame.result _ _ (sym (ap state_of c.in-Frame.is ∙ ap (λ args. frame_state args (state_of c.in-Frame.a.value)) (arguments_of-hidden c.in-Frame.args)))
-    (rw (c.deref-in-Frame.ensures.value, c.deref-in-Frame-2.ensures) at c.wake_frame.ensures)
+    makes_same live_in c.framed.result _ _ (sym (ap state_of c.in-Frame.is ∙ ap (λ args. frame_state args (state_of c.in-Frame.a.value)) (arguments_of-hidden c.in-Frame.args)))
+    (c.framed.ensures _ _ (rw c.deref-in-Frame.ensures.value at c.wake_all.ensures) (rw c.deref-in-Frame-2.ensures at c.wake-in-Frame.ensures))

@@ -1,8 +1,0 @@
--- The subject, and the names of what follows.
-use Rattle.std.proofs.Common.{◌∷◌, []}
-use Rattle.core_term.specs.FreeNames.{free_names}
-use Rattle.delta_keep.specs.KeptView.{later_of}
-use Rattle.kept_check.proofs.free.free_of_wait.Goals as goal
-
-pub returns-in-Ok : goal.returns-in-Ok
-returns-in-Ok c = c.joined.ensures (c.args.x.0 ∷ []) (free_names (later_of c.args.l.now).term) c.in-Ok.ensures c.free_in_code.ensures

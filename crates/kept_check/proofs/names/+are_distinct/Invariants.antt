@@ -1,6 +1,0 @@
--- Each call has one name less.
-use Rattle.std.proofs.Common.{length}
-use Rattle.kept_check.proofs.names.+are_distinct.Given as goal
-
-abbrev pub decreases-are_distinct : goal.decreases-are_distinct
-decreases-are_distinct l = length l.names.now
