@@ -18,7 +18,7 @@ use Rattle.state_bounds.specs.Bounds.{Bound, both, ◌⊑◌, total}
 use Rattle.state_bounds.specs.StateBounds.{state_bound, argument_bounds}
 use Rattle.state_bounds.proofs.BoundOrder.{at_most_same, at_most_next, both_at_most, nothing_at_most, beside_nothing, total_at_most}
 use Rattle.state_bounds.proofs.StatesWithMoreFacts.{Roomy}
-use Rattle.bounds_kept.proofs.CappedBounds.{beside_right, total_capped, arguments_capped}
+use Rattle.bounds_kept.proofs.CappedBounds.{beside_left, beside_right, total_capped, state_capped, arguments_capped}
 use Rattle.bounds_kept.proofs.LowerParts.{roomy_body}
 
 -- a body that doesn't use u has no fewer facts without them
@@ -101,6 +101,16 @@ module _ (funs : List CoreBody) (numbers : ℕ → Bound) where
           → argument_bounds funs numbers (if b then without_argument u args else argument_before x t s (without_argument u args)) c ⊑ both (state_bound funs numbers s c) (argument_bounds funs numbers args c)
       go true h = at_most_next _ _ _ h (beside_right (state_bound funs numbers s c) (argument_bounds funs numbers args c) (arguments_capped funs numbers args c))
       go false h = both_at_most _ _ _ _ (at_most_same (state_bound funs numbers s c)) h
+
+  -- and what stands as the argument of a parameter can hold no more than all arguments
+  pub argument_at_most : (args : ArgumentTrees) (u : ℕ) (c : Context) → state_bound funs numbers (argument_at args u) c ⊑ argument_bounds funs numbers args c
+  argument_at_most no_arguments u c = at_most_same (Some 0)
+  argument_at_most (argument_before x t s args) u c = go (eqb u x) (argument_at_most args u c)
+    where
+      go : (b : Bool) → state_bound funs numbers (argument_at args u) c ⊑ argument_bounds funs numbers args c
+          → state_bound funs numbers (if b then s else argument_at args u) c ⊑ both (state_bound funs numbers s c) (argument_bounds funs numbers args c)
+      go true h = beside_left (state_bound funs numbers s c) (argument_bounds funs numbers args c) (state_capped funs numbers s c)
+      go false h = at_most_next _ _ _ h (beside_right (state_bound funs numbers s c) (argument_bounds funs numbers args c) (arguments_capped funs numbers args c))
 
   -- a name and what is finished hold nothing
   plain_nothing : (s : StateTree) (c : Context) → is_plain s ≡ true → state_bound funs numbers s c ≡ Some 0

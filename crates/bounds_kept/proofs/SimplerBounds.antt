@@ -11,13 +11,13 @@ use Rattle.core_term.specs.CoreTerm.{CoreBody, CoreProgram}
 use Rattle.core_term.specs.Inert.{is_inert_fun}
 use Rattle.core_term.specs.Typing.{Context, with_name}
 use Rattle.core_term.proofs.TypedRuns.{AreStreams}
-use Rattle.delta_state.specs.StateTree.{StateTree, free_in_state}
+use Rattle.delta_state.specs.StateTree.{StateTree, var_state, cat_state, let_cat_state, free_in_state}
 use Rattle.delta_state.specs.StateTyping.{HasStateType, context_of_arguments}
 use Rattle.delta_state.specs.Settled.{is_settled}
 use Rattle.delta_state.specs.Stands.{input_type, context_after, output_left, depth_after}
 use Rattle.delta_state.specs.MachineView.{input_of}
 use Rattle.state_steps.proofs.Seeing.{Sees}
-use Rattle.state_rewriting.specs.Rewriting.{Rewritten, finished, unused, unused_pair, unused_row, unused_argument, alias, pair, renamed, frames, Simpler, SimplerBy, as_it_is, one_more, composed, without_argument}
+use Rattle.state_rewriting.specs.Rewriting.{Rewritten, finished, unused, unused_pair, unused_row, unused_argument, alias, pair, renamed, frames, returned, Simpler, SimplerBy, as_it_is, one_more, composed, without_argument, row}
 use Rattle.state_rewriting.proofs.HiddenNames.{without_name, let_facts, without_parts, without_row}
 use Rattle.state_rewriting.proofs.FittingParts.{fits}
 use Rattle.state_rewriting.proofs.BindingsLeftOut.{NoOther}
@@ -29,10 +29,10 @@ use Rattle.state_bounds.proofs.BoundOrder.{at_most_same, at_most_next, both_at_m
 use Rattle.state_bounds.proofs.StateStreams.{state_streams}
 use Rattle.state_bounds.proofs.StatesWithMoreFacts.{Roomy, state_at_most}
 use Rattle.bounds_kept.specs.Laws.{SimplerHoldsNoMore, SimplerKeepsBound, SimplerStaysBelow, SimplerIsWithin}
-use Rattle.bounds_kept.proofs.CappedBounds.{beside_left, beside_right, state_capped}
+use Rattle.bounds_kept.proofs.CappedBounds.{beside_left, beside_right, state_capped, arguments_capped}
 use Rattle.bounds_kept.proofs.LowerParts.{LowersLocally, lowers}
 use Rattle.bounds_kept.proofs.NamesPutIn.{alias_lowers, pair_lowers}
-use Rattle.bounds_kept.proofs.ArgumentBounds.{roomy_without, roomy_composed, fewer_at_most, composed_at_most}
+use Rattle.bounds_kept.proofs.ArgumentBounds.{roomy_without, roomy_composed, fewer_at_most, argument_at_most, composed_at_most}
 
 -- a context that has what another has of names that are streams there has their very types
 seen_is_roomy : (xs : List ℕ) (c e : Context) → AreStreams c xs → Sees xs c e → Roomy xs c e
@@ -62,12 +62,16 @@ module _ (funs : List CoreBody) (counts : ℕ → Bool) where
     rewriting_holds r a b (alias {s = s} {y = y} {z = z} {a = p} {b = q} h) c t i = alias_lowers funs counts numbers y z c r s p q h t i
     rewriting_holds r a b (pair {x = x} {y = y} {z = z} {a = p} {b = q} n m h) c t i = pair_lowers funs counts numbers x y z c r p q n m h t i
     rewriting_holds r a b (renamed {s = s} {x = x}) c t i = beside_left (state_bound funs numbers b c) (Some 0) (state_capped funs numbers b c)
+    rewriting_holds r a b (row {s = s} {w = w} {x = x} {y = y} {l = l} e n m) c t i =
+        beside_left (state_bound funs numbers b c) (state_bound funs numbers (let_cat_state x y w (cat_state (var_state x) l)) (with_name w s (place_let w (free_in_state b) true c.order) c)) (state_capped funs numbers b c)
     rewriting_holds r a b (frames {args = args} {inner = inner} {a = q} p o) c t i =
         let outer = context_of_arguments c args in
         let within = context_of_arguments outer inner in
         both_at_most _ _ _ _ (composed_at_most funs numbers args inner c p o)
         (at_most_next _ _ _ (state_at_most funs numbers q within (context_of_arguments c (composed args inner)) (roomy_composed args inner c (free_in_state q) p))
         (beside_right (argument_bounds funs numbers inner outer) (state_bound funs numbers q within) (state_capped funs numbers q within)))
+    rewriting_holds r a b (returned {args = args} {u = u} m) c t i =
+        at_most_next _ _ _ (argument_at_most funs numbers args u c) (beside_left (argument_bounds funs numbers args c) (Some 0) (arguments_capped funs numbers args c))
 
     -- so the rewritings lower the bound locally, without names
     rewritings_lower : LowersLocally funs counts numbers NoOther [] Rewritten

@@ -8,7 +8,7 @@ use Rattle.core_term.proofs.Sides.{and_first, and_second, or_split, eqb-same}
 use Rattle.delta_state.specs.StateTree.{StateTree, ArgumentTrees, sink, var_state, no_arguments, argument_before, argument_names, argument_at}
 use Rattle.kept_state.specs.KeptNames.{bound_in_state, bound_in_arguments}
 use Rattle.state_rewriting.specs.Rewriting.{is_plain, are_plain, names_passed, at_most_once, stand_once, passed_on, composed, without_argument}
-use Rattle.names_kept.proofs.NameCounts.{times, times_both, Fewer, fewer_same, fewer_next, fewer_both, fewer_behind, fewer_than_more, fewer_right}
+use Rattle.names_kept.proofs.NameCounts.{times, times_both, Fewer, fewer_same, fewer_next, fewer_both, fewer_behind, fewer_than_more, fewer_left, fewer_right}
 use Rattle.names_kept.proofs.NoWorseStates.{IsWell, AreWell}
 
 -- without those of a parameter there are no more parameters,
@@ -43,8 +43,8 @@ pub composed_names : (args inner : ArgumentTrees) → argument_names (composed a
 composed_names args no_arguments = refl
 composed_names args (argument_before x t s inner) = ap (λ us. x ∷ us) (composed_names args inner)
 
--- what stands as the argument of a parameter is well made
-well_at : (args : ArgumentTrees) (u : ℕ) → AreWell args → IsWell (argument_at args u)
+-- what stands as the argument of a parameter is well made,
+pub well_at : (args : ArgumentTrees) (u : ℕ) → AreWell args → IsWell (argument_at args u)
 well_at no_arguments u w = record { bodies = tt; pasts = tt; waits = tt }
 well_at (argument_before x t s args) u w = go (eqb u x) (well_at args u (record { bodies = w.bodies.1; pasts = w.pasts.1; waits = w.waits.1 }))
   where
@@ -52,7 +52,16 @@ well_at (argument_before x t s args) u w = go (eqb u x) (well_at args u (record 
     go true v = record { bodies = w.bodies.0; pasts = w.pasts.0; waits = w.waits.0 }
     go false v = v
 
--- so is what is passed on,
+-- and binds no name more often than all arguments do
+pub fewer_at : (args : ArgumentTrees) (u : ℕ) → Fewer (bound_in_state (argument_at args u)) (bound_in_arguments args)
+fewer_at no_arguments u = fewer_same []
+fewer_at (argument_before x t s args) u = go (eqb u x) (fewer_at args u)
+  where
+    go : (b : Bool) → Fewer (bound_in_state (argument_at args u)) (bound_in_arguments args) → Fewer (bound_in_state (if b then s else argument_at args u)) (bound_in_arguments (argument_before x t s args))
+    go true f = fewer_left (bound_in_state s) (bound_in_arguments args)
+    go false f = fewer_next f (fewer_right (bound_in_state s) (bound_in_arguments args))
+
+-- so what is passed on is well made,
 passed_well : (args : ArgumentTrees) (s : StateTree) → is_plain s ≡ true → AreWell args → IsWell (passed_on args s)
 passed_well args (sink t) p w = record { bodies = tt; pasts = tt; waits = tt }
 passed_well args (var_state u) p w = well_at args u w

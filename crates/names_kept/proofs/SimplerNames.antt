@@ -2,15 +2,15 @@
 use Rattle.std.proofs.Common.{◌≡◌, ℕ, true, List, [], ◌∷◌, ◌++◌, refl, subst, sym}
 use Rattle.stream_type.specs.StreamType.{StreamType}
 use Rattle.bunch.specs.BunchTree.{leaf_names}
-use Rattle.core_term.specs.FreeNames.{is_distinct}
+use Rattle.core_term.specs.FreeNames.{bound_names, is_distinct}
 use Rattle.delta_state.specs.StateTree.{StateTree, ArgumentTrees, frame_state, argument_names}
 use Rattle.kept_state.specs.KeptNames.{bound_in_state, bound_in_arguments, IsTidy}
-use Rattle.state_rewriting.specs.Rewriting.{Rewritten, finished, unused, unused_pair, unused_row, unused_argument, alias, pair, renamed, frames, SimplerBy, as_it_is, one_more, IsAlias, IsPair, composed, without_argument, are_plain, stand_once, names_passed}
+use Rattle.state_rewriting.specs.Rewriting.{Rewritten, finished, unused, unused_pair, unused_row, unused_argument, alias, pair, renamed, frames, returned, SimplerBy, as_it_is, one_more, IsAlias, IsPair, composed, without_argument, are_plain, stand_once, names_passed, row}
 use Rattle.state_rewriting.proofs.SimplerStates.{simpler_stands_for}
 use Rattle.names_kept.specs.Laws.{SimplerIsTidy, SimplerStaysTidy}
 use Rattle.names_kept.proofs.NameCounts.{Fewer, fewer_distinct, fewer_same, fewer_nothing, fewer_next, fewer_both, fewer_behind, fewer_than_more, fewer_left, fewer_right}
 use Rattle.names_kept.proofs.NoWorseStates.{IsWell, AreWell, NoWorse, replaced_no_worse, alias_no_worse, pair_no_worse}
-use Rattle.names_kept.proofs.NoWorseArguments.{fewer_names, fewer_bound, fewer_well, composed_names, composed_well, composed_fewer}
+use Rattle.names_kept.proofs.NoWorseArguments.{fewer_names, fewer_bound, fewer_well, composed_names, composed_well, composed_fewer, well_at, fewer_at}
 
 -- a call less the arguments of a parameter
 dropped_well : (u : ℕ) (args : ArgumentTrees) (a : StateTree) → IsWell (frame_state args a) → IsWell (frame_state (without_argument u args) a)
@@ -46,7 +46,9 @@ rewriting_no_worse r a b (pair {x = x} {y = y} {z = z} n m h) =
     let k = replaced_no_worse (x ∷ (y ∷ (z ∷ []))) (IsPair x y z) (pair_no_worse x y z) h in
     record { fewer = fewer_behind x (fewer_behind y k.fewer); well = λ w. let v = k.well (record { bodies = w.bodies; pasts = w.pasts; waits = w.waits }) in record { bodies = v.bodies; pasts = v.pasts; waits = v.waits } }
 rewriting_no_worse r a b (renamed {x = x}) = record { fewer = fewer_than_more x (fewer_left (bound_in_state b) []); well = λ w. record { bodies = w.bodies.0; pasts = w.pasts.0; waits = w.waits.0 } }
+rewriting_no_worse r a b (row {w = u} {x = x} {y = y} {l = l} e n m) = record { fewer = fewer_than_more u (fewer_left (bound_in_state b) (x ∷ (y ∷ bound_names l.term))); well = λ w. record { bodies = w.bodies.0; pasts = w.pasts.0; waits = w.waits.0 } }
 rewriting_no_worse r a b (frames {args = args} {inner = inner} {a = q} p o) = record { fewer = composed_fewer args inner p o; well = joined_well args inner q p }
+rewriting_no_worse r a b (returned {args = args} {u = u} m) = record { fewer = fewer_at args u; well = λ w. well_at args u (record { bodies = w.bodies.0; pasts = w.pasts.0; waits = w.waits.0 }) }
 
 -- nor do any number of rewritings
 often_no_worse : {r : StreamType} {a b : StateTree} → SimplerBy r a b → NoWorse a b

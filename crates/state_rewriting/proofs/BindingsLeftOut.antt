@@ -81,7 +81,7 @@ module _ (funs : List CoreBody) (counts : ℕ → Bool) where
       }
 
 -- a level is no greater further in
-deeper_up : (c : Bool) (l : ℕ) → l ≤ deeper c l
+pub deeper_up : (c : Bool) (l : ℕ) → l ≤ deeper c l
 deeper_up true l = omega arith
 deeper_up false l = omega arith
 
@@ -115,7 +115,7 @@ same_lighter w a a' = record {
 }
 
 -- what is bound is lighter than the let whose body is its name; v says whether it is a name itself
-bound_alone : (v : Bool) (a a' b b' : Run) → b ≡ quiet a.out → b' ≡ quiet a'.out → Lighter false v (let_run v a b) (let_run v a' b') a a'
+pub bound_alone : (v : Bool) (a a' b b' : Run) → b ≡ quiet a.out → b' ≡ quiet a'.out → Lighter false v (let_run v a b) (let_run v a' b') a a'
 bound_alone v a a' b b' e e' =
     lighter_from (ap (let_run v a) (sym e)) (ap (let_run v a') (sym e'))
     (let l = deeper_up false a.level in

@@ -5,7 +5,7 @@ use Rattle.std.proofs.lemmas.List.Elements.{All-nil, All-append}
 use Rattle.stream_type.specs.StreamType.{StreamType}
 use Rattle.delta_state.specs.StateTree.{LaterTree, StateTree, ArgumentTrees, sink, var_state, no_arguments, argument_before, argument_at, laters_of, laters_in}
 use Rattle.delta_state.proofs.WholeStates.{all_left, all_right}
-use Rattle.state_rewriting.specs.Rewriting.{Replaced, ReplacedArgument, here, in_left, in_right, in_first, in_bound, in_let, in_let_par, in_let_cat, in_arguments, in_body, at_first, at_other, IsAlias, IsPair, alias_for, pair_for, are_plain, composed, without_argument, Rewritten, finished, unused, unused_pair, unused_row, unused_argument, alias, pair, renamed, frames}
+use Rattle.state_rewriting.specs.Rewriting.{Replaced, ReplacedArgument, here, in_left, in_right, in_first, in_bound, in_let, in_let_par, in_let_cat, in_arguments, in_body, at_first, at_other, IsAlias, IsPair, alias_for, pair_for, are_plain, composed, without_argument, Rewritten, finished, unused, unused_pair, unused_row, unused_argument, alias, pair, renamed, frames, returned, row}
 
 module _ (P : LaterTree → Type 0) where
   -- of two lists in a row the first may give way to another one,
@@ -79,6 +79,8 @@ module _ (P : LaterTree → Type 0) where
   rewritten_laters r a b (alias {y = y} {z = z} h) k = replaced_laters (y ∷ z ∷ []) (IsAlias y z) (alias_laters y z) h k
   rewritten_laters r a b (pair {x = x} {y = y} {z = z} n m h) k = replaced_laters (x ∷ y ∷ z ∷ []) (IsPair x y z) (pair_laters x y z) h k
   rewritten_laters r a b renamed k = all_left P (laters_of b) [] k
+  rewritten_laters r a b (row {l = l} e n m) k = all_left P (laters_of b) (l ∷ []) k
   rewritten_laters r a b (frames {args = args} {inner = inner} {a = q} p o) k =
       All-append P (laters_in (composed args inner)) (laters_of q) (composed_laters args inner p (all_left P (laters_in args) (laters_in inner ++ laters_of q) k))
       (all_right P (laters_in inner) (laters_of q) (all_right P (laters_in args) (laters_in inner ++ laters_of q) k))
+  rewritten_laters r a b (returned {args = args} {u = u} m) k = argument_laters args u (all_left P (laters_in args) [] k)

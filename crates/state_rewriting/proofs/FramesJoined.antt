@@ -94,7 +94,7 @@ passed_before args c _ q m n h x y i j = absurd (true≢false (sym m))
 
 module _ (funs : List CoreBody) (counts : ℕ → Bool) where
   -- the argument of a parameter has its type,
-  argument_typed : (args : ArgumentTrees) (c : Context) (u : ℕ) (t : StreamType) → HaveArgumentTypes funs counts c args → marks_of_arguments args u ≡ Some t → HasStateType funs counts c (argument_at args u) t
+  pub argument_typed : (args : ArgumentTrees) (c : Context) (u : ℕ) (t : StreamType) → HaveArgumentTypes funs counts c args → marks_of_arguments args u ≡ Some t → HasStateType funs counts c (argument_at args u) t
   argument_typed no_arguments c u t h e = absurd (cc e)
   argument_typed (argument_before x q a args) c u t h e = go (eqb u x) e (argument_typed args c u t h.1)
     where
@@ -103,7 +103,7 @@ module _ (funs : List CoreBody) (counts : ℕ → Bool) where
       go false e f = f e
 
   -- and is settled
-  argument_settled : (args : ArgumentTrees) (u : ℕ) (t : StreamType) → are_settled args ≡ true → marks_of_arguments args u ≡ Some t → is_settled (argument_at args u) t ≡ true
+  pub argument_settled : (args : ArgumentTrees) (u : ℕ) (t : StreamType) → are_settled args ≡ true → marks_of_arguments args u ≡ Some t → is_settled (argument_at args u) t ≡ true
   argument_settled no_arguments u t i e = absurd (cc e)
   argument_settled (argument_before x q a args) u t i e = go (eqb u x) e (argument_settled args u t (and_second (is_settled a q) (are_settled args) i))
     where
@@ -153,18 +153,18 @@ module _ (funs : List CoreBody) (counts : ℕ → Bool) where
 
 module _ (funs : ℕ → CoreBody) (T : NameTypes) where
   -- the calls of a parameter's argument
-  abbrev calls_at : ArgumentTrees → Environment → ℕ → ℕ
+  abbrev pub calls_at : ArgumentTrees → Environment → ℕ → ℕ
   calls_at no_arguments d u = 0
   calls_at (argument_before x t a args) d u = if eqb u x then (run_state funs a T t d).calls else calls_at args d u
 
   -- those of a list's
-  abbrev calls_passed : ArgumentTrees → Environment → List ℕ → ℕ
+  abbrev pub calls_passed : ArgumentTrees → Environment → List ℕ → ℕ
   calls_passed args d [] = 0
   calls_passed args d (u ∷ us) = calls_at args d u + calls_passed args d us
 
   module _ (d : Environment) where
     -- what a parameter's argument gives is what comes on the parameter
-    out_at : (args : ArgumentTrees) (u : ℕ) (t : StreamType) → marks_of_arguments args u ≡ Some t → (run_state funs (argument_at args u) T t d).out ≡ value_at eps_emp (argument_names args) (run_arguments funs args T d).outs u
+    pub out_at : (args : ArgumentTrees) (u : ℕ) (t : StreamType) → marks_of_arguments args u ≡ Some t → (run_state funs (argument_at args u) T t d).out ≡ value_at eps_emp (argument_names args) (run_arguments funs args T d).outs u
     out_at no_arguments u t e = absurd (cc e)
     out_at (argument_before x q a args) u t e = go (eqb u x) e (out_at args u t)
       where
@@ -174,7 +174,7 @@ module _ (funs : ℕ → CoreBody) (T : NameTypes) where
         go false e f = f e
 
     -- its calls
-    calls_are : (args : ArgumentTrees) (u : ℕ) (t : StreamType) → marks_of_arguments args u ≡ Some t → (run_state funs (argument_at args u) T t d).calls ≡ calls_at args d u
+    pub calls_are : (args : ArgumentTrees) (u : ℕ) (t : StreamType) → marks_of_arguments args u ≡ Some t → (run_state funs (argument_at args u) T t d).calls ≡ calls_at args d u
     calls_are no_arguments u t e = absurd (cc e)
     calls_are (argument_before x q a args) u t e = go (eqb u x) e (calls_are args u t)
       where
@@ -184,7 +184,7 @@ module _ (funs : ℕ → CoreBody) (T : NameTypes) where
         go false e f = f e
 
     -- its level is at most that of all
-    level_at : (args : ArgumentTrees) (u : ℕ) (t : StreamType) → marks_of_arguments args u ≡ Some t → (run_state funs (argument_at args u) T t d).level ≤ (run_arguments funs args T d).level
+    pub level_at : (args : ArgumentTrees) (u : ℕ) (t : StreamType) → marks_of_arguments args u ≡ Some t → (run_state funs (argument_at args u) T t d).level ≤ (run_arguments funs args T d).level
     level_at no_arguments u t e = absurd (cc e)
     level_at (argument_before x q a args) u t e = go (eqb u x) e (level_at args u t)
       where
@@ -303,7 +303,7 @@ plain_calls funs _ T t d p = absurd (true≢false (sym p))
 
 module _ (funs : List CoreBody) (typed : All (IsTypedBody funs) funs) (T : NameTypes) (d e : Environment) where
   -- what is passed on makes no more calls than all arguments, and as more comes its calls rise no more
-  record Share (args : ArgumentTrees) (us : List ℕ) : Type 0 where
+  pub record Share (args : ArgumentTrees) (us : List ℕ) : Type 0 where
     pub calls : calls_passed (fun_at funs) T args d us ≤ (run_arguments (fun_at funs) args T d).calls
     pub rise : calls_passed (fun_at funs) T args e us + (run_arguments (fun_at funs) args T d).calls ≤ (run_arguments (fun_at funs) args T e).calls + calls_passed (fun_at funs) T args d us
 
@@ -313,7 +313,7 @@ module _ (funs : List CoreBody) (typed : All (IsTypedBody funs) funs) (T : NameT
   none_passed env (u ∷ us) = let k = none_passed env us in omega (arith, k)
 
   -- so it is where each argument that may make calls is passed on once at most
-  shares : (args : ArgumentTrees) (c : Context) → Extends c T no_pasts → HaveArgumentTypes funs (is_inert_fun funs) c args → Streams T d → Continues T d e → (us : List ℕ) → stand_once args us ≡ true → Share args us
+  pub shares : (args : ArgumentTrees) (c : Context) → Extends c T no_pasts → HaveArgumentTypes funs (is_inert_fun funs) c args → Streams T d → Continues T d e → (us : List ℕ) → stand_once args us ≡ true → Share args us
   shares no_arguments c w t s g us o = let k = none_passed d us in let l = none_passed e us in record { calls = omega (arith, k); rise = omega (arith, k, l) }
   shares (argument_before x q a args) c w t s g us o =
       let grows : (run_state (fun_at funs) a T q d).calls ≤ (run_state (fun_at funs) a T q e).calls = (state_run_grows funs typed a c T q w t.0 d e s g).calls in

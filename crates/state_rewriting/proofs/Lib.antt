@@ -4,12 +4,15 @@ pub mod HiddenNames
 pub mod FittingParts
 pub mod LighterParts
 pub mod BindingsLeftOut
+pub mod MarksGiven
+pub mod RowsLeftOut
 pub mod ArgumentsLeftOut
 pub mod NamesServing
 pub mod NamesThatServe
 pub mod AliasPutIn
 pub mod PairPutIn
 pub mod FramesJoined
+pub mod ArgumentsReturned
 pub mod CodeKept
 pub mod SimplerStates
 pub mod RewritingsInside

@@ -24,15 +24,17 @@ use Rattle.delta_state.proofs.GrowingStates.{extends_free, streams_of}
 use Rattle.state_steps.proofs.SplitInputs.{first_is_part}
 use Rattle.state_steps.proofs.SourceSteps.{le_trans, pred_le}
 use Rattle.state_steps.proofs.ProgramSteps.{extends_after}
-use Rattle.state_rewriting.specs.Rewriting.{Rewritten, finished, unused, unused_pair, unused_row, unused_argument, alias, pair, renamed, frames, Simpler, SimplerBy, as_it_is, one_more}
+use Rattle.state_rewriting.specs.Rewriting.{Rewritten, finished, unused, unused_pair, unused_row, unused_argument, alias, pair, renamed, frames, returned, Simpler, SimplerBy, as_it_is, one_more, row}
 use Rattle.state_rewriting.specs.Laws.{SimplerKeepsType, SimplerKeepsRun, SimplerKeepsDepth, SimplerStandsFor, SimplerStandsAfter}
 use Rattle.state_rewriting.proofs.FittingParts.{Fits, FitsLocally, fits}
 use Rattle.state_rewriting.proofs.LighterParts.{Lighter, LighterState, LightensLocally, lightens}
 use Rattle.state_rewriting.proofs.BindingsLeftOut.{NoOther, finished_fits, unused_fits, unused_pair_fits, unused_row_fits, renamed_fits, finished_lighter, unused_lighter, unused_pair_lighter, unused_row_lighter, renamed_lighter}
+use Rattle.state_rewriting.proofs.RowsLeftOut.{row_fits, row_lighter}
 use Rattle.state_rewriting.proofs.AliasPutIn.{alias_fits, alias_lighter}
 use Rattle.state_rewriting.proofs.PairPutIn.{pair_fits, pair_lighter}
 use Rattle.state_rewriting.proofs.ArgumentsLeftOut.{dropped_fits, dropped_lighter}
 use Rattle.state_rewriting.proofs.FramesJoined.{frames_fit, frames_lighter}
+use Rattle.state_rewriting.proofs.ArgumentsReturned.{returned_fits, returned_lighter}
 use Rattle.state_rewriting.proofs.CodeKept.{replaced_laters, rewritten_laters}
 
 module _ (funs : List CoreBody) (counts : ℕ → Bool) where
@@ -46,7 +48,9 @@ module _ (funs : List CoreBody) (counts : ℕ → Bool) where
   rewritten_fits r a b (alias {s = s} {y = y} {z = z} {a = p} {b = q} h) c k t i = alias_fits funs counts y z c r s p q h t i
   rewritten_fits r a b (pair {x = x} {y = y} {z = z} {a = p} {b = q} n m h) c k t i = pair_fits funs counts x y z c r p q n m h t i
   rewritten_fits r a b (renamed {s = s} {x = x}) c k t i = renamed_fits funs counts c r s x b t i
+  rewritten_fits r a b (row {s = s} {w = w} {x = x} {y = y} {l = l} e n m) c k t i = row_fits funs counts c r s w x y b l e t i
   rewritten_fits r a b (frames {args = args} {inner = inner} {a = q} p o) c k t i = frames_fit funs counts c r args inner q p t i
+  rewritten_fits r a b (returned {args = args} {u = u} m) c k t i = returned_fits funs counts c r args u t i
 
   -- so the rewritings fit locally, without names
   pub rewritings_fit : FitsLocally funs counts [] Rewritten NoOther (λ c. Unit {0})
@@ -75,7 +79,9 @@ module _ (funs : List CoreBody) (typed : All (IsTypedBody funs) funs) where
   rewritten_lighter r a b (alias {s = u} {y = y} {z = z} {a = p} {b = q} h) c T w t d e s g k l = alias_lighter funs typed y z r u p q h c T w t d e s g
   rewritten_lighter r a b (pair {x = x} {y = y} {z = z} {a = p} {b = q} n m h) c T w t d e s g k l = pair_lighter funs typed x y z r p q n m h c T w t d e s g
   rewritten_lighter r a b (renamed {s = u} {x = x}) c T w t d e s g k l = renamed_lighter funs typed r u x b c T t d e
+  rewritten_lighter r a b (row {s = u} {w = v} {x = x} {y = y} {l = q} i n m) c T w t d e s g k l = row_lighter funs typed r u v x y b q i n m c T w t d e s g
   rewritten_lighter r a b (frames {args = args} {inner = inner} {a = q} p o) c T w t d e s g k l = frames_lighter funs typed r args inner q p o c T w t d e s g
+  rewritten_lighter r a b (returned {args = args} {u = u} m) c T w t d e s g k l = returned_lighter funs typed r args u c T w t d e s g
 
   -- so they lighten locally, without names
   rewritings_lighten : LightensLocally funs [] Rewritten (λ d. Unit {0})

@@ -14,9 +14,11 @@
 use Rattle.std.specs.Prelude.{ℕ, ◌≡◌, ◌≢◌, ◌==◌, Bool, true, false, ◌&&◌, ◌||◌, not, if◌then◌else◌, List, [], ◌∷◌}
 use Rattle.stream_type.specs.StreamType.{StreamType, null_of}
 use Rattle.bunch.specs.Names.{holds}
+use Rattle.core_term.specs.CoreTerm.{var_term}
 use Rattle.core_term.specs.FreeNames.{without}
 use Rattle.core_term.specs.Parts.{par_left, par_right, cat_first}
-use Rattle.delta_state.specs.StateTree.{LaterTree, StateTree, ArgumentTrees, sink, var_state, par_state, cat_state, let_state, let_par_state, let_cat_state, frame_state, no_arguments, argument_before, argument_at, free_in_state}
+use Rattle.delta_state.specs.StateTree.{LaterTree, StateTree, ArgumentTrees, sink, var_state, par_state, cat_state, let_state, let_par_state, let_cat_state, frame_state, no_arguments, argument_before, argument_names, argument_at, free_in_state}
+use Rattle.state_rewriting.specs.MarksAtOnce.{marks_at_once}
 
 module _ (names : List ℕ) (R : StreamType → StateTree → StateTree → Type 0) where
   mutual
@@ -126,10 +128,17 @@ pub data Rewritten : StreamType → StateTree → StateTree → Type 0 where
       → Rewritten r (let_par_state x y z a) (let_par_state x y z b)
   -- a binding whose name is all that follows
   renamed : {r s : StreamType} {x : ℕ} {a : StateTree} → Rewritten r (let_state x s a (var_state x)) a
+  -- a let whose name is taken apart and put together again. What is bound gives the mark between the parts at once,
+  -- and something comes before it; else the mark may come later than the pair would give it
+  row : {r s : StreamType} {w x y : ℕ} {a : StateTree} {l : LaterTree} → l.term ≡ var_term y → null_of (cat_first s) ≡ false → marks_at_once a ≡ true
+      → Rewritten r (let_state w s a (let_cat_state x y w (cat_state (var_state x) l))) a
   -- a call that is the whole body of another one: both become one. Its arguments are names or finished, and
   -- no argument outside that is neither is passed on twice, since it would then run twice
   frames : {r : StreamType} {args inner : ArgumentTrees} {a : StateTree} → are_plain inner ≡ true → stand_once args (names_passed inner) ≡ true
       → Rewritten r (frame_state args (frame_state inner a)) (frame_state (composed args inner) a)
+  -- a call whose body is the name of one of its parameters: it gives what the argument of that gives, and nothing
+  -- reads the others
+  returned : {r : StreamType} {args : ArgumentTrees} {u : ℕ} → holds u (argument_names args) ≡ true → Rewritten r (frame_state args (var_state u)) (argument_at args u)
 
 -- of a state with this type left, the second is the first with one of its parts rewritten
 abbrev pub Simpler : StreamType → StateTree → StateTree → Type 0

@@ -31,6 +31,11 @@ pub is_maximal-star_of : (ps : List StreamPrefix) (e : StreamPrefix) → is_maxi
 is_maximal-star_of [] e = refl
 is_maximal-star_of (p ∷ ps) e = rw (is_maximal-star_of ps e, ← (and_assoc (is_maximal p) (is_maximal (star_of ps star_done)) (is_maximal e)))
 
+-- what isn't so isn't so beside anything
+pub no_second : (a b : Bool) → b ≡ false → (a && b) ≡ false
+no_second true b e = e
+no_second false b e = refl
+
 -- a star is a prefix where its whole items and its end are
 pub IsPrefix-star_of : (s : StreamType) (ps : List StreamPrefix) (e : StreamPrefix) → (IsPrefix (star s) (star_of ps star_done) × IsPrefix (star s) e) ↔ IsPrefix (star s) (star_of ps e)
 IsPrefix-star_of s [] e = (λ h. h.1, λ h. (tt, h))

@@ -1,6 +1,6 @@
 //! Which trees are prefixes of a type, which of these is the empty one, and which are maximal.
 
-ghost use Rattle.std.specs.Prelude.{◌≡◌, ◌↔◌, map, IfOk, IsTrue};
+ghost use Rattle.std.specs.Prelude.{◌≡◌, ◌↔◌, map, false, IfOk, IsTrue};
 ghost use Rattle.stream_type.specs.StreamType.{type_of, star};
 ghost use Rattle.stream_prefix.specs.StreamPrefix.{emp, is_maximal, star_done, IsPrefix};
 ghost use Rattle.stream_prefix.specs.Tree.{prefix_of, end_of, star_of};
@@ -30,16 +30,38 @@ pub fn empty(alloc: Global, t: &Ty) -> Result<Prefix, Memory>
 }
 
 /// Whether the stream is whole, so that nothing more can come: `is_maximal` in
-/// `specs/StreamPrefix.antt`. It means this where `p` is a prefix of some type.
+/// `specs/StreamPrefix.antt`. It means this where `p` is a prefix of some type. What came first of a
+/// stream that goes on isn't looked at.
+pub fn maximal(p: &Prefix) -> bool
+    ensures { result ≡ is_maximal (prefix_of p.now) }
+{
+    !goes_on(p) && lacks_nothing(p)
+}
+
+// Whether more is to come where the stream stands now, whatever came before.
+#[tactic(auto, using(crate::proofs::Rows::rows, crate::proofs::Rows::no_second))]
+fn goes_on(p: &Prefix) -> bool
+    ensures { IsTrue result → is_maximal (prefix_of p.now) ≡ false }
+{
+    match p {
+        Prefix::EpsEmp | Prefix::OneFull | Prefix::IntFull(_) => false,
+        Prefix::Par(p, q) => goes_on(p) || goes_on(q),
+        Prefix::CatBoth(_, p) | Prefix::Inl(p) | Prefix::Inr(p) => goes_on(p),
+        Prefix::Star(_, end) => !is_done(end),
+        Prefix::OneEmp | Prefix::IntEmp | Prefix::CatFst(_) | Prefix::SumEmp => true,
+    }
+}
+
+// Whether no part of the stream lacks anything.
 #[cycle(maximal)]
 #[tactic(auto, using(crate::proofs::Rows::rows))]
-pub fn maximal(p: &Prefix) -> bool
+fn lacks_nothing(p: &Prefix) -> bool
     ensures { result ≡ is_maximal (prefix_of p.now) }
 {
     match p {
         Prefix::EpsEmp | Prefix::OneFull | Prefix::IntFull(_) => true,
-        Prefix::Par(p, q) | Prefix::CatBoth(p, q) => maximal(p) && maximal(q),
-        Prefix::Inl(p) | Prefix::Inr(p) => maximal(p),
+        Prefix::Par(p, q) | Prefix::CatBoth(p, q) => lacks_nothing(p) && lacks_nothing(q),
+        Prefix::Inl(p) | Prefix::Inr(p) => lacks_nothing(p),
         Prefix::Star(items, end) => all_maximal(items) && is_done(end),
         Prefix::OneEmp | Prefix::IntEmp | Prefix::CatFst(_) | Prefix::SumEmp => false,
     }
@@ -51,7 +73,7 @@ fn all_maximal(items: &[Prefix]) -> bool
     ensures { result ≡ is_maximal (star_of (map prefix_of items.now) star_done) }
 {
     for item in items {
-        if !maximal(item) {
+        if !lacks_nothing(item) {
             return false;
         }
     }

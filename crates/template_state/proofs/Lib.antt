@@ -5,3 +5,4 @@ mod PassedOnce
 mod UsedArguments
 mod Joining
 mod Settling
+mod Repeating

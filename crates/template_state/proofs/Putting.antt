@@ -1,11 +1,13 @@
 -- A name that is put in at parts of a state, for any type that is left.
-use Rattle.std.proofs.Common.{◌≡◌, ℕ, false, ◌||◌, List, [], ◌∷◌, eqb, ap₂, subst, sym}
+use Rattle.std.proofs.Common.{◌≡◌, ℕ, true, false, true≢false, ◌||◌, List, [], ◌∷◌, eqb, ap, ap₂, subst, sym}
+use Rattle.std.proofs.lemmas.Bool.{eqb-true}
 use Rattle.stream_type.specs.StreamType.{StreamType}
 use Rattle.bunch.specs.Names.{holds}
 use Rattle.core_term.specs.Parts.{par_left, par_right, cat_first}
 use Rattle.delta_state.specs.StateTree.{LaterTree, StateTree, ArgumentTrees, par_state, cat_state, let_state, let_par_state, let_cat_state, frame_state, no_arguments, argument_before, var_state}
 use Rattle.state_rewriting.specs.Rewriting.{ReplacedBy, ReplacedArgumentsBy, as_it_is, as_they_are, one_more, here, IsAlias, IsPair, alias_for, pair_for}
 use Rattle.state_rewriting.proofs.RewritingsInside.{by_same, by_then, by_par, by_cat, by_let, by_bound, by_let_par, by_let_cat, by_arguments, by_before}
+use Rattle.template_state.specs.Rows.{is_name}
 
 pub put_nothing : {names : List ℕ} {R : StreamType → StateTree → StateTree → Type 0} {a b : StateTree} → a ≡ b → (r : StreamType) → ReplacedBy names R r a b
 put_nothing e r = by_same e
@@ -56,9 +58,15 @@ apart_two x y z f g = ap₂ (λ a b. a || (b || false)) f g
 pub apart_three : (u x y z : ℕ) → eqb u x ≡ false → eqb u y ≡ false → eqb u z ≡ false → holds u (x ∷ (y ∷ (z ∷ []))) ≡ false
 apart_three u x y z f g h = ap₂ (λ a b. a || b) f (ap₂ (λ a b. a || (b || false)) g h)
 
+-- a state that passes the test is the name
+pub named_state : (s : StateTree) (x : ℕ) → is_name s x ≡ true → s ≡ var_state x
+named_state (var_state u) x h = ap var_state (eqb-true u x h)
+named_state _ x h = absurd (true≢false (sym h))
+
 -- the pair itself
-pub put_pair_name : {x y z : ℕ} {a b : StateTree} → a ≡ var_state x → b ≡ var_state y → (r : StreamType) → ReplacedBy (x ∷ (y ∷ (z ∷ []))) (IsPair x y z) r (par_state a b) (var_state z)
-put_pair_name {x = x} {y = y} {z = z} e f r = subst (λ q. ReplacedBy (x ∷ (y ∷ (z ∷ []))) (IsPair x y z) r q (var_state z)) (sym (ap₂ par_state e f)) (one_more as_it_is (here pair_for))
+pub put_pair_name : {x y z : ℕ} {a b : StateTree} → true ≡ is_name a x → true ≡ is_name b y → (r : StreamType) → ReplacedBy (x ∷ (y ∷ (z ∷ []))) (IsPair x y z) r (par_state a b) (var_state z)
+put_pair_name {x = x} {y = y} {z = z} {a = a} {b = b} e f r =
+    subst (λ q. ReplacedBy (x ∷ (y ∷ (z ∷ []))) (IsPair x y z) r q (var_state z)) (sym (ap₂ par_state (named_state a x (sym e)) (named_state b y (sym f)))) (one_more as_it_is (here pair_for))
 
 pub ruleset apart_names = (apart_two, apart_three)
 

@@ -42,12 +42,12 @@ simpler_none = as_they_are
 pub simpler_before : {x : ℕ} {t : StreamType} {a b : StateTree} {args others : ArgumentTrees} → SimplerBy t a b → ReplacedArgumentsBy [] Rewritten args others → ReplacedArgumentsBy [] Rewritten (argument_before x t a args) (argument_before x t b others)
 simpler_before h k = by_before h k
 
--- two and three in turn
+-- two and four in turn
 pub in_turn : {a b e : StateTree} → ((q : StreamType) → SimplerBy q a b) → ((q : StreamType) → SimplerBy q b e) → (q : StreamType) → SimplerBy q a e
 in_turn h k q = by_then (h q) (k q)
 
-pub three_in_turn : {a b e f : StateTree} → ((q : StreamType) → SimplerBy q a b) → ((q : StreamType) → SimplerBy q b e) → ((q : StreamType) → SimplerBy q e f) → (q : StreamType) → SimplerBy q a f
-three_in_turn h k l q = by_then (by_then (h q) (k q)) (l q)
+pub four_in_turn : {a b e f g : StateTree} → ((q : StreamType) → SimplerBy q a b) → ((q : StreamType) → SimplerBy q b e) → ((q : StreamType) → SimplerBy q e f) → ((q : StreamType) → SimplerBy q f g) → (q : StreamType) → SimplerBy q a g
+four_in_turn h k l m q = by_then (by_then (by_then (h q) (k q)) (l q)) (m q)
 
 pub same_at_all : {a b : StateTree} → a ≡ b → (q : StreamType) → SimplerBy q a b
 same_at_all e q = by_same e
@@ -73,4 +73,4 @@ unused_row_at_all n m q = one_more as_it_is (here (unused_row (sym n) (sym m)))
 pub renamed_at_all : {x y : ℕ} {s : StreamType} {a p : StateTree} → p ≡ var_state y → y ≡ x → (q : StreamType) → SimplerBy q (let_state x s a p) a
 renamed_at_all {x = x} {s = s} {a = a} e f q = subst (λ u. SimplerBy q (let_state x s a u) a) (sym (e ∙ ap var_state f)) (one_more as_it_is (here renamed))
 
-pub ruleset settling = (simpler_same, simpler_finished, simpler_par, simpler_cat, simpler_let, simpler_let_par, simpler_let_cat, simpler_frame, simpler_none, simpler_before, in_turn, three_in_turn, same_at_all, alias_at_all, pair_at_all, unused_at_all, unused_pair_at_all, unused_row_at_all, renamed_at_all)
+pub ruleset settling = (simpler_same, simpler_finished, simpler_par, simpler_cat, simpler_let, simpler_let_par, simpler_let_cat, simpler_frame, simpler_none, simpler_before, in_turn, four_in_turn, same_at_all, alias_at_all, pair_at_all, unused_at_all, unused_pair_at_all, unused_row_at_all, renamed_at_all)

@@ -2,3 +2,4 @@
 pub mod Readers
 pub mod Templates
 pub mod Passing
+pub mod Rows

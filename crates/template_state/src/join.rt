@@ -1,9 +1,9 @@
-//! Frames that become one, and arguments that go.
+//! Frames that become one, arguments that go, and arguments that take the place of their frame.
 
 ghost use Rattle.std.specs.Prelude.{◌≡◌, true, IfOk, OnOk};
 ghost use Rattle.bunch.specs.Names.{holds};
 ghost use Rattle.stream_type.specs.StreamType.{StreamType};
-ghost use Rattle.delta_state.specs.StateTree.{argument_at, free_in_state};
+ghost use Rattle.delta_state.specs.StateTree.{argument_names, argument_at, free_in_state};
 ghost use Rattle.state_rewriting.specs.Rewriting.{SimplerBy, is_plain, are_plain, names_passed, passed_on, composed};
 ghost use Rattle.template_state.specs.Readers.{state_in, arguments_in};
 ghost use Rattle.template_state.specs.Passing.{passes_once, IsTakenFrom, ServesAfter, only_used};
@@ -209,12 +209,55 @@ fn drop_arguments(s: &mut Live)
     }
 }
 
-/// A frame whose parts are settled: arguments of parameters that aren't used go, and it becomes one with the
-/// frame that is its body. Its only error is want of memory.
+// Whether a name is one of the parameters.
+fn is_parameter(args: &Arguments, u: Name) -> bool
+    ensures { result ≡ holds u.0 (argument_names (arguments_in args.now)) }
+{
+    match args {
+        Arguments::None => false,
+        Arguments::Before(x, _, _, others) => u.0 == x.0 || is_parameter(others, u),
+    }
+}
+
+// The argument of a parameter, moved out.
+fn move_out(args: &mut Arguments, u: Name) -> Live
+    ensures { state_in result ≡ argument_at (arguments_in args.old) u.0 }
+{
+    match args {
+        Arguments::None => Live::Sink(Ty::Eps),
+        Arguments::Before(x, _, a, others) => {
+            if u.0 == x.0 {
+                mem::replace(&mut **a, Live::Sink(Ty::Eps))
+            } else {
+                move_out(others, u)
+            }
+        }
+    }
+}
+
+// A frame whose body is the name of one of its parameters gives way to the argument of that.
+#[tactic(auto, using(crate::proofs::Joining::joining))]
+fn give_argument(s: &mut Live)
+    ensures { (q : StreamType) → SimplerBy q (state_in s.old) (state_in s.new) }
+{
+    if let Live::Frame(args, b) = s {
+        if let Live::Var(u) = &**b {
+            if is_parameter(args, *u) {
+                let argument = move_out(args, *u);
+                put(s, argument);
+            }
+        }
+    }
+}
+
+/// A frame whose parts are settled: where its body is the name of a parameter, the argument of that takes its place;
+/// arguments of parameters that aren't used go, and it becomes one with the frame that is its body. Its only error is
+/// want of memory.
 #[tactic(auto, using(crate::proofs::Joining::joining))]
 pub fn settle_frame(alloc: Global, s: &mut Live) -> Result<(), Memory>
     ensures { OnOk result ((q : StreamType) → SimplerBy q (state_in s.old) (state_in s.new)) }
 {
+    give_argument(s);
     drop_arguments(s);
     join_frames(alloc, s)
 }

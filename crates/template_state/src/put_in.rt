@@ -4,8 +4,8 @@ ghost use Rattle.std.specs.Prelude.{◌≡◌, true, false, [], ◌∷◌};
 ghost use Rattle.bunch.specs.Names.{holds};
 ghost use Rattle.stream_type.specs.StreamType.{StreamType};
 ghost use Rattle.state_rewriting.specs.Rewriting.{ReplacedBy, ReplacedArgumentsBy, IsAlias, IsPair};
-ghost use Rattle.delta_state.specs.StateTree.{var_state};
 ghost use Rattle.template_state.specs.Readers.{state_in, arguments_in};
+ghost use Rattle.template_state.specs.Rows.{is_name};
 
 use crate::live::{Arguments, Live, put};
 use bunch::Name;
@@ -99,9 +99,9 @@ fn apart_three(u: Name, x: Name, y: Name, z: Name) -> bool
     u.0 != x.0 && (u.0 != y.0 && u.0 != z.0)
 }
 
-// Whether the state is this name.
-fn is_name(s: &Live, x: Name) -> bool
-    ensures { result ≡ true → state_in s.now ≡ var_state x.0 }
+/// Whether the state is this name.
+pub fn is_name(s: &Live, x: Name) -> bool
+    ensures { result ≡ is_name (state_in s.now) x.0 }
 {
     match s {
         Live::Var(y) => y.0 == x.0,

@@ -9,6 +9,7 @@ use crate::join::settle_frame;
 use crate::live::{Arguments, Live, put};
 use crate::names_used::uses;
 use crate::put_in::{put_name, put_pair};
+use crate::rows::drop_repeated;
 use bunch::Name;
 use machine_parts::parts::{cat_types, par_types};
 use std::alloc::Global;
@@ -93,7 +94,8 @@ fn settle_all(alloc: Global, args: &mut Arguments) -> Result<(), Memory>
     }
 }
 
-// A let whose parts are settled: its alias is put in, and it goes if it isn't used or is all that follows.
+// A let whose parts are settled: its alias is put in, and it goes if it isn't used or is all that follows, also
+// where it is taken apart and put together again.
 #[tactic(auto, using(crate::proofs::Settling::settling))]
 fn settle_let(s: &mut Live)
     ensures { (q : StreamType) → SimplerBy q (state_in s.old) (state_in s.new) }
@@ -101,6 +103,7 @@ fn settle_let(s: &mut Live)
     put_alias(s);
     drop_unused(s);
     drop_renamed(s);
+    drop_repeated(s);
 }
 
 // The name that a let's name stands for is put in.

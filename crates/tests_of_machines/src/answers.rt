@@ -14,13 +14,14 @@ use event_word::Event;
 use std::alloc::Global;
 use std::test::Fail;
 
-// What is said to the last of these lines, or None where one isn't taken.
-fn said_at_last<M: Machine>(
+/// What is said to the last of these lines, or None where one isn't taken.
+pub fn said_at_last<M: Machine>(
     alloc: Global,
     session: &mut Session<M>,
     lines: &[&[u8]],
 ) -> Option<Vec<Event>>
-    requires { IsKept M.seen M.stands session.old }
+    requires kept { IsKept M.seen M.stands session.old }
+    ensures kept { IsKept M.seen M.stands session.new }
 {
     let mut said = Vec::new(alloc);
     for line in lines {

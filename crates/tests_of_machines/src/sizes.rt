@@ -1,8 +1,9 @@
-//! The number of states that the machine keeps on the load.
+//! The number of states that the machine keeps on the load, on one long session, and on many.
 
 ghost use Rattle.std.specs.Prelude.{◌≤◌};
 ghost use Rattle.delta_session.specs.Standing.{IsKept};
 
+use crate::answers::said_at_last;
 use crate::sessions::{opened, said_to};
 use checked_program::accept;
 use core_term::fits;
@@ -74,5 +75,66 @@ fn load_stays_small<M: Machine>(alloc: Global) -> Result<bool, Fail> {
 #[test]
 fn load_leaves_no_more_states_behind(rt: HostRuntime) -> Result<(), Fail> {
     assert!(rt; load_stays_small::<Coded>(rt.alloc())?);
+    Ok(())
+}
+
+// A feed of numbers and marks, cut at each mark: `examples/sessions.delta`.
+const SESSIONS: &[u8] =
+    b"fun session(xs : (Int + 1)*) : Int* . (Int + 1)* = case xs of { nil => (nil; nil) | x :: xt => case x of { inl n => let (ns; rest) = session(xt) in (n :: ns; rest) | inr mark => (nil; xt) } }\nfun sessions(xs : (Int + 1)*) : Int** = case xs of { nil => nil | x :: xt => let (ns; rest) = session(x :: xt) in ns :: sessions(rest) }\nmain(xs : (Int + 1)*) : Int** = sessions(xs)";
+
+// A number of a session, by its events.
+const NUMBER: [&[u8]; 4] = [b"item", b"F inl", b"F int 5", b"cut"];
+
+// A session of one number, with the mark behind it.
+const SESSION: [&[u8]; 8] = [
+    b"item", b"F inl", b"F int 5", b"cut", b"item", b"F inr", b"F one", b"cut",
+];
+
+// Feeds these events so many times, and answers how many states are kept then, or None where an event isn't taken.
+fn feed_often<M: Machine>(
+    alloc: Global,
+    session: &mut Session<M>,
+    lines: &[&[u8]],
+    count: u64,
+) -> Option<u64>
+    requires kept { IsKept M.seen M.stands session.old }
+    ensures kept { IsKept M.seen M.stands session.new }
+{
+    for _i in 0..count {
+        said_at_last(alloc, session, lines)?;
+    }
+    Some(session.nodes())
+}
+
+// Whether as many states are kept after a thousand times these events as after a hundred; None where an event of 1,500
+// times isn't taken.
+fn stays_level<M: Machine>(alloc: Global, session: &mut Session<M>, lines: &[&[u8]]) -> Option<bool>
+    requires { IsKept M.seen M.stands session.old }
+{
+    let hundredth = feed_often(alloc, session, lines, 100)?;
+    let thousandth = feed_often(alloc, session, lines, 900)?;
+    feed_often(alloc, session, lines, 500)?;
+    Some(hundredth == thousandth && hundredth > 0)
+}
+
+// The same of a run of the program that cuts its feed.
+fn cut_stays_small<M: Machine>(alloc: Global, lines: &[&[u8]]) -> Result<bool, Fail> {
+    let accepted = accept(alloc, SESSIONS)?;
+    if !fits(accepted.checked.core()) {
+        return Ok(false);
+    }
+    let mut session = opened::<M>(alloc, &accepted.checked, 1_000_000)?;
+    Ok(stays_level(alloc, &mut session, lines) == Some(true))
+}
+
+#[test]
+fn long_session_leaves_no_more_states_behind(rt: HostRuntime) -> Result<(), Fail> {
+    assert!(rt; cut_stays_small::<Coded>(rt.alloc(), &NUMBER)?);
+    Ok(())
+}
+
+#[test]
+fn many_sessions_leave_no_more_states_behind(rt: HostRuntime) -> Result<(), Fail> {
+    assert!(rt; cut_stays_small::<Coded>(rt.alloc(), &SESSION)?);
     Ok(())
 }
