@@ -1,0 +1,5 @@
+-- The lemmas.
+pub mod Found
+pub mod FilledStates
+pub mod ShiftedDepths
+mod Examples

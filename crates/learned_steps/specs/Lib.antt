@@ -1,0 +1,4 @@
+-- What the contracts cite.
+pub mod Learned
+pub mod Shapes
+pub mod Laws

@@ -1,0 +1,4 @@
+-- What the contracts cite.
+pub mod Depths
+pub mod Suits
+pub mod Laws
