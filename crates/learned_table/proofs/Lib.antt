@@ -1,0 +1,4 @@
+-- The lemmas.
+pub mod Shifting
+pub mod EnvironmentNumbers
+pub mod LaidParts

@@ -1,0 +1,4 @@
+-- What the contracts cite.
+pub mod StepTree
+pub mod Suits
+pub mod FoundNumbers

@@ -1,0 +1,7 @@
+-- The lemmas.
+pub mod Growing
+pub mod Making
+pub mod FoundBeside
+pub mod Rows
+pub mod SameForms
+pub mod Unfilled

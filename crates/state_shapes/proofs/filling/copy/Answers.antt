@@ -1,0 +1,8 @@
+-- Nothing is put in for any number or depth.
+use Rattle.state_shapes.specs.Makes.{boxed_state}
+use Rattle.state_shapes.proofs.Making.{makes_same}
+use Rattle.state_shapes.proofs.Unfilled.{unfilled}
+use Rattle.state_shapes.proofs.filling.copy.Goals as goal
+
+pub returns : goal.returns
+returns c = makes_same boxed_state c.fill_state.result _ _ (unfilled _) c.fill_state.ensures

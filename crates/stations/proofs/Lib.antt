@@ -1,0 +1,4 @@
+-- The lemmas.
+mod Examples
+pub mod LiesOn
+pub mod StandsThere

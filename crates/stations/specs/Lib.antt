@@ -1,0 +1,4 @@
+-- What the contracts cite.
+pub mod Lies
+pub mod StationTree
+pub mod Stands
