@@ -45,17 +45,24 @@ use template_state::{Code, Live, count_states, held_events, plain, settle};
 /// (`specs/CodedView.antt`).
 #[derive(Drop)]
 pub struct Coded {
-    pub(crate) code: Box<Code>,
-    // the text of each name of the program
-    pub(crate) texts: Vec<String>,
-    pub(crate) budget: u64,
-    pub(crate) state: Box<Live>,
-    pub(crate) awaited: Box<Awaited>,
-    // what is left of the types of the input and of the output
-    pub(crate) input: Box<Ty>,
-    pub(crate) output: Box<Ty>,
-    pub(crate) events: u64,
-    pub(crate) spent: u64,
+    /// The templates of its program.
+    pub code: Box<Code>,
+    /// The text of each name of the program.
+    pub texts: Vec<String>,
+    /// How many calls it may make at its start, and again at each event.
+    pub budget: u64,
+    /// Its state.
+    pub state: Box<Live>,
+    /// What is awaited of the input.
+    pub awaited: Box<Awaited>,
+    /// What is left of the type of the input.
+    pub input: Box<Ty>,
+    /// What is left of the type of the output.
+    pub output: Box<Ty>,
+    /// The number of events that it has taken.
+    pub events: u64,
+    /// The number of calls that it made at the last of them.
+    pub spent: u64,
 }
 
 impl Coded {

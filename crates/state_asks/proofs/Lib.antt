@@ -1,0 +1,5 @@
+-- The lemmas.
+pub mod AskedInTurn
+pub mod AskedForms
+pub mod AskedCalls
+pub mod AskedFrames
