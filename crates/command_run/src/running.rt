@@ -4,19 +4,18 @@ ghost use Rattle.std.specs.Prelude.{◌≤◌};
 ghost use Rattle.delta_end.specs.End.{ReadCause, WriteCause};
 ghost use Rattle.command_run.specs.Running.{RunsText};
 
+use any_runner::{Begins, run_begun};
 use checked_program::{accept_to_write, dismiss};
 use delta_end::End;
-use delta_runner::run_checked;
-use delta_state::Machine;
 use event_frame::Version;
 use port::Link;
 use program_text::TextFault;
 use std::alloc::Global;
 
 /// Runs the program of a text over a link, event by event, with so many calls at its start and at each
-/// event, and writes frames of the version. `RunsText` of `specs/Running.antt` says what stands behind each
-/// end.
-pub fn run_source<M: Machine, L: Link>(
+/// event, and writes frames of the version. What runs it is a B. `RunsText` of `specs/Running.antt` says what
+/// stands behind each end.
+pub fn run_source<B: Begins, L: Link>(
     alloc: Global,
     text: &[u8],
     budget: u64,
@@ -30,7 +29,7 @@ pub fn run_source<M: Machine, L: Link>(
 {
     match accept_to_write(alloc, text, version) {
         Ok(accepted) => {
-            let end = run_checked::<M, L>(alloc, &accepted.checked, budget, version, link);
+            let end = run_begun::<B, L>(alloc, &accepted.checked, budget, version, link);
             dismiss(accepted);
             end
         }

@@ -1,10 +1,9 @@
 -- From the end of the telling of a bound to what its caller may know.
-use Rattle.std.proofs.Common.{◌≡◌, ◌⊎◌, inl, inr, ℕ, List, [], Option, None, Some, Result, ◌∙◌, ap, refl}
+use Rattle.std.proofs.Common.{◌≡◌, ◌⊎◌, inl, inr, ℕ, List, Option, None, Some, Result, ◌∙◌, ap, refl}
 use Rattle.port.specs.declared.link.Move.{Move}
 use Rattle.port.specs.declared.fault.IoFault.{IoFault}
 use Rattle.port.specs.Faults.{HasCause}
 use Rattle.port.specs.Moves.{bytes_written}
-use Rattle.delta_end.specs.declared.objection.BoundName.{BoundName}
 use Rattle.delta_end.specs.declared.objection.Objection.TheVariants.{Derivation, Bound, Table, State}
 use Rattle.delta_end.specs.declared.end.End.{End}
 use Rattle.delta_end.specs.declared.end.End.TheVariants.{Done, Usage, Refused, Input, Budget, Deep, Open, FileFailed, ReadFailed, WriteFailed, Memory, Long, Objected}

@@ -9,7 +9,7 @@ use Rattle.delta_words.specs.declared.command.Command.TheVariants.{Run, Eval, Ch
 use Rattle.delta_words.specs.Numbers.{has_digits, number_within, schedule_of}
 use Rattle.delta_words.specs.Commands.{command_of, takes_of}
 use Rattle.delta_words.specs.CommandLine.{WrittenLine, line_of}
-use Rattle.delta_words.specs.CommandTask.{CommandTask, run, eval, check, print, text, frames, gen, bound, derive, feed, save, resume, budget_of, file_of, version_of, file_and_budget, start_and_items, two_files, state_with, state_and_budget, feed_of, task_of_line, task_of_command, task_of}
+use Rattle.delta_words.specs.CommandTask.{CommandTask, run, eval, check, print, text, frames, gen, bound, feed, save, resume, budget_of, file_of, version_of, file_and_budget, start_and_items, two_files, state_with, state_and_budget, feed_of, task_of_line, task_of_command, task_of}
 
 -- a run, one that is saved or resumed too, and a feeding of tables have a budget of at most 1,000,000, an evaluation one of at most 10,000; a load begins at 999,999 at most, and has at most
 -- 10,000,000 items

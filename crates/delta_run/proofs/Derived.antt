@@ -1,5 +1,5 @@
 -- From the end of the check of a derivation to what its caller may know.
-use Rattle.std.proofs.Common.{◌≡◌, inl, ℕ, List, None, Some, Result, refl, subst, sym}
+use Rattle.std.proofs.Common.{◌≡◌, inl, ℕ, List, None, Some, Result, refl, subst}
 use Rattle.port.specs.declared.fault.IoFault.{IoFault}
 use Rattle.port.specs.Faults.{HasCause}
 use Rattle.core_term.specs.CoreTerm.{CoreProgram}

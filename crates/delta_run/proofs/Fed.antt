@@ -1,5 +1,5 @@
 -- From the end of a feeding of tables to what its caller may know.
-use Rattle.std.proofs.Common.{◌≡◌, ◌⊎◌, inl, inr, ℕ, List, [], Option, None, Some, Result, ◌∙◌, ap, refl}
+use Rattle.std.proofs.Common.{◌≡◌, inl, ℕ, List, Option, None, Some, Result, refl}
 use Rattle.port.specs.declared.link.Move.{Move}
 use Rattle.port.specs.declared.fault.IoFault.{IoFault}
 use Rattle.port.specs.Faults.{HasCause}

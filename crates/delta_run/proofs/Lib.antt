@@ -15,5 +15,6 @@ pub mod Derived
 pub mod Fed
 pub mod SavedTexts
 pub mod ResumedTexts
+pub mod JoinedRuns
 pub mod Evaluated
 pub mod Owing

@@ -1,10 +1,10 @@
 -- From the end of a run that leaves its state to what its caller may know.
-use Rattle.std.proofs.Common.{◌≡◌, ◌⊎◌, inl, inr, ℕ, ◌≤◌, ◌<◌, ◌^◌, ◌+◌, List, Option, Some, None, Result, ◌∙◌, ap, sym, subst, refl, length, arith}
+use Rattle.std.proofs.Common.{◌≡◌, ◌⊎◌, inl, inr, ℕ, List, Option, Some, None, Result, ◌∙◌, sym, subst, refl, length, arith}
 use Rattle.port.specs.declared.link.Move.{Move}
 use Rattle.port.specs.declared.fault.IoFault.{IoFault}
 use Rattle.port.specs.Faults.{HasCause}
 use Rattle.port.specs.Moves.{bytes_read}
-use Rattle.port.specs.Files.{ChangesOnly, Keeps}
+use Rattle.port.specs.Files.{ChangesOnly}
 use Rattle.event_word.specs.StreamEvent.{StreamEvent}
 use Rattle.event_frame.specs.declared.version.Version.{Version}
 use Rattle.event_frame.specs.Reading.{whole}
@@ -13,7 +13,7 @@ use Rattle.core_term.specs.CoreTerm.{CoreProgram}
 use Rattle.delta_state.specs.MachineView.{input_of}
 use Rattle.delta_state.specs.Stands.{output_left}
 use Rattle.kept_state.specs.KeptTree.{KeptTree}
-use Rattle.kept_state.specs.KeptBytes.{kept_bytes, most_bytes}
+use Rattle.kept_state.specs.KeptBytes.{kept_bytes}
 use Rattle.kept_state.specs.Laws.{IsKept}
 use Rattle.delta_end.specs.declared.objection.StateName.TheVariants.{Form, Untyped, Version as OtherVersion, Large}
 use Rattle.delta_end.specs.declared.objection.Objection.TheVariants.{Derivation, Bound, Table, State}
@@ -21,8 +21,7 @@ use Rattle.delta_end.specs.declared.end.End.{End}
 use Rattle.delta_end.specs.declared.end.End.TheVariants.{Done, Usage, Refused, Input, Budget, Deep, Open, FileFailed, ReadFailed, WriteFailed, Memory, Long, Objected}
 use Rattle.delta_end.specs.End.{FileCause, ReadCause, WriteCause, status_of}
 use Rattle.delta_end.specs.Status.{AnswerOf, IsStatus, IsStill}
-use Rattle.delta_end.proofs.Statuses.{not_rose, answered, answered_eight, status_is}
-use Rattle.checked_program.specs.Acceptance.{IsWritable}
+use Rattle.delta_end.proofs.Statuses.{not_rose, answered, answered_eight}
 use Rattle.checked_program.proofs.OneAnswer.{accepted_is_one, writing_is_judged}
 use Rattle.delta_loop.specs.Meaning.{Meaning}
 use Rattle.delta_loop.specs.Return.{IsWithinLimit}
@@ -32,11 +31,12 @@ use Rattle.delta_loop.proofs.Completeness.{wrote_all}
 use Rattle.delta_output.specs.OneShot.{meaning_of}
 use Rattle.output_laws.specs.TreeOneShot.{one_shot_of}
 use Rattle.command_run.specs.Running.{RanIts}
+use Rattle.command_save.specs.Leaving.{Way, IsSaved}
 use Rattle.command_save.specs.Saving.{SavesIts, SavesText}
 use Rattle.delta_run.specs.Text.{RanText, RunsPromptly}
 use Rattle.delta_run.specs.Settled.{IsOverInput, SettlesWell}
 use Rattle.delta_run.specs.Evaluated.{RefusesUnwritable}
-use Rattle.delta_run.specs.Saved.{SavedText, IsBehind, SavesMoves, IsStateAfter, LeavesState, ChangesState, SavesWell}
+use Rattle.delta_run.specs.Saved.{SavedText, IsBehind, SavesMoves, IsStateAfter, IsLeft, LeavesState, ChangesState, SavesWell}
 use Rattle.delta_run.proofs.Settling.{none_other, over_by_end}
 use Rattle.delta_run.proofs.SettledTexts.{text_settled}
 use Rattle.delta_run.proofs.TextRuns.{text_prompt, text_reads, text_return, text_refused, text_complete}
@@ -215,7 +215,7 @@ module _ (text : List ℕ) (budget : ℕ) (v : Version) (name : List ℕ) (old n
   saves_usage Long saves same = cc
 
   -- the state is left after what was read
-  state_after : (end ran : End) (saves : SavesIts text budget v name old new left0 left1 files0 files1 end) (k : KeptTree) (places : List ℕ)
+  abbrev state_after : (end ran : End) (saves : SavesIts text budget v name old new left0 left1 files0 files1 end) (k : KeptTree) (places : List ℕ)
       → (so : Ran (meaning_of v budget (one_shot_of saves.program)) old new left0 left1 ran) → IsKept saves.core (input_of saves.core (whole so.input)) k
       → k.out ≡ output_left saves.core (input_of saves.core (whole so.input)) → IsStateAfter text v (bytes_read so.at.history.moves) (kept_bytes k places)
   state_after end ran saves k places so kept output = record {
@@ -227,6 +227,19 @@ module _ (text : List ℕ) (budget : ℕ) (v : Version) (name : List ℕ) (old n
     kept = subst (λ (input : List ℕ). IsKept saves.core (input_of saves.core (whole input)) k) (sym so.at.history.read) kept;
     output = subst (λ (input : List ℕ). k.out ≡ output_left saves.core (input_of saves.core (whole input))) (sym so.at.history.read) output;
     has_bytes = refl;
+  }
+
+  -- and where its bytes were written they are left
+  abbrev way_of : (p : ProgramTree) (c : CoreProgram) → Way
+  way_of p c = record { meaning = meaning_of v budget (one_shot_of p); core = c; old = old; new = new; left0 = left0; left1 = left1 }
+
+  is_left : (end : End) (saves : SavesIts text budget v name old new left0 left1 files0 files1 end) (left : IsSaved (way_of saves.program saves.core) files1 name end)
+      → IsLeft text v files1 name (bytes_read left.leaves.ran.at.history.moves) (kept_bytes left.state left.places)
+  is_left end saves left = record {
+    after = state_after end end saves left.state left.places left.leaves.ran left.leaves.kept left.leaves.output;
+    sizes = left.sizes;
+    few = left.few;
+    held = left.held;
   }
 
   moves_of : (ran : End) (P : Meaning) (so : Ran P old new left0 left1 ran) (Q : List Move → Type 0) → Q so.at.history.moves → Adds old new Q
@@ -242,11 +255,11 @@ module _ (text : List ℕ) (budget : ℕ) (v : Version) (name : List ℕ) (old n
   saved_state Done saves =
       let left = saves.saves.0 in
       moves_of Done _ left.leaves.ran (LeavesState text v files1 name Done)
-      (kept_bytes left.state left.places, state_after Done Done saves left.state left.places left.leaves.ran left.leaves.kept left.leaves.output, left.held)
+      (kept_bytes left.state left.places, is_left Done saves left)
   saved_state Open saves =
       let left = saves.saves.0 in
       moves_of Open _ left.leaves.ran (LeavesState text v files1 name Open)
-      (kept_bytes left.state left.places, state_after Open Open saves left.state left.places left.leaves.ran left.leaves.kept left.leaves.output, left.held)
+      (kept_bytes left.state left.places, is_left Open saves left)
   saved_state (Objected (State Large at)) saves =
       let large = saves.saves.0 in
       moves_of large.end _ large.leaves.ran (LeavesState text v files1 name (Objected (State Large at)))

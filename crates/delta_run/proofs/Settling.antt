@@ -239,7 +239,7 @@ module _ (P : Meaning) (c : ℕ) where
   same_answers before [] = refl
   same_answers before (x ∷ word) = ap (λ (bytes : List ℕ). P.answer before x ++ bytes) (same_answers (before ++ x ∷ []) word)
 
-  same_due : (all : List ℕ) → due P all ≡ due with_budget all
+  pub same_due : (all : List ℕ) → due P all ≡ due with_budget all
   same_due all =
       ap (λ (bytes : List ℕ). (opening P.version ++ P.first) ++ bytes) (same_answers [] (accepted P (whole all))) ∙ ap (output with_budget) (same_accepted [] (whole all))
 

@@ -28,3 +28,4 @@ pub mod Saves
 pub mod Resumes
 pub mod Lines
 pub mod Owes
+pub mod Laws

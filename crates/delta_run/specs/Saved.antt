@@ -3,7 +3,7 @@
 -- Choices that are not obvious:
 -- - Behind the end of the command stands that of the run. They differ only where the run ended well, and its state was
 --   then too large, or couldn't be written, or memory ran out.
-use Rattle.std.specs.Prelude.{◌≡◌, ◌⊎◌, ◌<◌, ℕ, List, length, Option, Some}
+use Rattle.std.specs.Prelude.{◌≡◌, ◌⊎◌, ◌<◌, ◌≤◌, ℕ, List, length, Option, Some}
 use Rattle.port.specs.declared.link.Move.{Move}
 use Rattle.port.specs.Moves.{bytes_read}
 use Rattle.port.specs.Files.{ChangesOnly, Keeps}
@@ -16,6 +16,7 @@ use Rattle.delta_state.specs.MachineView.{input_of}
 use Rattle.delta_state.specs.Stands.{output_left}
 use Rattle.kept_state.specs.KeptTree.{KeptTree}
 use Rattle.kept_state.specs.KeptBytes.{kept_bytes, most_bytes}
+use Rattle.kept_state.specs.KeptSizes.{HasSizes}
 use Rattle.kept_state.specs.Laws.{IsKept}
 use Rattle.delta_end.specs.declared.objection.StateName.TheVariants.{Large}
 use Rattle.delta_end.specs.declared.objection.Objection.TheVariants.{State}
@@ -60,11 +61,18 @@ pub record IsStateAfter (text : List ℕ) (v : Version) (input bytes : List ℕ)
   pub output : state.out ≡ output_left core (input_of core (whole input))
   pub has_bytes : bytes ≡ kept_bytes state places
 
--- where the command ended well, the named file holds the bytes of such a state after what was read; and where it is told
--- that they are too many, they are
+-- the named file holds the bytes of such a state. They are no more than there may be, and its numbers have their sizes,
+-- so they are those of no other typed state whose numbers have theirs
+pub record IsLeft (text : List ℕ) (v : Version) (files : Option (List ℕ → List ℕ)) (name input bytes : List ℕ) : Type 0 where
+  pub after : IsStateAfter text v input bytes
+  pub sizes : HasSizes after.state
+  pub few : length bytes ≤ most_bytes
+  pub held : Keeps files name bytes
+
+-- where the command ended well, so it is after what was read; and where it is told that the bytes are too many, they are
 abbrev pub LeavesState : List ℕ → Version → Option (List ℕ → List ℕ) → List ℕ → End → List Move → Type 0
-LeavesState text v files name Done moves = (bytes : List ℕ) × IsStateAfter text v (bytes_read moves) bytes × Keeps files name bytes
-LeavesState text v files name Open moves = (bytes : List ℕ) × IsStateAfter text v (bytes_read moves) bytes × Keeps files name bytes
+LeavesState text v files name Done moves = (bytes : List ℕ) × IsLeft text v files name (bytes_read moves) bytes
+LeavesState text v files name Open moves = (bytes : List ℕ) × IsLeft text v files name (bytes_read moves) bytes
 LeavesState text v files name (Objected (State Large at)) moves =
     (bytes : List ℕ) × IsStateAfter text v (bytes_read moves) bytes × (most_bytes < length bytes) × (at ≡ most_bytes)
 LeavesState text v files name end moves = Unit {0}

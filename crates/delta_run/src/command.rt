@@ -23,6 +23,7 @@ ghost use Rattle.delta_loop.specs.History.{IsUntouched};
 ghost use Rattle.delta_run.specs.Text.{OfFile, RanText};
 
 use crate::kept::{resume_file, save_file};
+use any_runner::Begins;
 use command_bound::bound_source;
 use command_check::check_source;
 use command_derive::{core_of_text, derive_core};
@@ -40,8 +41,8 @@ use machine_kept::Keeping;
 use port::{IoFault, Link, Shelf};
 use std::alloc::Global;
 
-// Runs the program of a file over a link.
-fn run_file<M: Machine, S: Shelf, L: Link>(
+// Runs the program of a file over a link. What runs it is a B.
+fn run_file<B: Begins, S: Shelf, L: Link>(
     alloc: Global,
     file: &str,
     budget: u64,
@@ -59,7 +60,7 @@ fn run_file<M: Machine, S: Shelf, L: Link>(
     ensures write { WriteCause result (L.write_faults link.old) (L.write_faults link.new) }
 {
     match shelf.read(file) {
-        Ok(text) => run_source::<M, L>(alloc, &text, budget, version, link),
+        Ok(text) => run_source::<B, L>(alloc, &text, budget, version, link),
         Err(IoFault::Memory) => End::Memory,
         Err(IoFault::Failed) => End::FileFailed,
     }
@@ -204,8 +205,9 @@ fn frame_version(version: delta_words::Version) -> Version
     }
 }
 
-/// Does what the words ask for, up to its end.
-pub fn run_command<M: Machine, K: Keeping, S: Shelf, L: Link>(
+/// Does what the words ask for, up to its end. A program that `run` runs is run by a B; the load and programs that
+/// tables are fed to run on the machine M, and those whose states are left or gone on from on K.
+pub fn run_command<B: Begins, M: Machine, K: Keeping, S: Shelf, L: Link>(
     alloc: Global,
     words: &[String],
     shelf: &mut S,
@@ -250,7 +252,7 @@ pub fn run_command<M: Machine, K: Keeping, S: Shelf, L: Link>(
 {
     match read_words(alloc, words) {
         Ok(Task::Run(file, budget, version)) => {
-            run_file::<M, S, L>(alloc, &file, budget, frame_version(version), shelf, link)
+            run_file::<B, S, L>(alloc, &file, budget, frame_version(version), shelf, link)
         }
         Ok(Task::Frames(version)) => write_frames(alloc, frame_version(version), link),
         Ok(Task::Text) => write_lines(alloc, link),

@@ -3,6 +3,7 @@
 
 mod command;
 mod kept;
+pub mod laws;
 mod run;
 
 pub use delta_end::{End, InputFault};

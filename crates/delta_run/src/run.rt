@@ -13,6 +13,7 @@ ghost use Rattle.delta_run.specs.Ends.{Ends};
 ghost use Rattle.delta_run.specs.Owes.{Owes};
 
 use crate::command::run_command;
+use any_runner::Begins;
 use delta_end::{answer, note};
 use delta_state::Machine;
 use machine_kept::Keeping;
@@ -26,8 +27,9 @@ use std::alloc::Global;
 /// want of memory, 9 for more than 2^40 input bytes, 10 where a state is refused, 11 where a derivation is,
 /// 12 where the program has no bound, and 13 where it doesn't take the tables. The words are those after the program's name. The
 /// last thing that is written is the note, a line to the sink that says how the run ended (`note_of` of
-/// `specs/Note.antt`). Programs run on the machine M, and those whose states are left or gone on from on K.
-pub fn delta<M: Machine, K: Keeping, S: Shelf, L: Link, N: Sink>(
+/// `specs/Note.antt`). A program that `run` runs is run by a B; the load and programs that tables are fed to run on the
+/// machine M, and those whose states are left or gone on from on K.
+pub fn delta<B: Begins, M: Machine, K: Keeping, S: Shelf, L: Link, N: Sink>(
     alloc: Global,
     words: &[String],
     shelf: &mut S,
@@ -58,7 +60,7 @@ pub fn delta<M: Machine, K: Keeping, S: Shelf, L: Link, N: Sink>(
     ensures changes { (file state : List ℕ) (budget : ℕ) (v : WrittenVersion) → Asks words.now (save file state budget v)
         → ChangesOnly (S.holds shelf.old) (S.holds shelf.new) state }
 {
-    let end = run_command::<M, K, S, L>(alloc, words, shelf, link);
+    let end = run_command::<B, M, K, S, L>(alloc, words, shelf, link);
     let said = note(notes, end);
     answer(end, said)
 }

@@ -1,5 +1,5 @@
 -- The tables are fed to the program of the text that the shelf told.
-use Rattle.std.proofs.Common.{List, ℕ, [], refl, subst, ◌∙◌}
+use Rattle.std.proofs.Common.{refl}
 use Rattle.delta_end.specs.declared.end.End.TheVariants.{Memory, FileFailed}
 use Rattle.delta_loop.specs.Answer.{ReadsWell}
 use Rattle.delta_loop.proofs.Returning.{adds_none, unread}

@@ -1,0 +1,5 @@
+use Rattle.delta_run.proofs.JoinedRuns.{due_joins}
+use Rattle.delta_run.proofs.laws.due_joins.Goals as goal
+
+pub returns : goal.returns
+returns c = due_joins

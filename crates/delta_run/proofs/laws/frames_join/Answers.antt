@@ -1,0 +1,5 @@
+use Rattle.delta_run.proofs.JoinedRuns.{frames_join}
+use Rattle.delta_run.proofs.laws.frames_join.Goals as goal
+
+pub returns : goal.returns
+returns c = frames_join

@@ -1,0 +1,14 @@
+-- The lemmas.
+pub mod Moved
+pub mod Standings
+pub mod Books
+pub mod KnownSteps
+pub mod Answerable
+pub mod Taking
+pub mod Leaving
+pub mod Paths
+pub mod Anew
+pub mod Noted
+pub mod Growing
+pub mod NotedSteps
+pub mod Finishing

@@ -1,0 +1,6 @@
+-- What the contracts cite.
+pub mod Answering
+pub mod Book
+pub mod Finding
+pub mod Noting
+pub mod Standing
