@@ -3,6 +3,7 @@
 
 use delta_code::Coded;
 use delta_run::delta;
+use learned_runner::Learner;
 use port::{DirShelf, StdLink, StdSink};
 use std::process::ExitCode;
 use std::{env, io};
@@ -27,5 +28,8 @@ fn main(rt: HostRuntime) -> ExitCode {
     let mut link = StdLink::new(rt.stdin(), rt.stdout());
     let mut notes = StdSink::new(rt.stderr());
     let mut shelf = DirShelf::new(alloc, rt);
-    ExitCode::from(delta::<Coded, Coded, _, _, _>(alloc, &words, &mut shelf, &mut link, &mut notes))
+    let status = delta::<Learner, Coded, Coded, _, _, _>(
+        alloc, &words, &mut shelf, &mut link, &mut notes,
+    );
+    ExitCode::from(status)
 }

@@ -1,9 +1,12 @@
 //! Whole runs over a shelf, a link and a sink in memory.
 
 use crate::outside::{are_written, outcome_on, pieces, shelf_of, words};
+use any_runner::Begins;
 use delta_code::Coded;
+use delta_runner::Runner;
 use delta_state::Machine;
 use delta_step::Tree;
+use learned_runner::Learner;
 use port::{MemLink, MemSink};
 use std::alloc::Global;
 use std::test::Fail;
@@ -79,16 +82,16 @@ fn link_of(alloc: Global, row: &Row) -> Result<MemLink, Fail> {
 
 // Whether a row's run writes and answers what it must, on the compiled machine and on the plain one.
 fn holds(alloc: Global, row: &Row) -> Result<bool, Fail> {
-    Ok(holds_on::<Coded>(alloc, row)? && holds_on::<Tree>(alloc, row)?)
+    Ok(holds_on::<Learner, Coded>(alloc, row)? && holds_on::<Runner<Tree>, Tree>(alloc, row)?)
 }
 
 // The same on one machine.
-fn holds_on<M: Machine>(alloc: Global, row: &Row) -> Result<bool, Fail> {
+fn holds_on<B: Begins, M: Machine>(alloc: Global, row: &Row) -> Result<bool, Fail> {
     let given = words(alloc, row.words)?;
     let mut shelf = shelf_of(alloc, row.text)?;
     let mut link = link_of(alloc, row)?;
     let mut notes = MemSink::new(alloc, row.fail_notes.to_vec(alloc)?);
-    let status = outcome_on::<M>(alloc, &given, &mut shelf, &mut link, &mut notes);
+    let status = outcome_on::<B, M>(alloc, &given, &mut shelf, &mut link, &mut notes);
     let told = notes.bytes() == row.note && status == row.status;
     Ok(are_written(alloc, &link, row.output)? && told)
 }
@@ -330,7 +333,7 @@ const PIECES: &[&[u8]] = &[
 
 // Whether what is due for the first two pieces is written, and the fault told, where the third can't be read, on one
 // machine.
-fn third_read_fails<M: Machine>(alloc: Global) -> Result<bool, Fail> {
+fn third_read_fails<B: Begins, M: Machine>(alloc: Global) -> Result<bool, Fail> {
     let mut pieces = Vec::new(alloc);
     for piece in PIECES {
         pieces.push(piece.to_vec(alloc)?)?;
@@ -340,7 +343,7 @@ fn third_read_fails<M: Machine>(alloc: Global) -> Result<bool, Fail> {
     let fail_reads = [2].to_vec(alloc)?;
     let mut link = MemLink::new(alloc, pieces, fail_reads, Vec::new(alloc), 4096);
     let mut notes = MemSink::new(alloc, Vec::new(alloc));
-    let status = outcome_on::<M>(alloc, &given, &mut shelf, &mut link, &mut notes);
+    let status = outcome_on::<B, M>(alloc, &given, &mut shelf, &mut link, &mut notes);
     let told = status == 7 && notes.bytes() == b"delta: outside fault: input\n".as_slice();
     let due = b"DEV1\0\x15\x01\x03\x11\0\0\0\0\0\0\0\x06\0\x14";
     Ok(are_written(alloc, &link, due)? && told)
@@ -348,8 +351,8 @@ fn third_read_fails<M: Machine>(alloc: Global) -> Result<bool, Fail> {
 
 #[test]
 fn what_is_due_is_written_before_a_failed_read(rt: HostRuntime) -> Result<(), Fail> {
-    assert!(rt; third_read_fails::<Coded>(rt.alloc())?);
-    assert!(rt; third_read_fails::<Tree>(rt.alloc())?);
+    assert!(rt; third_read_fails::<Learner, Coded>(rt.alloc())?);
+    assert!(rt; third_read_fails::<Runner<Tree>, Tree>(rt.alloc())?);
     Ok(())
 }
 

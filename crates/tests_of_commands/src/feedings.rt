@@ -2,9 +2,12 @@
 //! written was worked out by hand.
 
 use crate::outside::{are_written, link, outcome_on, words, written};
+use any_runner::Begins;
 use delta_code::Coded;
+use delta_runner::Runner;
 use delta_state::Machine;
 use delta_step::Tree;
+use learned_runner::Learner;
 use port::{MemLink, MemShelf, MemSink, Move};
 use std::alloc::Global;
 use std::test::Fail;
@@ -121,20 +124,21 @@ fn says(alloc: Global, link: &MemLink, output: &str) -> Result<bool, Fail> {
 
 // Whether the words over the row's files write and answer so on one machine, where a write takes at most so many
 // bytes. The link has an input, which isn't read.
-fn answers_on<M: Machine>(alloc: Global, row: &Row, most: u64) -> Result<bool, Fail> {
+fn answers_on<B: Begins, M: Machine>(alloc: Global, row: &Row, most: u64) -> Result<bool, Fail> {
     let given = words(alloc, row.words)?;
     let mut shelf = shelf_of(alloc, row)?;
     let mut link = link(alloc, b"DEV1", 4096, most)?;
     let mut notes = MemSink::new(alloc, Vec::new(alloc));
-    let status = outcome_on::<M>(alloc, &given, &mut shelf, &mut link, &mut notes);
+    let status = outcome_on::<B, M>(alloc, &given, &mut shelf, &mut link, &mut notes);
     let told = notes.bytes() == row.note.as_bytes() && status == row.status;
     Ok(says(alloc, &link, row.output)? && told)
 }
 
 // The same on both machines, with whole writes and byte by byte.
 fn answers(alloc: Global, row: &Row) -> Result<bool, Fail> {
-    let whole = answers_on::<Coded>(alloc, row, 4096)? && answers_on::<Tree>(alloc, row, 4096)?;
-    Ok(whole && answers_on::<Coded>(alloc, row, 1)?)
+    let whole = answers_on::<Learner, Coded>(alloc, row, 4096)?
+        && answers_on::<Runner<Tree>, Tree>(alloc, row, 4096)?;
+    Ok(whole && answers_on::<Learner, Coded>(alloc, row, 1)?)
 }
 
 // The number of rows before the first that is answered otherwise, or none.
@@ -411,7 +415,7 @@ fn deep_calls_are_stopped(rt: HostRuntime) -> Result<(), Fail> {
         note: "delta: stopped: Deep at 0\n",
         ..STOPPED
     };
-    assert!(rt; answers_on::<Coded>(rt.alloc(), &row, 4096)?);
+    assert!(rt; answers_on::<Learner, Coded>(rt.alloc(), &row, 4096)?);
     Ok(())
 }
 
@@ -433,7 +437,7 @@ fn long_table_is_refused(rt: HostRuntime) -> Result<(), Fail> {
     let given = words(alloc, "feed program 0 a b")?;
     let mut link = link(alloc, b"DEV1", 4096, 4096)?;
     let mut notes = MemSink::new(alloc, Vec::new(alloc));
-    let status = outcome_on::<Coded>(alloc, &given, &mut shelf, &mut link, &mut notes);
+    let status = outcome_on::<Learner, Coded>(alloc, &given, &mut shelf, &mut link, &mut notes);
     let note: &[u8] = b"delta: table refused: Long in 1 at 0\n";
     assert!(rt; status == 13 && notes.bytes() == note);
     assert!(rt; says(alloc, &link, "")?);
@@ -447,7 +451,7 @@ fn leaves(alloc: Global, behind: u64, front: &str) -> Result<bool, Fail> {
     let failing = [behind].to_vec(alloc)?;
     let mut link = MemLink::new(alloc, Vec::new(alloc), Vec::new(alloc), failing, 4);
     let mut notes = MemSink::new(alloc, Vec::new(alloc));
-    let status = outcome_on::<Coded>(alloc, &given, &mut shelf, &mut link, &mut notes);
+    let status = outcome_on::<Learner, Coded>(alloc, &given, &mut shelf, &mut link, &mut notes);
     let note: &[u8] = b"delta: outside fault: output\n";
     let told = status == 7 && notes.bytes() == note;
     let bytes = written(alloc, &link)?;

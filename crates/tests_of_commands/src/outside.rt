@@ -1,8 +1,10 @@
 //! What a command is given, and what it writes.
 
+use any_runner::Begins;
 use delta_code::Coded;
 use delta_run::delta;
 use delta_state::Machine;
+use learned_runner::Learner;
 use port::{Link, MemLink, MemShelf, MemSink, Move};
 use std::alloc::Global;
 use std::test::Fail;
@@ -58,7 +60,8 @@ pub fn are_written(alloc: Global, link: &MemLink, output: &[u8]) -> Result<bool,
     Ok(bytes.as_slice() == output)
 }
 
-/// The status of a command line, with programs run on the machine that the command runs.
+/// The status of a command line, with programs run as the command runs them: on the compiled machine, whose steps are
+/// learned.
 pub fn outcome(
     alloc: Global,
     words: &[String],
@@ -66,18 +69,18 @@ pub fn outcome(
     link: &mut MemLink,
     notes: &mut MemSink,
 ) -> u8 {
-    outcome_on::<Coded>(alloc, words, shelf, link, notes)
+    delta::<Learner, Coded, Coded, _, _, _>(alloc, words, shelf, link, notes)
 }
 
-/// The status of a command line, with programs run on a machine, and states left and gone on from as the command does.
-pub fn outcome_on<M: Machine>(
+/// The status of a command line, with programs begun by a runner and evaluated on a machine, and states left and gone on from as the command does.
+pub fn outcome_on<B: Begins, M: Machine>(
     alloc: Global,
     words: &[String],
     shelf: &mut MemShelf,
     link: &mut MemLink,
     notes: &mut MemSink,
 ) -> u8 {
-    delta::<M, Coded, _, _, _>(alloc, words, shelf, link, notes)
+    delta::<B, M, Coded, _, _, _>(alloc, words, shelf, link, notes)
 }
 
 /// Runs words over the file `program`, and answers the status and what was written.

@@ -1,9 +1,12 @@
 //! Programs run event by event. Inputs and outputs are event lines; each output was worked out by hand.
 
 use crate::outside::{frames_of, link, outcome_on, shelf_of, words, written};
+use any_runner::Begins;
 use delta_code::Coded;
+use delta_runner::Runner;
 use delta_state::Machine;
 use delta_step::Tree;
+use learned_runner::Learner;
 use port::{MemLink, MemSink, Move};
 use std::alloc::Global;
 use std::test::Fail;
@@ -123,17 +126,20 @@ fn due(alloc: Global, row: &Row) -> Result<Vec<u8>, Fail> {
 // Whether a row's run, on pieces of such a size, writes and answers what it must, on the compiled machine and on the
 // plain one.
 fn holds(alloc: Global, row: &Row, piece: usize) -> Result<bool, Fail> {
-    Ok(holds_on::<Coded>(alloc, row, piece)? && holds_on::<Tree>(alloc, row, piece)?)
+    Ok(
+        holds_on::<Learner, Coded>(alloc, row, piece)?
+            && holds_on::<Runner<Tree>, Tree>(alloc, row, piece)?,
+    )
 }
 
 // The same on one machine.
-fn holds_on<M: Machine>(alloc: Global, row: &Row, piece: usize) -> Result<bool, Fail> {
+fn holds_on<B: Begins, M: Machine>(alloc: Global, row: &Row, piece: usize) -> Result<bool, Fail> {
     let given = words(alloc, row.words)?;
     let frames = frames_of(alloc, row.input)?;
     let mut shelf = shelf_of(alloc, row.text.as_bytes())?;
     let mut link = link(alloc, &frames, piece, 4096)?;
     let mut notes = MemSink::new(alloc, Vec::new(alloc));
-    let status = outcome_on::<M>(alloc, &given, &mut shelf, &mut link, &mut notes);
+    let status = outcome_on::<B, M>(alloc, &given, &mut shelf, &mut link, &mut notes);
     let told = notes.bytes() == row.note.as_bytes() && status == row.status;
     let bytes = written(alloc, &link)?;
     Ok(told && bytes.as_slice() == due(alloc, row)?.as_slice())
@@ -360,7 +366,7 @@ fn budgets_are_renewed(rt: HostRuntime) -> Result<(), Fail> {
 // each call, and these make many.
 fn first_wrong_of_compiled(alloc: Global, rows: &[Row]) -> Result<Option<usize>, Fail> {
     for k in 0..rows.len() {
-        if !holds_on::<Coded>(alloc, &rows[k], 4096)? {
+        if !holds_on::<Learner, Coded>(alloc, &rows[k], 4096)? {
             return Ok(Some(k));
         }
     }
@@ -576,19 +582,26 @@ fn is_prompt(alloc: Global, turns: &[(&str, &str)], link: &MemLink) -> Result<bo
 }
 
 // Whether a program over a feed that is held open answers each turn's lines by those beside them, on one machine.
-fn answers_on<M: Machine>(alloc: Global, text: &str, turns: &[(&str, &str)]) -> Result<bool, Fail> {
+fn answers_on<B: Begins, M: Machine>(
+    alloc: Global,
+    text: &str,
+    turns: &[(&str, &str)],
+) -> Result<bool, Fail> {
     let given = words(alloc, "run program")?;
     let mut shelf = shelf_of(alloc, text.as_bytes())?;
     let pieces = pieces_of(alloc, turns)?;
     let mut link = MemLink::new(alloc, pieces, Vec::new(alloc), Vec::new(alloc), 4096);
     let mut notes = MemSink::new(alloc, Vec::new(alloc));
-    let _status = outcome_on::<M>(alloc, &given, &mut shelf, &mut link, &mut notes);
+    let _status = outcome_on::<B, M>(alloc, &given, &mut shelf, &mut link, &mut notes);
     is_prompt(alloc, turns, &link)
 }
 
 // The same on both machines.
 fn answers(alloc: Global, text: &str, turns: &[(&str, &str)]) -> Result<bool, Fail> {
-    Ok(answers_on::<Coded>(alloc, text, turns)? && answers_on::<Tree>(alloc, text, turns)?)
+    Ok(
+        answers_on::<Learner, Coded>(alloc, text, turns)?
+            && answers_on::<Runner<Tree>, Tree>(alloc, text, turns)?,
+    )
 }
 
 // A program, and what it puts out at each turn: before any event first, then for the lines that come next.
@@ -739,7 +752,7 @@ fn reads_nothing(alloc: Global, line: &str, text: &str) -> Result<bool, Fail> {
     let mut shelf = shelf_of(alloc, text.as_bytes())?;
     let mut link = link(alloc, b"DEV1", 4096, 4096)?;
     let mut notes = MemSink::new(alloc, Vec::new(alloc));
-    let status = outcome_on::<Coded>(alloc, &given, &mut shelf, &mut link, &mut notes);
+    let status = outcome_on::<Learner, Coded>(alloc, &given, &mut shelf, &mut link, &mut notes);
     let mut none = status == 5;
     for step in link.log() {
         none = none && matches!(step, Move::Out(_));

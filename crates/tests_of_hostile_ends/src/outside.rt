@@ -2,12 +2,13 @@
 
 use delta_code::Coded;
 use delta_run::delta;
+use delta_runner::Runner;
 use port::{MemLink, MemShelf, MemSink, Move};
 use std::alloc::Global;
 use std::test::Fail;
 
-/// The machine that programs run on.
-type Running = Coded;
+/// What runs programs.
+type Running = Runner<Coded>;
 
 /// What a command is given.
 #[derive(Clone, Copy)]
@@ -81,7 +82,7 @@ fn outcome(
 ) -> Result<(u8, MemSink), Fail> {
     let words = words(alloc, given.words)?;
     let mut notes = MemSink::new(alloc, given.fail_notes.to_vec(alloc)?);
-    let status = delta::<Running, Running, _, _, _>(alloc, &words, shelf, link, &mut notes);
+    let status = delta::<Running, Coded, Coded, _, _, _>(alloc, &words, shelf, link, &mut notes);
     Ok((status, notes))
 }
 

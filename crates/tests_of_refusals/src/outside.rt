@@ -2,6 +2,7 @@
 
 use delta_code::Coded;
 use delta_run::delta;
+use delta_runner::Runner;
 use port::{MemLink, MemShelf, MemSink};
 use std::alloc::Global;
 use std::test::Fail;
@@ -39,6 +40,8 @@ pub fn tells(
     pieces.push(input.to_vec(alloc)?)?;
     let mut link = MemLink::new(alloc, pieces, Vec::new(alloc), Vec::new(alloc), 4096);
     let mut notes = MemSink::new(alloc, Vec::new(alloc));
-    let _status = delta::<Coded, Coded, _, _, _>(alloc, &given, &mut shelf, &mut link, &mut notes);
+    let _status = delta::<Runner<Coded>, Coded, Coded, _, _, _>(
+        alloc, &given, &mut shelf, &mut link, &mut notes,
+    );
     Ok(notes.bytes() == note)
 }

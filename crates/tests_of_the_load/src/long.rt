@@ -3,6 +3,7 @@
 use crate::lines::is_line;
 use delta_code::Coded;
 use delta_run::delta;
+use learned_runner::Learner;
 use load_program::LOAD_TEXT;
 use port::{MemLink, MemShelf, MemSink, Move};
 use std::alloc::Global;
@@ -84,7 +85,9 @@ fn run(alloc: Global, frames: &[u8]) -> Result<(u8, Vec<u8>), Fail> {
     let mut link = MemLink::new(alloc, pieces, Vec::new(alloc), Vec::new(alloc), 4096);
     let (words, mut shelf) = given(alloc)?;
     let mut notes = MemSink::new(alloc, Vec::new(alloc));
-    let status = delta::<Coded, Coded, _, _, _>(alloc, &words, &mut shelf, &mut link, &mut notes);
+    let status = delta::<Learner, Coded, Coded, _, _, _>(
+        alloc, &words, &mut shelf, &mut link, &mut notes,
+    );
     let mut bytes = Vec::new(alloc);
     for step in link.log() {
         if let Move::Out(piece) = step {
