@@ -56,8 +56,8 @@ fn waits(alloc: Global) -> Result<Box<Live>, Memory> {
     Ok(Box::new(alloc, Live::Wait(INPUT, Ty::Int, held, then))?)
 }
 
-// The station, with one key for numbers, which nothing reads, and one for depths.
-fn station(alloc: Global) -> Result<Station, Memory>
+/// The station, with one key for numbers, which nothing reads, and one for depths.
+pub fn station(alloc: Global) -> Result<Station, Memory>
     ensures numbers { IfOk result (λ s. length s.keys.items ≡ 1) }
     ensures depths { IfOk result (λ s. length s.depth_keys.items ≡ 1) }
 {
@@ -79,8 +79,8 @@ fn station(alloc: Global) -> Result<Station, Memory>
     })
 }
 
-// What is learned there of this event.
-fn learned(alloc: Global, x: &Event) -> Result<Option<Learning>, Stop> {
+/// What is learned there of this event.
+pub fn learned(alloc: Global, x: &Event) -> Result<Option<Learning>, Stop> {
     let station = station(alloc)?;
     let code = code(alloc)?;
     learn(alloc, &code, &station, &[5], &[20], x, AMPLE)
