@@ -67,6 +67,9 @@ const PATIENCE: u64 = 1000;
 /// The most calls that an event may make in a run that learns.
 const MOST_CALLS: u64 = 1_000_000;
 
+/// The most calls of an event that is learned: to learn one with many takes long.
+const LEARNED_CALLS: u64 = 32;
+
 impl Stepper for Learner {
     ghost stands = { StandsFor };
 
@@ -205,7 +208,10 @@ impl Learner {
         ensures stands { (P : Meaning) (word : List StreamEvent) → StandsFor self.old P word → StandsFor self.new P word }
         ensures program { IsOfSame self.old self.new }
     {
-        if self.patience == 0 || self.machine.budget > MOST_CALLS {
+        if self.patience == 0
+            || self.machine.budget > MOST_CALLS
+            || self.machine.spent > LEARNED_CALLS
+        {
             return;
         }
         self.patience -= 1;
