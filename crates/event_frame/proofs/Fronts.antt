@@ -1,6 +1,7 @@
 -- What stands at the front of bytes, from what stands behind their first byte.
-use Rattle.std.proofs.Common.{◌≡◌, ℕ, suc, zero, ◌+◌, ◌-◌, ◌≤◌, ◌<◌, List, [], ◌∷◌, ◌++◌, length, map, drop, get_or, true, Option, Some, None, ◌⊎◌, inl, inr, refl, ap, ◌∙◌, sym, subst, arith, length-append, add-one}
-use Rattle.std.proofs.lemmas.List.{length-map}
+use Rattle.std.proofs.Common.{◌≡◌, ℕ, suc, zero, ◌+◌, ◌-◌, ◌≤◌, ◌<◌, List, [], ◌∷◌, ◌++◌, length, map, take, drop, get_or, true, Option, Some, None, ◌⊎◌, inl, inr, refl, ap, ◌∙◌, sym, subst, arith, length-append, length-take, length-drop, append-nil, add-one}
+use Rattle.std.proofs.lemmas.List.{length-map, nil_from_length, take-append-drop, drop_more}
+use Rattle.std.proofs.Math.Seq.{drop-append-add}
 use Rattle.std.specs.Prelude.{is_some, IsNone, IfSome, ℤ}
 use Rattle.std.specs.Int.{w64, from_be_bytes, cast_signed}
 use Rattle.event_word.specs.declared.event.Step.{Step}
@@ -13,7 +14,8 @@ use Rattle.event_frame.specs.declared.fault.FrameFault.{FrameFault}
 use Rattle.event_frame.specs.declared.front.Front.TheVariants.{Part, Fault}
 use Rattle.event_frame.specs.Frames.{step_code, path_bytes, leaf_bytes, AreBytes}
 use Rattle.event_frame.specs.Reading.{AtLeaf, AtNumber, Taken, parts, steps_in, first_then, step_of, event, Inside, stop, reading_from, at_path}
-use Rattle.event_frame.specs.Front.{path_len, IsTail, IsAtPath, behind}
+use Rattle.event_frame.specs.Front.{path_len, IsTail, IsAtPath, IsBehind, behind}
+use Rattle.event_frame.proofs.Codes.{code_is}
 use Rattle.event_frame.proofs.FrameLaws.{reading_from-steps}
 use Rattle.event_frame.proofs.Spelling.{parts_are, path_bytes-front}
 use Rattle.event_frame.proofs.Numbers.{number_fits, number_bytes}
@@ -174,4 +176,38 @@ number_tail v bytes byte rest number x split is long are is_number path leaf =
           ∙ ap (λ (bs : List ℕ). leaf_bytes x.leaf ++ drop 9 bs) (sym split)
           ∙ ap (λ (bs : List ℕ). bs ++ (leaf_bytes x.leaf ++ drop 9 bytes)) (sym no_steps);
       leaf = subst FitsLeaf (sym is_leaf) (number_fits (eight rest) refl are_bytes);
+    }
+
+-- one byte more of steps that have a byte each
+pub behind_more : (bytes : List ℕ) (i : ℕ) (step : Step) (x longer more : StreamEvent) → 0 < i → i ≤ length bytes → step_of (get_or bytes (i - 1) 0) ≡ Some step
+    → IsBehind (drop i bytes) x longer → more.path ≡ step ∷ longer.path → more.leaf ≡ longer.leaf → IsBehind (drop (i - 1) bytes) x more
+behind_more bytes i step x longer more some within is are path leaf =
+    let back : i - 1 + 1 ≡ i = omega arith in
+    record {
+      steps = step ∷ are.steps;
+      spelled = drop_more bytes (i - 1) 0 (omega arith) ∙ ap (λ (n : ℕ). get_or bytes (i - 1) 0 ∷ drop n bytes) back
+          ∙ ap (λ (n : ℕ). n ∷ drop i bytes) (code_is (get_or bytes (i - 1) 0) step is) ∙ ap (λ (bs : List ℕ). step_code step ∷ bs) are.spelled;
+      path = path ∙ ap (λ (p : List Step). step ∷ p) are.path;
+      leaf = leaf ∙ are.leaf;
+    }
+
+-- steps that have a byte each, before a leaf
+pub plain_tail : (v : Version) (count : ℕ) (bytes : List ℕ) (x longer : StreamEvent) (n : ℕ) → v ≡ V1 → count ≤ length bytes → IsTail v 0 (drop count bytes) x n
+    → IsBehind (take count bytes) x longer → IsTail v count bytes longer (count + n)
+plain_tail V2 count bytes x longer n is room tail are = absurd (let none : ⊥ = cc in none)
+plain_tail V1 count bytes x longer n is room tail are =
+    let none : x.path ≡ [] = nil_from_length x.path tail.steps in
+    let path : longer.path ≡ are.steps = are.path ∙ ap (λ (p : List Step). are.steps ++ p) none ∙ append-nil are.steps in
+    let size : length (take count bytes) ≡ count = omega (arith, length-take count bytes, room) in
+    let split : bytes ≡ take count bytes ++ drop count bytes = sym (take-append-drop count bytes) in
+    let rest : drop (count + n) bytes ≡ drop n (drop count bytes)
+    = ap (λ (k : ℕ). drop (k + n) bytes) (sym size) ∙ ap (drop (length (take count bytes) + n)) split ∙ drop-append-add (take count bytes) (drop count bytes) n in
+    record {
+      steps = ap length path ∙ sym (length-map are.steps step_code) ∙ sym (ap length are.spelled) ∙ size;
+      within = omega (arith, tail.within, length-drop count bytes, room);
+      spelled = split ∙ ap (λ (bs : List ℕ). bs ++ drop count bytes) (are.spelled ∙ ap (map step_code) (sym path))
+          ∙ ap (λ (bs : List ℕ). map step_code longer.path ++ bs) (tail.spelled ∙ ap (λ (p : List Step). map step_code p ++ (leaf_bytes x.leaf ++ drop n (drop count bytes))) none)
+          ∙ ap (λ (l : Leaf). map step_code longer.path ++ (leaf_bytes l ++ drop n (drop count bytes))) (sym are.leaf)
+          ∙ ap (λ (bs : List ℕ). map step_code longer.path ++ (leaf_bytes longer.leaf ++ bs)) (sym rest);
+      leaf = subst FitsLeaf (sym are.leaf) tail.leaf;
     }

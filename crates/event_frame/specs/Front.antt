@@ -1,5 +1,5 @@
 -- The words of the reader's private steps: a whole frame at the front of bytes, a part of one, or a byte that can't stand there.
-use Rattle.std.specs.Prelude.{◌≡◌, ◌≢◌, ℕ, ◌+◌, ◌/◌, ◌<◌, ◌≤◌, List, [], ◌∷◌, ◌++◌, Option, Some, None, Result, Ok, Err, length, drop}
+use Rattle.std.specs.Prelude.{◌≡◌, ◌≢◌, ℕ, ◌+◌, ◌/◌, ◌<◌, ◌≤◌, List, [], ◌∷◌, ◌++◌, Option, Some, None, Result, Ok, Err, length, map, drop}
 use Rattle.event_word.specs.declared.event.Step.{Step}
 use Rattle.event_word.specs.StreamEvent.{StreamEvent, FitsLeaf}
 use Rattle.event_frame.specs.declared.version.Version.{Version}
@@ -7,7 +7,7 @@ use Rattle.event_frame.specs.declared.version.Version.TheVariants.{V1, V2}
 use Rattle.event_frame.specs.declared.fault.FrameFault.{FrameFault}
 use Rattle.event_frame.specs.declared.front.Front.{Front}
 use Rattle.event_frame.specs.declared.front.Front.TheVariants.{Frame, Part, Fault}
-use Rattle.event_frame.specs.Frames.{path_bytes, leaf_bytes, frame, Fits}
+use Rattle.event_frame.specs.Frames.{step_code, path_bytes, leaf_bytes, frame, Fits}
 use Rattle.event_frame.specs.Reading.{AtLetters, Between, at_path, event, Taken, Ending, Whole, Inside, Bad, stop, reading_from}
 
 -- how many bytes so many steps take
@@ -62,3 +62,10 @@ IsHeader letters at bytes (Err fault) =
 abbrev pub behind : Option Taken → StreamEvent → Option StreamEvent
 behind (Some taken) x = Some (event (taken.steps ++ x.path) x.leaf)
 behind None x = None
+
+-- the bytes are a step each, and the longer event has these in front
+pub record IsBehind (bytes : List ℕ) (x longer : StreamEvent) : Type 0 where
+  pub steps : List Step
+  pub spelled : bytes ≡ map step_code steps
+  pub path : longer.path ≡ steps ++ x.path
+  pub leaf : longer.leaf ≡ x.leaf

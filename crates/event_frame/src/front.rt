@@ -1,9 +1,9 @@
 //! What stands at the front of some bytes.
 
-ghost use Rattle.std.specs.Prelude.{◌≡◌, ◌+◌, ◌^◌, ◌<◌, ◌≤◌, length, is_some};
+ghost use Rattle.std.specs.Prelude.{◌≡◌, ◌+◌, ◌^◌, ◌<◌, ◌≤◌, length, is_some, IfSome};
 ghost use Rattle.event_frame.specs.Frames.{longest};
 ghost use Rattle.event_frame.specs.Reading.{step_of, leaf_of, steps_in};
-ghost use Rattle.event_frame.specs.Front.{IsAtPath, IsFront, IsHeader, behind};
+ghost use Rattle.event_frame.specs.Front.{IsAtPath, IsTail, IsFront, IsHeader, IsBehind, behind};
 
 use crate::fault::FrameFault;
 use crate::version::Version;
@@ -64,11 +64,55 @@ pub(crate) fn front_of(version: Version, bytes: &[u8], at: u64) -> Front
     if *count > version.longest() {
         return Front::Fault(FrameFault::LongPath(at, *count));
     }
+    if let Some((event, used)) = read_plain(version, *count as usize, rest) {
+        return Front::Frame(event, used + 1);
+    }
     match read_path(version, *count as usize, rest, at + 1) {
         Front::Frame(event, used) => Front::Frame(event, used + 1),
         Front::Part => Front::Part,
         Front::Fault(fault) => Front::Fault(fault),
     }
+}
+
+// The event of a frame of version 1 that is whole, behind its number of steps, and how many bytes it has: it is read
+// from its leaf back. Where there is none, `read_path` tells what is there instead.
+fn read_plain(version: Version, count: usize, bytes: &[u8]) -> Option<(Event, usize)>
+    requires { count ≤ 63 }
+    ensures { IfSome result (λ r. IsTail version count bytes.now r.0 r.1) }
+{
+    let Version::V1 = version else {
+        return None;
+    };
+    if bytes.len() <= count {
+        return None;
+    }
+    match read_leaf(version, &bytes[count..], 0) {
+        Front::Frame(event, used) => match behind_bytes(&bytes[..count], event) {
+            Some(longer) => Some((longer, count + used)),
+            None => None,
+        },
+        _ => None,
+    }
+}
+
+// The event behind steps that have a byte each, where all of these are steps.
+fn behind_bytes(steps: &[u8], event: Event) -> Option<Event>
+    requires { length event.path + length steps.now ≤ 63 }
+    ensures { IfSome result (IsBehind steps.now event) }
+{
+    let mut longer = event;
+    let mut i = steps.len();
+    while i > 0 {
+        i -= 1;
+        let Some(step) = step_of(steps[i]) else {
+            return None;
+        };
+        let Some(one_more) = longer.under(step) else {
+            return None;
+        };
+        longer = one_more;
+    }
+    Some(longer)
 }
 
 // The end of a frame: `left` steps and the leaf.
