@@ -1,5 +1,5 @@
 //! What machines are made of: what comes on names, scopes, the parts of types and prefixes, parameters, levels,
-//! what is held, what is awaited of the input, and what a machine keeps beside its state.
+//! what is held, what is awaited of the input, what a machine keeps beside its state, and results of parts.
 #![tactic(auto)]
 
 pub mod awaited;
@@ -11,6 +11,7 @@ pub mod levels;
 pub mod params;
 pub mod parts;
 pub mod place;
+pub mod results;
 pub mod scope;
 pub mod stars;
 pub mod stop;

@@ -4,7 +4,6 @@
 
 mod ask;
 mod asking;
-mod copying;
 mod entering;
 mod holding;
 mod outputs;

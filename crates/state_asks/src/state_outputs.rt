@@ -9,12 +9,12 @@ ghost use Rattle.machine_parts.specs.Parameters.{parameters};
 ghost use Rattle.template_state.specs.Readers.{state_in, arguments_in};
 ghost use Rattle.delta_code.specs.Steps.{live_run, lives_run};
 
-use crate::copying::copy;
 use bunch::Name;
 use delta_code::step;
 use machine_parts::entry::Entry;
 use machine_parts::scope::Scope;
 use machine_parts::stop::Stop;
+use state_shapes::copy;
 use std::alloc::Global;
 use stream_prefix::{Prefix, maximal};
 use stream_type::{Memory, Ty};

@@ -12,9 +12,9 @@ ghost use Rattle.state_shapes.specs.From.{state_from, arguments_from, later_from
 
 use crate::filling_values::{fill_past, fill_prefix};
 use crate::registers::{Registers, depth_at};
-use crate::results::{added, again, boxed, pair};
 use bunch::Name;
 use machine_parts::entry::Entry;
+use machine_parts::results::{added, again, boxed, pair};
 use std::alloc::Global;
 use stream_type::{Memory, Ty};
 use template_state::{Arguments, Later, Live};

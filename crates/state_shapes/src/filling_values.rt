@@ -11,9 +11,9 @@ ghost use Rattle.filled_states.specs.Filled.{filled_value, filled_prefix};
 ghost use Rattle.template_state.specs.Readers.{known_in};
 
 use crate::registers::number_at;
-use crate::results::{pair, shared};
 use bunch::Name;
 use hist_value::Value;
+use machine_parts::results::{pair, shared};
 use std::alloc::Global;
 use std::rc::Rc;
 use stream_prefix::{Prefix, StarEnd};

@@ -7,7 +7,6 @@ mod found;
 mod matching;
 mod matching_values;
 mod registers;
-mod results;
 mod same_code;
 
 pub use filling::{copy, fill};
@@ -15,5 +14,5 @@ pub use filling_values::{fill_past, fill_prefix, fill_value};
 pub use found::{Found, goes_on, nothing, number_goes};
 pub use matching::match_state;
 pub use matching_values::{match_prefix, match_value, value_goes};
-pub use registers::{Registers, depth_at, number_at};
+pub use registers::{Registers, beside, depth_at, number_at};
 pub use same_code::{same_expr, same_op};

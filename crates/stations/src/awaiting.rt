@@ -4,9 +4,9 @@ ghost use Rattle.std.specs.Prelude.{◌≡◌, true, Bool, IfOk};
 ghost use Rattle.stream_type.specs.StreamType.{StreamType, type_of};
 ghost use Rattle.machine_parts.specs.AwaitedTree.{AwaitedTree, awaited_in, stream_awaited, both_awaited, turns_awaited};
 
-use crate::results::{boxed, pair};
 use bunch::Name;
 use machine_parts::awaited::Awaited;
+use machine_parts::results::{boxed, pair};
 use std::alloc::Global;
 use stream_type::{Memory, Ty, same};
 

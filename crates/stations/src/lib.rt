@@ -5,7 +5,6 @@ mod awaiting;
 mod finding;
 mod laying;
 mod making;
-mod results;
 mod station;
 mod unfolding;
 

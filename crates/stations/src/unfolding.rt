@@ -10,10 +10,10 @@ ghost use Rattle.stations.specs.StationTree.{station_in};
 ghost use Rattle.stations.specs.Stands.{HasInHand, InHand};
 
 use crate::awaiting::copy_awaited;
-use crate::results::pair;
 use crate::station::{Standing, Station, Values};
 use machine_parts::awaited::Awaited;
 use machine_parts::boxes::copy_boxed;
+use machine_parts::results::pair;
 use state_shapes::{Registers, fill};
 use std::alloc::Global;
 use stream_type::{Memory, Ty};

@@ -7,10 +7,10 @@ ghost use Rattle.core_term.specs.CoreTerm.{CoreTerm, CoreTerms, past_term, par_t
 ghost use Rattle.template_state.specs.Readers.{op_term, shared_term, operand_terms};
 ghost use Rattle.template_kept.specs.Makes.{Makes, MakesBoth};
 
-use crate::results::{added, boxed, pair};
 use bunch::Name;
 use core_term::{Node, Term};
 use hist_value::{Expr, copy_expr};
+use machine_parts::results::{added, boxed, pair};
 use std::alloc::Global;
 use std::rc::Rc;
 use stream_type::{Memory, Ty};

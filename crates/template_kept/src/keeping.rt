@@ -11,12 +11,12 @@ ghost use Rattle.delta_keep.specs.KeptView.{known_of, held_of, later_of, state_o
 ghost use Rattle.template_kept.specs.KeptArguments.{arguments_from};
 ghost use Rattle.template_kept.specs.Makes.{Makes, kept_in};
 
-use crate::results::{added, boxed, in_front, pair};
 use bunch::Name;
 use delta_keep::{Argument, HeldName, KeptState, Known, Waiting};
 use hist_value::{Value, copy_value};
 use machine_parts::boxes::copy_boxed;
 use machine_parts::entry::Entry;
+use machine_parts::results::{added, boxed, in_front, pair};
 use std::alloc::Global;
 use stream_type::{Memory, Ty};
 use template_state::{Arguments, Later, Live, Past, node};

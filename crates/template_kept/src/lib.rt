@@ -3,7 +3,6 @@
 
 mod compiling;
 mod keeping;
-mod results;
 mod waking;
 
 pub use compiling::op;

@@ -10,11 +10,11 @@ ghost use Rattle.template_kept.specs.KeptArguments.{arguments_from};
 ghost use Rattle.template_kept.specs.Makes.{Makes, live_in};
 
 use crate::compiling::op;
-use crate::results::{added, boxed, pair, shared};
 use bunch::Name;
 use delta_keep::{Argument, HeldName, KeptState, Known, Waiting};
 use hist_value::copy_value;
 use machine_parts::entry::Entry;
+use machine_parts::results::{added, boxed, pair, shared};
 use std::alloc::Global;
 use std::rc::Rc;
 use stream_type::{Memory, Ty};

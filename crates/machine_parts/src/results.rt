@@ -45,6 +45,16 @@ pub fn shared<T: Drop>(alloc: Global, part: Result<T, Memory>) -> Result<Rc<T>, 
     }
 }
 
+/// One more that shares this part.
+pub fn again<T: Drop>(part: &Rc<T>) -> Result<Rc<T>, Memory>
+    ensures { IfOk result (λ r. r.value ≡ part.now.value) }
+{
+    match part.clone() {
+        Ok(part) => Ok(part),
+        Err(_) => Err(Memory),
+    }
+}
+
 /// A part behind these.
 pub fn added<T: Drop>(mut items: Vec<T>, part: Result<T, Memory>) -> Result<Vec<T>, Memory>
     ensures { IfOk result (λ v. (x : T) × (part ≡ Ok x) × (v.items ≡ items.items ++ x ∷ [])) }
