@@ -2,3 +2,4 @@
 pub mod Shifting
 pub mod EnvironmentNumbers
 pub mod LaidParts
+pub mod ReckonedParts

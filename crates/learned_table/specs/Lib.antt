@@ -1,4 +1,5 @@
 -- What the contracts cite.
 pub mod StepTree
 pub mod Suits
+pub mod Reckoned
 pub mod FoundNumbers

@@ -15,6 +15,10 @@ pub record AskTree : Type 0 where
   pub past : Past
   pub value : HistValue
 
+-- by its parts
+abbrev pub asked : HistExpr → Past → HistValue → AskTree
+asked expr past value = record { expr = expr; past = past; value = value }
+
 -- what was asked
 abbrev pub asked_by : AskTree → Asked
 asked_by a = record { expr = a.expr; past = a.past }
@@ -32,7 +36,7 @@ pub record StepTree : Type 0 where
   pub depths_left : List ℕ
 
 abbrev pub ask_of : LearnedAsk → AskTree
-ask_of a = record { expr = expr_of a.expr; past = environment_of a.past.items; value = hist_value_of a.value }
+ask_of a = asked (expr_of a.expr) (environment_of a.past.items) (hist_value_of a.value)
 
 abbrev pub step_of : LearnedStep → StepTree
 step_of s =

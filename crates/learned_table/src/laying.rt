@@ -10,14 +10,15 @@ ghost use Rattle.other_numbers.specs.Numbers.{exchanged_value, exchanged_past};
 ghost use Rattle.other_numbers.specs.EventNumbers.{exchanged_leaf, exchanged_event};
 ghost use Rattle.state_shapes.specs.RegisterLists.{IsParallel, lists_in};
 ghost use Rattle.state_shapes.specs.Goes.{Goes};
-ghost use Rattle.learned_table.specs.StepTree.{step_of, ask_of};
+ghost use Rattle.learned_table.specs.StepTree.{step_of, ask_of, asked};
 ghost use Rattle.learned_table.specs.Suits.{GoesAlong, SuitsNow};
 ghost use Rattle.learned_table.specs.FoundNumbers.{number_in};
 
+use crate::reckoning::{reckoned_goes, reckoned_now};
 use crate::step::{LearnedAsk, LearnedStep};
 use bunch::Name;
 use event_word::{Event, Leaf};
-use hist_value::Value;
+use hist_value::{Expr, Value};
 use state_shapes::{Found, fill_value, goes_on, number_goes, value_goes};
 use std::alloc::Global;
 use stream_type::Memory;
@@ -36,9 +37,9 @@ pub fn lay(
     ensures parallel { IsParallel (lists_in found.new) }
 {
     forget(found);
-    let registers = numbers_go(&step.numbers, numbers, found);
-    let event = event_goes(registers, &step.event, x, found);
-    asks_go(alloc, event, &step.asks, found)
+    let event = event_goes(&step.event, x, found);
+    let registers = numbers_go(event, &step.numbers, numbers, found);
+    asks_go(alloc, registers, &step.asks, found)
 }
 
 // Forgets what was found.
@@ -51,36 +52,10 @@ fn forget(found: &mut Found)
     found.depths.clear();
 }
 
-// Each key has the number at its place, and there are as many.
-fn numbers_go(keys: &[i64], numbers: &[i64], found: &mut Found) -> Result<bool, Memory>
-    ensures { Goes (Ok true) (lists_in found.old) (lists_in found.new) result (λ l. map (number_at l.keys l.numbers) keys.now ≡ numbers.now) }
-{
-    let mut others = numbers;
-    for key in keys {
-        let Some((number, rest)) = others.split_first() else {
-            return Ok(false);
-        };
-        let so_far = number_goes(Ok(true), *key, *number, found);
-        if !goes_on(&so_far) {
-            return so_far;
-        }
-        others = rest;
-    }
-    Ok(others.is_empty())
-}
-
 // The event is the one that was learned, with another number.
-fn event_goes(
-    before: Result<bool, Memory>,
-    learned: &Event,
-    x: &Event,
-    found: &mut Found,
-) -> Result<bool, Memory>
-    ensures { Goes before (lists_in found.old) (lists_in found.new) result (λ l. exchanged_event (number_at l.keys l.numbers) learned.now ≡ x.now) }
+fn event_goes(learned: &Event, x: &Event, found: &mut Found) -> Result<bool, Memory>
+    ensures { Goes (Ok true) (lists_in found.old) (lists_in found.new) result (λ l. exchanged_event (number_at l.keys l.numbers) learned.now ≡ x.now) }
 {
-    if !goes_on(&before) {
-        return before;
-    }
     if learned.path() == x.path() {
         leaf_goes(learned.leaf(), x.leaf(), found)
     } else {
@@ -113,6 +88,32 @@ fn is_same(learned: Leaf, leaf: Leaf) -> bool
     )
 }
 
+// Each key has the number at its place, and there are as many.
+fn numbers_go(
+    before: Result<bool, Memory>,
+    keys: &[i64],
+    numbers: &[i64],
+    found: &mut Found,
+) -> Result<bool, Memory>
+    ensures { Goes before (lists_in found.old) (lists_in found.new) result (λ l. map (number_at l.keys l.numbers) keys.now ≡ numbers.now) }
+{
+    if !goes_on(&before) {
+        return before;
+    }
+    let mut others = numbers;
+    for key in keys {
+        let Some((number, rest)) = others.split_first() else {
+            return Ok(false);
+        };
+        let so_far = number_goes(Ok(true), *key, *number, found);
+        if !goes_on(&so_far) {
+            return so_far;
+        }
+        others = rest;
+    }
+    Ok(others.is_empty())
+}
+
 // All that is evaluated goes along, behind what was laid before.
 fn asks_go(
     alloc: Global,
@@ -134,14 +135,52 @@ fn asks_go(
     Ok(true)
 }
 
-// An expression goes along: it is evaluated with the values that it saw, with the numbers that were found, and what it
-// had is laid on what it has.
+// What was asked goes along.
 fn ask_goes(alloc: Global, ask: &LearnedAsk, found: &mut Found) -> Result<bool, Memory>
     ensures { Goes (Ok true) (lists_in found.old) (lists_in found.new) result (λ l. GoesAlong (number_at l.keys l.numbers) (ask_of ask.now)) }
 {
+    expression_goes(alloc, Ok(true), &ask.expr, &ask.past, &ask.value, found)
+}
+
+// An expression that saw these values goes along: the parts of a pair one after the other, what is reckoned of numbers
+// alone where it stands, and all else with a value for each part.
+fn expression_goes(
+    alloc: Global,
+    before: Result<bool, Memory>,
+    e: &Expr,
+    past: &[(Name, Value)],
+    learned: &Value,
+    found: &mut Found,
+) -> Result<bool, Memory>
+    ensures { Goes before (lists_in found.old) (lists_in found.new) result (λ l. GoesAlong (number_at l.keys l.numbers) (asked (expr_of e.now) (environment_of past.now) (hist_value_of learned.now))) }
+{
+    if !goes_on(&before) {
+        return before;
+    }
+    if let (Expr::Pair(a, b), Value::Pair(v, w)) = (e, learned) {
+        let first = expression_goes(alloc, Ok(true), a, past, v, found);
+        return expression_goes(alloc, first, b, past, w, found);
+    }
+    match reckoned_now(e, past, found) {
+        Some(now) => reckoned_goes(learned, now, found),
+        None => evaluated_goes(alloc, e, past, learned, found),
+    }
+}
+
+// So it goes along where it is evaluated with the values that it saw, with the numbers that were found, and what it had
+// is laid on what it has.
+fn evaluated_goes(
+    alloc: Global,
+    e: &Expr,
+    past: &[(Name, Value)],
+    learned: &Value,
+    found: &mut Found,
+) -> Result<bool, Memory>
+    ensures { Goes (Ok true) (lists_in found.old) (lists_in found.new) result (λ l. GoesAlong (number_at l.keys l.numbers) (asked (expr_of e.now) (environment_of past.now) (hist_value_of learned.now))) }
+{
     let mut seen = Vec::new(alloc);
-    let before = past_goes(alloc, &ask.past, &mut seen, found);
-    has_value(alloc, before, ask, &seen, found)
+    let before = past_goes(alloc, past, &mut seen, found);
+    has_value(alloc, before, e, &seen, learned, found)
 }
 
 // Puts the values with the numbers that were found behind each other, each beside its name. What no number was found
@@ -205,17 +244,18 @@ fn put_behind(
 fn has_value(
     alloc: Global,
     before: Result<bool, Memory>,
-    ask: &LearnedAsk,
+    e: &Expr,
     seen: &[(Name, Value)],
+    learned: &Value,
     found: &mut Found,
 ) -> Result<bool, Memory>
-    ensures { Goes before (lists_in found.old) (lists_in found.new) result (λ l. value (expr_of ask.now.expr) (environment_of seen.now) ≡ exchanged_value (number_at l.keys l.numbers) (hist_value_of ask.now.value)) }
+    ensures { Goes before (lists_in found.old) (lists_in found.new) result (λ l. value (expr_of e.now) (environment_of seen.now) ≡ exchanged_value (number_at l.keys l.numbers) (hist_value_of learned.now)) }
 {
     if !goes_on(&before) {
         return before;
     }
-    match hist_value::value(alloc, &ask.expr, seen) {
-        Ok(v) => value_goes(Ok(true), &ask.value, &v, found),
+    match hist_value::value(alloc, e, seen) {
+        Ok(v) => value_goes(Ok(true), learned, &v, found),
         Err(Memory) => Err(Memory),
     }
 }

@@ -5,6 +5,7 @@
 mod answering;
 mod laying;
 mod leaving;
+mod reckoning;
 mod step;
 
 pub use answering::{said, with_number};

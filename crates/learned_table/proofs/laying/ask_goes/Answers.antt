@@ -1,10 +1,5 @@
--- The expression is evaluated where the names have the values with other numbers.
-use Rattle.std.proofs.Common.{ap, sym, ◌∙◌}
-use Rattle.hist_value.specs.HistExpr.{expr_of}
-use Rattle.hist_value.specs.Evaluate.{value}
-use Rattle.state_shapes.proofs.Growing.{goes_then}
+-- Its parts are those of the ask.
 use Rattle.learned_table.proofs.laying.ask_goes.Goals as goal
 
 pub returns : goal.returns
-returns c =
-    goes_then _ (rw c.deref.ensures.value at c.past_goes-before.ensures) (rw c.deref-2.ensures.value at c.has_value.ensures) (λ x e g. ap (value (expr_of c.args.ask.now.expr)) (sym e) ∙ g)
+returns c = rw c.deref.ensures.value at c.expression_goes.ensures
