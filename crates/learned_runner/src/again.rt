@@ -15,6 +15,9 @@ use stations::Values;
 use std::alloc::Global;
 use stream_type::Memory;
 
+/// The room that is taken at once for each frame of an answer: most frames have no more bytes.
+const FRAME_LENGTH: usize = 16;
+
 /// No registers.
 pub fn nothing_kept(alloc: Global) -> Values
     ensures numbers { result.numbers.items ≡ [] }
@@ -42,6 +45,7 @@ pub fn make(
     ensures depths { OnOk result (left.new.depths.items ≡ map (shift (step_of step.now).depths values.now.depths.items 1000000) (step_of step.now).depths_left) }
 {
     let mut bytes = Vec::new(alloc);
+    bytes.reserve(step.said.len().saturating_mul(FRAME_LENGTH))?;
     said(version, step, found, &mut bytes)?;
     numbers_left(step, found, &mut left.numbers)?;
     depths_left(step, &values.depths, &mut left.depths)?;
