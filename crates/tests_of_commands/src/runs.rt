@@ -29,6 +29,13 @@ const SUMS: &str =
     "fun sums{n : Int}(xs : Int*) : Int* = case xs of { nil => nil | y :: ys => wait y in ({n + y} :: sums{n + y}(ys)) }
 main(xs : Int*) : Int* = sums{0}(xs)";
 
+// A nest at each item, of few levels and of many: a step of few calls is learned, and one of many isn't.
+const NEST_AT_EACH: &str =
+    "fun nest{n : Int}(x : Int) : Int = if n < 1 then x else let y = nest{n - 1}(x) in y
+fun each(xs : Int*) : Int* =
+  case xs of { nil => nil | y :: ys => wait y in let z = nest{y}({y * 2}) in z :: each(ys) }
+main(xs : Int*) : Int* = each(xs)";
+
 const ALARM: &str = "fun watch(xs : Int*) : Int* || 1* =
   case xs of {
     nil => (nil, nil)
@@ -266,6 +273,14 @@ const FEEDS: &[Row] = &[
         text: SUMS,
         input: "item\nF int 2\ncut\nitem\nF int 3\ncut\nend\n",
         output: Some("item\nF int 2\ncut\nitem\nF int 5\ncut\nend\n"),
+        ..ROW
+    },
+    Row {
+        text: NEST_AT_EACH,
+        input: "item\nF int 3\ncut\nitem\nF int 40\ncut\nitem\nF int 3\ncut\nitem\nF int 50\ncut\nitem\nF int 40\ncut\nend\n",
+        output: Some(
+            "item\nF int 6\ncut\nitem\nF int 80\ncut\nitem\nF int 6\ncut\nitem\nF int 100\ncut\nitem\nF int 80\ncut\nend\n",
+        ),
         ..ROW
     },
     Row {

@@ -4,4 +4,6 @@
 #[cfg(test)]
 mod again;
 #[cfg(test)]
+mod asked;
+#[cfg(test)]
 mod learned;
