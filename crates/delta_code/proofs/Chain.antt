@@ -1,12 +1,14 @@
 -- A chain of items: what is to be given behind those that are whole is what was to be given in all.
-use Rattle.std.proofs.Common.{◌≡◌, ◌∙◌, ℕ, ◌+◌, ◌-◌, ◌<◌, ◌≤◌, max, Bool, true, false, true≢false, ap, refl, sym, subst, arith}
+use Rattle.std.specs.Prelude.{Result}
+use Rattle.std.proofs.Common.{◌≡◌, ◌∙◌, ℕ, ◌+◌, ◌-◌, ◌≤◌, max, Bool, true, false, true≢false, ap, refl, sym, subst, arith}
 use Rattle.stream_type.specs.StreamType.{StreamType, eps, one, int, cat, par, sum, star}
-use Rattle.stream_prefix.specs.StreamPrefix.{is_maximal}
+use Rattle.stream_prefix.specs.StreamPrefix.{cat_fst, is_maximal}
 use Rattle.core_term.specs.CoreTerm.{CoreTerm, cons_term}
 use Rattle.core_term.specs.Parts.{star_item, star_items, as_star}
 use Rattle.core_term.specs.Run.{Run, relabel, cat_run_at}
 use Rattle.delta_state.specs.StateTree.{StateTree, cat_state}
 use Rattle.machine_parts.specs.declared.scope.Scope.{Scope}
+use Rattle.machine_parts.specs.declared.stop.Stop.{Stop}
 use Rattle.machine_parts.proofs.Runs.{rest_goes, rest_waits}
 use Rattle.template_state.specs.declared.code.Code.{Code}
 use Rattle.template_state.specs.declared.live.Past.{Past}
@@ -14,9 +16,12 @@ use Rattle.template_state.specs.Readers.{known_in}
 use Rattle.delta_code.specs.Eased.{Eased}
 use Rattle.delta_code.specs.declared.way.Way.{Way}
 use Rattle.delta_code.specs.Steps.{op_run, op_rest}
-use Rattle.delta_code.specs.Way.{after}
+use Rattle.delta_code.specs.declared.way.Reached.{Reached}
+use Rattle.delta_code.specs.Gives.{Leads}
+use Rattle.delta_code.specs.Way.{after, within}
 use Rattle.delta_code.proofs.Easing.{eased_same, eased_then, eased_cat}
 use Rattle.delta_code.proofs.Gains.{cons_runs}
+use Rattle.delta_code.proofs.Leading.{onward}
 
 -- The run `first`, which leaves `kept`, was to come at the end of the way `old`, with `n` calls left. It is `rest`,
 -- which leaves `left`, at the end of the way `new`, with `m` calls left; no call was at a greater level than `levels`.
@@ -30,17 +35,15 @@ pub record Chained (first rest : Run) (kept left : StateTree) (old new : Way) (n
   pub shallow : new.level ≤ max old.level levels
   pub level : rest.level ≤ first.level
 
--- before the first item
-pub chain_begins : (first : Run) (kept : StateTree) (w : Way) (n levels : ℕ) → Chained first first kept kept w w n n levels
-chain_begins first kept w n levels =
-    record { run = refl; state = refl; layers = refl; counted = refl; calls = refl; few = omega arith; shallow = omega arith; level = omega arith }
-
--- more calls than are left, or one at a greater level, in what is left of the chain
-pub chain_spent : {first rest : Run} {kept left : StateTree} {old new : Way} {n m levels : ℕ} → Chained first rest kept left old new n m levels → m < rest.calls → n < first.calls
-chain_spent h k = let c = h.calls in omega (arith, c, k)
-
-pub chain_deep : {first rest : Run} {kept left : StateTree} {old new : Way} {n m levels : ℕ} → Chained first rest kept left old new n m levels → levels < rest.level → levels < first.level
-chain_deep h k = let l = h.level in omega (arith, l, k)
+-- what is left of the chain leads to what all of it was to lead to
+pub chain_leads : {q : Result Reached Stop} {code : Code} {k : ℕ} {w : Way} {first rest : Run} {kept left : StateTree} {old new : Way} {n m levels : ℕ}
+    → Chained first rest kept left old new n m levels → Leads q code k new w rest left m levels → Leads q code k old w first kept n levels
+chain_leads h g =
+    let counted = h.counted in
+    let calls = h.calls in
+    let shallow = h.shallow in
+    let level = h.level in
+    onward g h.run (eased_same (λ i. within (sym h.layers i) (h.state i))) (omega (arith, counted)) (omega (arith, shallow)) (λ f. omega (arith, calls, f)) (λ f. omega (arith, level, f))
 
 -- the calls and the level of two in turn, of which the first is whole
 calls_in_turn : (w : Bool) (x y : Run) → w ≡ true → (cat_run_at w x y).calls ≡ x.calls + y.calls
@@ -80,6 +83,14 @@ module _ (code : Code) (k : ℕ) (s : Scope) (es : Past) where
   pub cons_waits : (a b : CoreTerm) (r : StreamType) (head : Run) (left : StateTree) → head ≡ op_run code k s es a (star_item r) → is_maximal head.out ≡ false → Eased (op_rest code k s es a (star_item r)) left
       → Eased (op_rest code k s es (cons_term a b) r) (cat_state left (record { term = b; past = known_in es; depth = k }))
   cons_waits a b r head left e w h = eased_then (eased_same (sym (rest_waits head _ _ _ e w))) (eased_cat h)
+
+  -- what is given of an item that isn't whole, and of the items after it
+  pub cons_begins : (a b : CoreTerm) (r : StreamType) (head : Run) → head ≡ op_run code k s es a (star_item r) → is_maximal head.out ≡ false
+      → relabel as_star (relabel cat_fst head) ≡ op_run code k s es (cons_term a b) r
+  cons_begins a b r head e w =
+      let x = op_run code k s es a (star_item r) in
+      let y = op_run code k s es b (star_items r) in
+      ap (λ (z : Run). relabel as_star (relabel cat_fst z)) e ∙ ap (λ (u : Bool). relabel as_star (cat_run_at u x y)) (sym (subst (λ (z : Run). is_maximal z.out ≡ false) e w))
 
   -- behind an item that is whole
   pub chain_behind : (a b : CoreTerm) (r : StreamType) {first head : Run} {kept : StateTree} {old mid new : Way} {n m levels : ℕ}

@@ -1,13 +1,13 @@
 -- Rewritings that ask for no type: those of parts are rewritings of the whole, and which bindings and frames go.
-use Rattle.std.proofs.Common.{◌≡◌, ◌∙◌, ℕ, true, false, ◌||◌, ◌&&◌, List, [], ◌∷◌, ap, ap₂, refl, subst, sym}
+use Rattle.std.proofs.Common.{◌≡◌, ℕ, true, false, ◌||◌, ◌&&◌, List, [], ◌∷◌, ap, ap₂, refl, subst, sym}
 use Rattle.stream_type.specs.StreamType.{StreamType}
 use Rattle.stream_prefix.specs.StreamPrefix.{StreamPrefix, eps_emp, one_emp, one_full, int_emp, int_full, par_both, cat_fst, cat_both, sum_emp, in_left, in_right, star_emp, star_done, star_first, star_rest}
 use Rattle.bunch.specs.Names.{holds}
 use Rattle.bunch.proofs.NameLists.{holds-append}
 use Rattle.core_term.specs.FreeNames.{without}
 use Rattle.core_term.specs.Parts.{par_left, par_right, cat_first}
-use Rattle.core_term.proofs.Sides.{and_first, and_second, or_second}
-use Rattle.delta_state.specs.StateTree.{LaterTree, StateTree, ArgumentTrees, sink, var_state, par_state, cat_state, let_state, let_par_state, let_cat_state, frame_state, no_arguments, argument_before, free_in_state, free_in_arguments}
+use Rattle.core_term.proofs.Sides.{and_first, and_second}
+use Rattle.delta_state.specs.StateTree.{LaterTree, StateTree, ArgumentTrees, sink, var_state, par_state, cat_state, let_state, let_par_state, let_cat_state, frame_state, no_arguments, argument_before, free_in_state}
 use Rattle.delta_state.specs.Rest.{cut_state}
 use Rattle.state_rewriting.specs.Rewriting.{ReplacedBy, ReplacedArgumentsBy, SimplerBy, as_it_is, as_they_are, one_more, here, IsAlias, alias_for, unused, unused_pair, unused_row, frames, is_plain, are_plain, at_most_once, stand_once, names_passed, composed, Rewritten}
 use Rattle.state_rewriting.proofs.RewritingsInside.{by_same, by_then, by_par, by_cat, by_let, by_let_par, by_let_cat, by_arguments, by_body, by_before, alias_by}
@@ -130,8 +130,6 @@ pub ruleset putting = (put_same, put_name, put_none, put_before)
 
 pub ruleset finishing = (eased_none, eased_before)
 
-pub ruleset easing = (eased_same, eased_par, eased_cat, eased_let, eased_let_par, eased_let_cat, eased_frame)
-
 pub ruleset using_names = (holds-append)
 
 pub ruleset aliasing = (alias_put, alias_none)
@@ -169,15 +167,7 @@ same_arguments {args = args} {new = new} h e f =
 pub before_eased : {x : ℕ} {t : StreamType} {a b : StateTree} {args others rest new : ArgumentTrees} → Eased a b → EasedArguments args others → rest ≡ argument_before x t a args → new ≡ argument_before x t b others → EasedArguments rest new
 before_eased {t = t} h k e f = same_arguments (record { by = by_before (h.at t) k.by }) e f
 
-pub inside_eased : {a b w z : StateTree} (l : Layers) → Eased a b → w ≡ a → z ≡ b → Eased (within l w) (within l z)
-inside_eased l h e f = within_eased l (same_eased h e f)
-
-pub given_eased : {w z : StateTree} (l : Layers) → z ≡ w → Eased (within l w) (within l z)
-given_eased l e = eased_same (ap (within l) (sym e))
-
 pub ruleset arguments_eased = (none_eased, before_eased, same_arguments)
-
-pub ruleset reached_eased = (inside_eased, given_eased)
 
 pub alias_eased : {a b w v : StateTree} {x z : ℕ} {t : StreamType} → Eased a b → w ≡ let_state x t (var_state z) a → v ≡ let_state x t (var_state z) b → Eased w v
 alias_eased h e f = same_eased (eased_let (eased_same refl) h) e f
@@ -186,6 +176,3 @@ pub two_eased : {a b w v : StateTree} {x y z : ℕ} {s t u : StreamType} → Eas
 two_eased h e f = same_eased (eased_let (eased_same refl) (eased_let (eased_same refl) h)) e f
 
 pub ruleset cases_eased = (same_eased, eased_same, alias_eased, two_eased, let_cat_eased)
-
-pub moved : {l m : Layers} (b e : StateTree) → m ≡ l → Eased (within m b) e → Eased (within l b) e
-moved b e i h = subst (λ (n : Layers). Eased (within n b) e) i h

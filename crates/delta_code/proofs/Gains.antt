@@ -1,5 +1,5 @@
 -- What is gained on a way, form by form.
-use Rattle.std.proofs.Common.{◌≡◌, ◌∙◌, ℕ, ◌+◌, ◌-◌, ◌<◌, ◌≤◌, max, Bool, true, false, ◌||◌, ◌++◌, List, [], ◌∷◌, map, ap, ap₂, refl, sym, subst, arith}
+use Rattle.std.proofs.Common.{◌≡◌, ◌∙◌, ℕ, ◌+◌, ◌-◌, ◌<◌, ◌≤◌, max, Bool, true, false, ◌||◌, ◌++◌, List, [], ◌∷◌, map, ap, refl, sym, arith}
 use Rattle.stream_prefix.specs.StreamPrefix.{StreamPrefix, star_rest, is_maximal}
 use Rattle.stream_prefix.specs.declared.prefix.Prefix.{Prefix}
 use Rattle.stream_prefix.specs.Tree.{prefix_of, star_of}

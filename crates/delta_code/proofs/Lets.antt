@@ -1,6 +1,6 @@
 -- Lets in one another: what is to be given in the body of those whose heads are shut is what was to be given in all.
-use Rattle.std.specs.Prelude.{map}
-use Rattle.std.proofs.Common.{◌≡◌, ◌∙◌, ℕ, List, ◌+◌, ◌-◌, ◌<◌, ◌≤◌, max, min, Bool, true, false, ◌||◌, ap, refl, sym, subst, arith}
+use Rattle.std.specs.Prelude.{map, Result}
+use Rattle.std.proofs.Common.{◌≡◌, ◌∙◌, ℕ, List, ◌+◌, ◌-◌, ◌≤◌, max, Bool, true, false, ◌||◌, ap, refl, sym, subst, arith}
 use Rattle.stream_type.specs.StreamType.{StreamType}
 use Rattle.stream_prefix.specs.StreamPrefix.{StreamPrefix, is_maximal, der}
 use Rattle.stream_prefix.specs.Tree.{prefix_of}
@@ -11,14 +11,18 @@ use Rattle.core_term.specs.Run.{Run, deeper, let_run}
 use Rattle.delta_state.specs.StateTree.{StateTree, let_state}
 use Rattle.machine_parts.specs.declared.entry.Entry.{Entry}
 use Rattle.machine_parts.specs.declared.scope.Scope.{Scope}
+use Rattle.machine_parts.specs.declared.stop.Stop.{Stop}
 use Rattle.machine_parts.specs.Scope.{types_in, streams_in, types_over, streams_over}
 use Rattle.template_state.specs.declared.code.Code.{Code}
 use Rattle.template_state.specs.declared.live.Past.{Past}
 use Rattle.delta_code.specs.Eased.{Eased}
 use Rattle.delta_code.specs.declared.way.Way.{Way}
+use Rattle.delta_code.specs.declared.way.Reached.{Reached}
+use Rattle.delta_code.specs.Gives.{Leads}
 use Rattle.delta_code.specs.Steps.{run_where, rest_where}
 use Rattle.delta_code.specs.Way.{after, gained, within}
 use Rattle.delta_code.proofs.Easing.{eased_same, eased_then, eased_let, within_eased}
+use Rattle.delta_code.proofs.Leading.{onward}
 
 -- The run `first`, which leaves `kept`, was to come at the end of the way `old`, with `n` calls left. It is `rest`,
 -- which leaves `left`, at the end of the way `new`, with `m` calls left; no call was at a greater level than `levels`.
@@ -36,12 +40,15 @@ pub nest_begins : (first : Run) (kept : StateTree) (w : Way) (n levels : ℕ) �
 nest_begins first kept w n levels =
     record { run = refl; state = eased_same refl; counted = refl; calls = refl; few = omega arith; shallow = omega arith; level = omega arith }
 
--- more calls than are left, or one at a greater level, in what is left
-pub nest_spent : {first rest : Run} {kept left : StateTree} {old new : Way} {n m levels : ℕ} → Nested first rest kept left old new n m levels → m < rest.calls → n < first.calls
-nest_spent h k = let c = h.calls in omega (arith, c, k)
-
-pub nest_deep : {first rest : Run} {kept left : StateTree} {old new : Way} {n m levels : ℕ} → Nested first rest kept left old new n m levels → levels < rest.level → levels < first.level
-nest_deep h k = let l = h.level in omega (arith, l, k)
+-- what is left leads to what all of it was to lead to
+pub nest_leads : {q : Result Reached Stop} {code : Code} {k : ℕ} {w : Way} {first rest : Run} {kept left : StateTree} {old new : Way} {n m levels : ℕ}
+    → Nested first rest kept left old new n m levels → Leads q code k new w rest left m levels → Leads q code k old w first kept n levels
+nest_leads h g =
+    let counted = h.counted in
+    let calls = h.calls in
+    let shallow = h.shallow in
+    let level = h.level in
+    onward g h.run h.state (omega (arith, counted)) (omega (arith, shallow)) (λ f. omega (arith, calls, f)) (λ f. omega (arith, level, f))
 
 -- what is left gives this run, and leaves this
 pub nest_is : {first rest other : Run} {kept left state : StateTree} {old new : Way} {n m levels : ℕ} → Nested first rest kept left old new n m levels → rest ≡ other → left ≡ state
@@ -57,13 +64,6 @@ level_shut w x y v e f = go (v || is_maximal x.out) refl
     go true q = rw q (omega arith)
     go false q = absurd (cc (q, e, f))
 
--- at the end of the way
-pub nest_counted : {first rest : Run} {kept left : StateTree} {old new : Way} {n m levels : ℕ} → Nested first rest kept left old new n m levels → (c : ℕ) → c ≤ new.calls + m → c ≤ old.calls + n
-nest_counted h c l = let e = h.counted in omega (arith, e, l)
-
-pub nest_shallow : {first rest : Run} {kept left : StateTree} {old new : Way} {n m levels : ℕ} → Nested first rest kept left old new n m levels → (d : ℕ) → d ≤ max new.level levels → d ≤ max old.level levels
-nest_shallow h d l = let e = h.shallow in omega (arith, e, l)
-
 module _ (code : Code) (k : ℕ) (es : Past) where
   -- what is left of a let
   pub let_left : (x : ℕ) (t : StreamType) (a b : CoreTerm) (r : StreamType) (types : NameTypes) (env : Environment) {head : Run} → head ≡ run_where code k es a types t env
@@ -72,7 +72,7 @@ module _ (code : Code) (k : ℕ) (es : Past) where
       ap (λ (z : Run). let_state x (der z.out t) (rest_where code k es a types t env) (rest_where code k es b (put x t types) r (put x z.out env))) (sym e)
 
   -- in a let whose head is shut
-  pub into_nest : (x : ℕ) (t : StreamType) (a b : CoreTerm) (r : StreamType) (types : NameTypes) (env : Environment)
+  into_nest : (x : ℕ) (t : StreamType) (a b : CoreTerm) (r : StreamType) (types : NameTypes) (env : Environment)
       {first head : Run} {kept left : StateTree} {old mid new : Way} {n m levels : ℕ}
       → Nested first (run_where code k es (let_term x t a b) types r env) kept (rest_where code k es (let_term x t a b) types r env) old mid n m levels
       → head ≡ run_where code k es a types t env → Eased (rest_where code k es a types t env) left → (is_var a || is_maximal head.out) ≡ true → head.calls ≤ m → head.level ≤ levels - 1
@@ -104,7 +104,7 @@ module _ (code : Code) (k : ℕ) (es : Past) where
       }
 
   -- where the head's name is bound behind the others, and what is left of the body is left of another term behind more
-  pub nest_again : (known : Past) (bs mid new : List Entry) (x : ℕ) (t : StreamType) (q : StreamPrefix) (e other : CoreTerm) (s : Scope) (r : StreamType)
+  nest_again : (known : Past) (bs mid new : List Entry) (x : ℕ) (t : StreamType) (q : StreamPrefix) (e other : CoreTerm) (s : Scope) (r : StreamType)
       {first : Run} {kept : StateTree} {old way on : Way} {n m levels : ℕ}
       → Nested first (run_where code k es e (put x t (types_over bs (types_in s))) r (put x q (streams_over bs (streams_in s)))) kept
       (rest_where code k es e (put x t (types_over bs (types_in s))) r (put x q (streams_over bs (streams_in s)))) old way n m levels
@@ -134,3 +134,25 @@ module _ (code : Code) (k : ℕ) (es : Past) where
         shallow = omega (arith, shallow, level);
         level = omega (arith, low, lower);
       }
+
+  -- in a let whose head is shut, and on to what its body comes to with more bound behind the head's name
+  pub nest_inward : (known : Past) (bs mid new : List Entry) (x : ℕ) (t : StreamType) (a b other : CoreTerm) (s : Scope) (r : StreamType) (named : Bool) (behind on : Way)
+      {first head : Run} {kept left : StateTree} {old way : Way} {n m levels : ℕ}
+      → Nested first (run_where code k es (let_term x t a b) (types_over bs (types_in s)) r (streams_over bs (streams_in s))) kept
+      (rest_where code k es (let_term x t a b) (types_over bs (types_in s)) r (streams_over bs (streams_in s))) old way n m levels
+      → head ≡ run_where code k es a (types_over bs (types_in s)) t (streams_over bs (streams_in s)) → Eased (rest_where code k es a (types_over bs (types_in s)) t (streams_over bs (streams_in s))) left
+      → named ≡ is_var a → (named || is_maximal head.out) ≡ true → head.calls ≤ m → head.level ≤ levels - 1
+      → ((z : Run) → after behind z ≡ after way (let_run named head z))
+      → ((z : StateTree) → within behind.layers z ≡ within way.layers (let_state x (der head.out t) left z))
+      → behind.calls ≡ way.calls + head.calls → behind.level ≡ max way.level (deeper false head.level)
+      → ((c : NameTypes) → types_over mid c ≡ put x t (types_over bs c)) → ((d : Environment) → streams_over mid d ≡ put x head.out (streams_over bs d))
+      → run_where code k known other (types_over new (types_in s)) r (streams_over new (streams_in s)) ≡ run_where code k es b (types_over mid (types_in s)) r (streams_over mid (streams_in s))
+      → within on.layers (rest_where code k known other (types_over new (types_in s)) r (streams_over new (streams_in s))) ≡ within behind.layers (rest_where code k es b (types_over mid (types_in s)) r (streams_over mid (streams_in s)))
+      → on.items ≡ behind.items → on.calls ≡ behind.calls → on.level ≡ behind.level
+      → Nested first (run_where code k known other (types_over new (types_in s)) r (streams_over new (streams_in s))) kept
+      (rest_where code k known other (types_over new (types_in s)) r (streams_over new (streams_in s))) old on n (m - head.calls) levels
+  nest_inward known bs mid new x t a b other s r named behind on {head = head} {way = way} h e eased is shut c l gains layers calls level types streams run rest items same_calls same_level =
+      nest_again known bs mid new x t head.out b other s r {on = on}
+      (into_nest x t a b r (types_over bs (types_in s)) (streams_over bs (streams_in s)) {new = behind} h e eased (subst (λ (v : Bool). (v || is_maximal head.out) ≡ true) is shut) c l
+      (λ z. gains z ∙ ap (λ (v : Bool). after way (let_run v head z)) is) layers calls level)
+      types streams run rest items same_calls same_level

@@ -2,6 +2,8 @@
 pub mod SameProgram
 pub mod Easing
 pub mod Gains
+pub mod Giving
+pub mod Leading
 pub mod Chain
 pub mod Lets
 pub mod Taking

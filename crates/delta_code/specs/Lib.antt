@@ -3,6 +3,7 @@ pub mod Around
 pub mod Begun
 pub mod Eased
 pub mod GivenBack
+pub mod Gives
 pub mod Told
 pub mod Steps
 pub mod CodedView

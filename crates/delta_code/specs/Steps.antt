@@ -1,6 +1,6 @@
 -- What the functions of a step are to give: the run and what is left of templates, in a scope with the values
 -- that they see, and of states.
-use Rattle.std.specs.Prelude.{ℕ, List, map}
+use Rattle.std.specs.Prelude.{ℕ, List}
 use Rattle.stream_type.specs.StreamType.{StreamType}
 use Rattle.core_term.specs.CoreTerm.{CoreTerm, CoreTerms, CoreBody, fun_at}
 use Rattle.core_term.specs.Environment.{Environment, NameTypes}

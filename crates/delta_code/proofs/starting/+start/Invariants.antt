@@ -13,8 +13,8 @@ use Rattle.delta_code.proofs.Chain.{Chained}
 use Rattle.delta_code.proofs.Lets.{Nested}
 use Rattle.delta_code.proofs.starting.+start.Given as goal
 
-abbrev pub decreases-start : goal.decreases-start
-decreases-start l = 4 * (weight_of_calls l.k (bodies_in l.code.now) + weight (op_term l.n.now.value)) + 3
+abbrev pub decreases-start_term : goal.decreases-start_term
+decreases-start_term l = 4 * (weight_of_calls l.k (bodies_in l.code.now) + weight (op_term l.n.now.value)) + 3
 
 abbrev pub decreases-go_on : goal.decreases-go_on
 decreases-go_on l = 4 * weight_of_calls l.k (bodies_in l.code.now) + 6
@@ -37,11 +37,11 @@ decreases-reach_sum l = 4 * (weight_of_calls l.k (bodies_in l.code.now) + (1 + (
 abbrev pub decreases-reach_star : goal.decreases-reach_star
 decreases-reach_star l = 4 * (weight_of_calls l.k (bodies_in l.code.now) + (1 + (weight (op_term l.a.now.value) + weight (op_term l.b.now.value))))
 
-abbrev pub decreases-reach_both : goal.decreases-reach_both
-decreases-reach_both l = 4 * (weight_of_calls l.k (bodies_in l.code.now) + (1 + (weight (op_term l.a.now.value) + weight (op_term l.b.now.value))))
+abbrev pub decreases-start_both : goal.decreases-start_both
+decreases-start_both l = 4 * (weight_of_calls l.k (bodies_in l.code.now) + (1 + (weight (op_term l.a.now.value) + weight (op_term l.b.now.value))))
 
-abbrev pub decreases-reach_in_turn : goal.decreases-reach_in_turn
-decreases-reach_in_turn l = 4 * (weight_of_calls l.k (bodies_in l.code.now) + (1 + (weight (op_term l.a.now.value) + weight (op_term l.b.now.value))))
+abbrev pub decreases-start_in_turn : goal.decreases-start_in_turn
+decreases-start_in_turn l = 4 * (weight_of_calls l.k (bodies_in l.code.now) + (1 + (weight (op_term l.a.now.value) + weight (op_term l.b.now.value))))
 
 abbrev pub decreases-reach_cons : goal.decreases-reach_cons
 decreases-reach_cons l = 4 * (weight_of_calls l.k (bodies_in l.code.now) + (2 + (weight (op_term l.a.now.value) + weight (op_term l.b.now.value))))
@@ -52,11 +52,11 @@ decreases-reach_pair l = 4 * (weight_of_calls l.k (bodies_in l.code.now) + (1 + 
 abbrev pub decreases-reach_row : goal.decreases-reach_row
 decreases-reach_row l = 4 * (weight_of_calls l.k (bodies_in l.code.now) + (1 + weight (op_term l.a.now.value)))
 
-abbrev pub decreases-reach_left : goal.decreases-reach_left
-decreases-reach_left l = 4 * (weight_of_calls l.k (bodies_in l.code.now) + (1 + weight (op_term l.a.now.value)))
+abbrev pub decreases-start_left : goal.decreases-start_left
+decreases-start_left l = 4 * (weight_of_calls l.k (bodies_in l.code.now) + (1 + weight (op_term l.a.now.value)))
 
-abbrev pub decreases-reach_right : goal.decreases-reach_right
-decreases-reach_right l = 4 * (weight_of_calls l.k (bodies_in l.code.now) + (1 + weight (op_term l.a.now.value)))
+abbrev pub decreases-start_right : goal.decreases-start_right
+decreases-start_right l = 4 * (weight_of_calls l.k (bodies_in l.code.now) + (1 + weight (op_term l.a.now.value)))
 
 abbrev pub decreases-reach_wait : goal.decreases-reach_wait
 decreases-reach_wait l = 4 * (weight_of_calls l.k (bodies_in l.code.now) + (1 + weight (op_term l.a.now.value)))
@@ -66,6 +66,12 @@ decreases-reach_call l = 4 * (weight_of_calls l.k (bodies_in l.code.now) + (3 + 
 
 abbrev pub decreases-start_arguments : goal.decreases-start_arguments
 decreases-start_arguments l = 4 * (weight_of_calls l.k (bodies_in l.code.now) + (2 + weight_of_all (operand_terms l.es.now)))
+
+abbrev pub decreases-start_unnamed : goal.decreases-start_unnamed
+decreases-start_unnamed l = 4 * (weight_of_calls l.k (bodies_in l.code.now) + (2 + (weight (op_term l.e.now.value) + weight_of_all (operand_terms l.more.now)))) + 1
+
+abbrev pub decreases-start_argument : goal.decreases-start_argument
+decreases-start_argument l = 4 * (weight_of_calls l.k (bodies_in l.code.now) + (2 + (weight (op_term l.e.now.value) + weight_of_all (operand_terms l.more.now)))) + 1
 
 -- what is still to come at the end of the way is what was to come when the loop began
 abbrev pub invariant-go_on-calls : goal.invariant-go_on-calls
