@@ -11,12 +11,10 @@ use Rattle.state_rewriting.specs.Rewriting.{SimplerBy}
 use Rattle.other_numbers.specs.Numbers.{exchanged_environment, exchanged_run}
 use Rattle.other_numbers.specs.EventNumbers.{exchanged_event}
 use Rattle.other_numbers.specs.StateNumbers.{exchanged_state}
-use Rattle.other_numbers.proofs.OtherNumbers.{runs_go_along, rests_go_along}
-use Rattle.other_numbers.proofs.SimplerNumbers.{simpler_goes_along}
+use Rattle.other_numbers.proofs.OtherNumbers.{runs_go_along, rests_go_along, simpler_goes_along}
 use Rattle.other_depths.specs.Depths.{deepened}
 use Rattle.other_depths.specs.Suits.{Suits}
-use Rattle.other_depths.proofs.DeepStates.{runs_at_other_depths, rests_at_other_depths}
-use Rattle.other_depths.proofs.SimplerDepths.{simpler_at_other_depths}
+use Rattle.other_depths.proofs.DeepStates.{runs_at_other_depths, rests_at_other_depths, simpler_at_other_depths}
 use Rattle.filled_states.proofs.FilledStates.{suits_exchanged}
 use Rattle.learned_steps.specs.Learned.{Learned, GoesWith, names_at, state_with}
 use Rattle.learned_steps.specs.Laws.{LearnedRuns}

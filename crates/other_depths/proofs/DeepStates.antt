@@ -1,5 +1,8 @@
--- The laws of states at other depths: their runs, and what is left of them.
-use Rattle.other_depths.specs.Laws.{RunsAtOtherDepths, RestsAtOtherDepths}
+-- The laws of states at other depths: their runs, what is left of them, and what is made simpler.
+use Rattle.std.proofs.Common.{refl}
+use Rattle.mapped_states.proofs.SimplerMapped.{simpler_mapped}
+use Rattle.other_depths.specs.Depths.{deepened_later}
+use Rattle.other_depths.specs.Laws.{RunsAtOtherDepths, RestsAtOtherDepths, SimplerAtOtherDepths}
 use Rattle.other_depths.proofs.StateRuns.{state_same}
 use Rattle.other_depths.proofs.StateRests.{state_rest_same}
 
@@ -8,3 +11,6 @@ runs_at_other_depths g n funs s types r env h w = state_same g n funs s types r 
 
 pub rests_at_other_depths : RestsAtOtherDepths
 rests_at_other_depths g n funs s types r env h w = state_rest_same g n funs s types r env h w
+
+pub simpler_at_other_depths : SimplerAtOtherDepths
+simpler_at_other_depths g r a b h = simpler_mapped (deepened_later g) (λ held. held) (λ l. refl) r a b h

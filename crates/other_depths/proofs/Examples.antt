@@ -17,8 +17,7 @@ use Rattle.state_rewriting.specs.Rewriting.{SimplerBy, as_it_is, one_more, here,
 use Rattle.other_depths.specs.Depths.{deepened}
 use Rattle.other_depths.specs.Suits.{Suits, SuitsAt}
 use Rattle.other_depths.proofs.Shifts.{moved, moved_suits}
-use Rattle.other_depths.proofs.DeepStates.{runs_at_other_depths, rests_at_other_depths}
-use Rattle.other_depths.proofs.SimplerDepths.{simpler_at_other_depths}
+use Rattle.other_depths.proofs.DeepStates.{runs_at_other_depths, rests_at_other_depths, simpler_at_other_depths}
 
 -- the case that the loop is: case xs of { nil => nil | y :: ys => y :: copy(ys) }, by the branch of an item
 abbrev next_item : CoreTerm

@@ -2,7 +2,6 @@
 pub mod SameRuns
 pub mod TermRuns
 pub mod Calls
-pub mod StateForms
 pub mod SameRests
 pub mod TermRests
 pub mod StateRuns
@@ -12,7 +11,6 @@ pub mod FormsFrom
 pub mod TermsFrom
 pub mod StatesFrom
 pub mod DepthsLeft
-pub mod SimplerDepths
 pub mod Shifts
 pub mod TwiceDepths
 mod Examples

@@ -12,11 +12,11 @@ use Rattle.core_term.proofs.WholeRuns.{cat_calls_first}
 use Rattle.delta_state.specs.StateTree.{LaterTree, StateTree, ArgumentTrees, sink, var_state, par_state, cat_state, let_state, let_par_state, let_cat_state, sum_state, star_state, wait_state, frame_state, no_arguments, argument_before, argument_names, laters_of, laters_in}
 use Rattle.delta_state.specs.StateMeaning.{knowing, types_held, with_held, types_of_arguments, run_later, run_state, run_arguments}
 use Rattle.delta_state.specs.Rest.{rest_later, rest_of, rest_of_arguments}
+use Rattle.mapped_states.proofs.MappedForms.{argument_names_stay, types_of_arguments_stay}
 use Rattle.other_depths.specs.Depths.{deepened_later, deepened, deepened_arguments}
 use Rattle.other_depths.specs.Suits.{SuitsAt, Suits}
 use Rattle.other_depths.proofs.SameRests.{SameRest, cat_rest_same, wait_rest_same, cut_same, sum_rest_same, star_rest_same}
 use Rattle.other_depths.proofs.TermRests.{rest_same_at}
-use Rattle.other_depths.proofs.StateForms.{argument_names_stay, types_of_arguments_stay}
 use Rattle.other_depths.proofs.StateRuns.{SuitArguments, suits_left, suits_right, suits_first, suits_second, suits_last, state_same, arguments_same}
 
 module _ (g : ℕ → ℕ) (n : ℕ) (funs : ℕ → CoreBody) where
@@ -68,7 +68,7 @@ module _ (g : ℕ → ℕ) (n : ℕ) (funs : ℕ → CoreBody) where
         let v = suits_left g n (laters_in args) (laters_of s) w in
         ap₂ frame_state (arguments_rest_same args T d (omega (arith, h)) v)
         (ap (λ (u : Runs). rest_of funs (deepened g s) (types_of_arguments (deepened_arguments g args)) r (value_at eps_emp (argument_names (deepened_arguments g args)) u.outs)) (arguments_same g n funs args T d (omega (arith, h)) v)
-        ∙ ap₂ (λ C (us : List ℕ). rest_of funs (deepened g s) C r (value_at eps_emp us outs)) (types_of_arguments_stay g args) (argument_names_stay g args)
+        ∙ ap₂ (λ C (us : List ℕ). rest_of funs (deepened g s) C r (value_at eps_emp us outs)) (types_of_arguments_stay _ _ args) (argument_names_stay _ _ args)
         ∙ state_rest_same s B r (value_at eps_emp (argument_names args) outs) (omega (arith, h)) (suits_right g n (laters_in args) (laters_of s) w))
 
     -- what is left of arguments

@@ -13,11 +13,11 @@ use Rattle.core_term.specs.Run.{Run, Runs, par_run, let_run, run_before, frame_r
 use Rattle.delta_state.specs.StateTree.{LaterTree, StateTree, ArgumentTrees, sink, var_state, par_state, cat_state, let_state, let_par_state, let_cat_state, sum_state, star_state, wait_state, frame_state, no_arguments, argument_before, is_var_state, argument_names, laters_of, laters_in}
 use Rattle.delta_state.specs.StateMeaning.{past_in, knowing, types_held, with_held, types_of_arguments, run_later, run_state, run_arguments}
 use Rattle.delta_state.proofs.WholeStates.{all_left, all_right}
+use Rattle.mapped_states.proofs.MappedForms.{is_var_stays, argument_names_stay, types_of_arguments_stay}
 use Rattle.other_depths.specs.Depths.{deepened_later, deepened, deepened_arguments}
 use Rattle.other_depths.specs.Suits.{SuitsAt, Suits}
 use Rattle.other_depths.proofs.SameRuns.{Same, cat_same, sum_same, star_same, wait_same}
 use Rattle.other_depths.proofs.Calls.{term_same_at}
-use Rattle.other_depths.proofs.StateForms.{is_var_stays, argument_names_stay, types_of_arguments_stay}
 
 -- g's depths suit code that isn't reached, and all code of arguments
 abbrev pub SuitsLater : (ℕ → ℕ) → ℕ → LaterTree → Type 0
@@ -59,7 +59,7 @@ module _ (g : ℕ → ℕ) (n : ℕ) (funs : ℕ → CoreBody) where
         cat_same n _ _ _ _ (record { same = λ i. state_same a T (cat_first r) d i (suits_left g n (laters_of a) (l ∷ []) w) }) (later_same l T (cat_second r) d (suits_last g n (laters_of a) l w)) h
     state_same (let_state x s a b) T r d h w =
         let A = run_state funs a T s d in
-        ap₂ (λ v (u : Run). let_run v u (run_state funs (deepened g b) (put x s T) r (put x u.out d))) (is_var_stays g a) (state_same a T s d (omega (arith, h)) (suits_left g n (laters_of a) (laters_of b) w))
+        ap₂ (λ v (u : Run). let_run v u (run_state funs (deepened g b) (put x s T) r (put x u.out d))) (is_var_stays _ _ a) (state_same a T s d (omega (arith, h)) (suits_left g n (laters_of a) (laters_of b) w))
         ∙ ap (let_run (is_var_state a) A) (state_same b (put x s T) r (put x A.out d) (omega (arith, h)) (suits_right g n (laters_of a) (laters_of b) w))
     state_same (let_par_state x y z a) T r d h w = state_same a _ r _ h w
     state_same (let_cat_state x y z a) T r d h w = state_same a _ r _ h w
@@ -82,7 +82,7 @@ module _ (g : ℕ → ℕ) (n : ℕ) (funs : ℕ → CoreBody) where
         let names = argument_names args in
         ap (λ (u : Runs). frame_run u (run_state funs (deepened g s) (types_of_arguments (deepened_arguments g args)) r (value_at eps_emp (argument_names (deepened_arguments g args)) u.outs)))
         (arguments_same args T d (omega (arith, h)) (suits_left g n (laters_in args) (laters_of s) w))
-        ∙ ap₂ (λ C (us : List ℕ). frame_run inside (run_state funs (deepened g s) C r (value_at eps_emp us inside.outs))) (types_of_arguments_stay g args) (argument_names_stay g args)
+        ∙ ap₂ (λ C (us : List ℕ). frame_run inside (run_state funs (deepened g s) C r (value_at eps_emp us inside.outs))) (types_of_arguments_stay _ _ args) (argument_names_stay _ _ args)
         ∙ ap (frame_run inside) (state_same s B r (value_at eps_emp names inside.outs) (omega (arith, h)) (suits_right g n (laters_in args) (laters_of s) w))
 
     -- arguments
@@ -90,6 +90,6 @@ module _ (g : ℕ → ℕ) (n : ℕ) (funs : ℕ → CoreBody) where
         → run_arguments funs (deepened_arguments g args) T d ≡ run_arguments funs args T d
     arguments_same no_arguments T d h w = refl
     arguments_same (argument_before x t s args) T d h w =
-        ap (λ v. run_before v (run_state funs (deepened g s) T t d) (run_arguments funs (deepened_arguments g args) T d)) (is_var_stays g s)
+        ap (λ v. run_before v (run_state funs (deepened g s) T t d) (run_arguments funs (deepened_arguments g args) T d)) (is_var_stays _ _ s)
         ∙ ap₂ (run_before (is_var_state s)) (state_same s T t d (omega (arith, h)) (suits_left g n (laters_of s) (laters_in args) w))
         (arguments_same args T d (omega (arith, h)) (suits_right g n (laters_of s) (laters_in args) w))

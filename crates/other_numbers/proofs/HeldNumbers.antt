@@ -6,11 +6,12 @@ use Rattle.stream_prefix.specs.StreamPrefix.{StreamPrefix, eps_emp, join}
 use Rattle.bunch.specs.Names.{put, value_at}
 use Rattle.hist_value.specs.HistValue.{HistValue}
 use Rattle.core_term.specs.Environment.{Environment, NameTypes}
-use Rattle.delta_state.specs.StateTree.{Known, HeldName, StateTree, ArgumentTrees, var_state, no_arguments, argument_before, is_var_state, argument_names}
-use Rattle.delta_state.specs.StateMeaning.{past_in, types_held, prefixes_held, with_held, types_of_arguments}
+use Rattle.delta_state.specs.StateTree.{Known, HeldName, ArgumentTrees, argument_names}
+use Rattle.delta_state.specs.StateMeaning.{past_in, types_held, prefixes_held, with_held}
 use Rattle.delta_state.specs.Rest.{taken, held_more, known_of}
+use Rattle.mapped_states.proofs.MappedForms.{argument_names_stay}
 use Rattle.other_numbers.specs.Numbers.{exchanged, exchanged_value}
-use Rattle.other_numbers.specs.StateNumbers.{exchanged_known, exchanged_held, exchanged_state, exchanged_arguments}
+use Rattle.other_numbers.specs.StateNumbers.{exchanged_known, exchanged_held, exchanged_arguments}
 use Rattle.other_numbers.proofs.PrefixNumbers.{join_goes}
 use Rattle.other_numbers.proofs.NameNumbers.{Along, along_values}
 
@@ -66,22 +67,8 @@ module _ (f : ℤ → ℤ) where
   taken_goes [] T d d' h = refl
   taken_goes (x ∷ xs) T d d' h = ap₂ (λ p ns. record { name = x; type = T x; prefix = p } ∷ ns) (h.at x) (taken_goes xs T d d' h)
 
-  -- a name is a name, and nothing else is
-  pub is_var_stays : (s : StateTree) → is_var_state (exchanged_state f s) ≡ is_var_state s
-  is_var_stays (var_state x) = refl
-  is_var_stays _ = refl
-
-  -- the parameters that have arguments, and their types
-  pub argument_names_stay : (args : ArgumentTrees) → argument_names (exchanged_arguments f args) ≡ argument_names args
-  argument_names_stay no_arguments = refl
-  argument_names_stay (argument_before x t s args) = ap (λ us. x ∷ us) (argument_names_stay args)
-
-  pub types_of_arguments_stay : (args : ArgumentTrees) → types_of_arguments (exchanged_arguments f args) ≡ types_of_arguments args
-  types_of_arguments_stay no_arguments = refl
-  types_of_arguments_stay (argument_before x t s args) = ap (put x t) (types_of_arguments_stay args)
-
-  -- what comes on them
+  -- what comes on the parameters that have arguments
   pub along_arguments : (args : ArgumentTrees) (ps ps' : List StreamPrefix) → ps' ≡ map (exchanged f) ps
       → Along (exchanged f) (value_at eps_emp (argument_names args) ps) (value_at eps_emp (argument_names (exchanged_arguments f args)) ps')
   along_arguments args ps ps' e =
-      let a = along_values (exchanged f) eps_emp refl (argument_names args) ps in record { at = λ x. ap₂ (λ us qs. value_at eps_emp us qs x) (argument_names_stay args) e ∙ a.at x }
+      let a = along_values (exchanged f) eps_emp refl (argument_names args) ps in record { at = λ x. ap₂ (λ us qs. value_at eps_emp us qs x) (argument_names_stay _ _ args) e ∙ a.at x }

@@ -10,7 +10,6 @@ pub mod StateRuns
 pub mod TermRests
 pub mod StateRests
 pub mod OtherNumbers
-pub mod SimplerNumbers
 pub mod MovedNumbers
 pub mod TwiceNumbers
 pub mod EventNumbers

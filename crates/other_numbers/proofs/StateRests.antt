@@ -15,6 +15,7 @@ use Rattle.core_term.specs.Meaning.{Past, call_at}
 use Rattle.delta_state.specs.StateTree.{LaterTree, StateTree, ArgumentTrees, sink, var_state, par_state, cat_state, let_state, let_par_state, let_cat_state, sum_state, star_state, wait_state, frame_state, no_arguments, argument_before, argument_names}
 use Rattle.delta_state.specs.StateMeaning.{past_in, knowing, types_held, with_held, types_of_arguments, run_state, run_arguments}
 use Rattle.delta_state.specs.Rest.{held_more, known_of, sum_rest, star_rest_state, call_rest_at, rest_with, rest_later, rest_of, rest_of_arguments}
+use Rattle.mapped_states.proofs.MappedForms.{types_of_arguments_stay}
 use Rattle.other_numbers.specs.Numbers.{exchanged}
 use Rattle.other_numbers.specs.StateNumbers.{exchanged_held, exchanged_later, exchanged_state, exchanged_arguments}
 use Rattle.other_numbers.specs.Asked.{once_whole, asked_with, call_asked_at}
@@ -25,7 +26,7 @@ use Rattle.other_numbers.proofs.ValueNumbers.{value_of_goes}
 use Rattle.other_numbers.proofs.NameNumbers.{Along, along_put}
 use Rattle.other_numbers.proofs.TermRuns.{commute_left, commute_right, along_pair, along_row}
 use Rattle.other_numbers.proofs.Calls.{along_params}
-use Rattle.other_numbers.proofs.HeldNumbers.{known_of_goes, types_held_stay, along_held, held_more_goes, types_of_arguments_stay, along_arguments}
+use Rattle.other_numbers.proofs.HeldNumbers.{known_of_goes, types_held_stay, along_held, held_more_goes, along_arguments}
 use Rattle.other_numbers.proofs.StateRuns.{state_goes, arguments_go}
 use Rattle.other_numbers.proofs.TermRests.{CallsLeave, term_rest_goes, whole_rest_goes, run_leaves, cut_goes, sum_rest_goes, star_rest_goes}
 
@@ -128,7 +129,7 @@ module _ (f : ℤ → ℤ) (funs : ℕ → CoreBody) where
         let g = arguments_go f funs args T d d' h (commute_left f inside body q) in
         let i = along_arguments f args (run_arguments funs args T d).outs (run_arguments funs (exchanged_arguments f args) T d').outs (ap (λ (u : Runs). u.outs) g.same_runs) in
         ap₂ frame_state (arguments_rest_go args T d d' h (commute_left f inside body q))
-        (ap (λ B'. rest_of funs (exchanged_state f s) B' r e') (types_of_arguments_stay f args) ∙ state_rest_goes s B r e e' i (commute_right f inside body q))
+        (ap (λ B'. rest_of funs (exchanged_state f s) B' r e') (types_of_arguments_stay _ _ args) ∙ state_rest_goes s B r e e' i (commute_right f inside body q))
 
     -- what is left of arguments
     pub arguments_rest_go : (args : ArgumentTrees) (T : NameTypes) (d d' : Environment) → Along (exchanged f) d d' → AllCommute f (asked_of_arguments funs args T d)

@@ -10,6 +10,7 @@ use Rattle.core_term.specs.Parts.{par_left, par_right, cat_first, cat_second, su
 use Rattle.core_term.specs.Run.{Run, Runs, let_run, run_before}
 use Rattle.delta_state.specs.StateTree.{LaterTree, StateTree, ArgumentTrees, sink, var_state, par_state, cat_state, let_state, let_par_state, let_cat_state, sum_state, star_state, wait_state, frame_state, no_arguments, argument_before, is_var_state, argument_names}
 use Rattle.delta_state.specs.StateMeaning.{past_in, knowing, types_held, with_held, types_of_arguments, run_later, run_sum, run_star, run_wait, run_state, run_arguments}
+use Rattle.mapped_states.proofs.MappedForms.{is_var_stays, types_of_arguments_stay}
 use Rattle.other_numbers.specs.Numbers.{exchanged}
 use Rattle.other_numbers.specs.StateNumbers.{exchanged_known, exchanged_held, exchanged_later, exchanged_state, exchanged_arguments}
 use Rattle.other_numbers.specs.Asked.{once_whole, sum_asked, star_asked}
@@ -20,7 +21,7 @@ use Rattle.other_numbers.proofs.NameNumbers.{Along, along_put}
 use Rattle.other_numbers.proofs.RunNumbers.{Goes, GoAll, quiet_goes, empty_goes, par_goes, cat_goes, let_goes, sum_goes, star_goes, wait_goes, no_runs_go, before_goes, frame_goes}
 use Rattle.other_numbers.proofs.TermRuns.{commute_left, commute_right, along_pair, along_row}
 use Rattle.other_numbers.proofs.Calls.{deep_term_goes}
-use Rattle.other_numbers.proofs.HeldNumbers.{along_known, types_held_stay, along_held, is_var_stays, types_of_arguments_stay, along_arguments}
+use Rattle.other_numbers.proofs.HeldNumbers.{along_known, types_held_stay, along_held, along_arguments}
 
 module _ (f : ℤ → ℤ) (funs : ℕ → CoreBody) where
   -- code once it is reached
@@ -58,7 +59,7 @@ module _ (f : ℤ → ℤ) (funs : ℕ → CoreBody) where
         let body = state_goes b (put x s T) r (put x (run_state funs a T s d).out d) (put x (run_state funs (exchanged_state f a) T s d').out d')
         (along_put (exchanged f) x (run_state funs a T s d).out (run_state funs (exchanged_state f a) T s d').out d d' (ap (λ (u : Run). u.out) head.same_run) h) (commute_right f first second q) in
         let whole = let_goes f (is_var_state a) head body in
-        record { same_run = ap (λ w. let_run w (run_state funs (exchanged_state f a) T s d') (run_state funs (exchanged_state f b) (put x s T) r (put x (run_state funs (exchanged_state f a) T s d').out d'))) (is_var_stays f a) ∙ whole.same_run; same_asks = whole.same_asks }
+        record { same_run = ap (λ w. let_run w (run_state funs (exchanged_state f a) T s d') (run_state funs (exchanged_state f b) (put x s T) r (put x (run_state funs (exchanged_state f a) T s d').out d'))) (is_var_stays _ _ a) ∙ whole.same_run; same_asks = whole.same_asks }
     state_goes (let_par_state x y z a) T r d d' h q = state_goes a _ r _ _ (along_pair f x y z d d' h) q
     state_goes (let_cat_state x y z a) T r d d' h q = state_goes a _ r _ _ (along_row f x y z (cat_second (T z)) d d' h) q
     state_goes (sum_state z t held x l y m) T r d d' h q =
@@ -98,7 +99,7 @@ module _ (f : ℤ → ℤ) (funs : ℕ → CoreBody) where
         let g = arguments_go args T d d' h (commute_left f inside body q) in
         let i = along_arguments f args (run_arguments funs args T d).outs (run_arguments funs (exchanged_arguments f args) T d').outs (ap (λ (u : Runs). u.outs) g.same_runs) in
         frame_goes f g
-        (subst (λ B'. Goes f (run_state funs s B r e) (run_state funs (exchanged_state f s) B' r e') (asked_of funs s B r e) (asked_of funs (exchanged_state f s) B' r e')) (sym (types_of_arguments_stay f args))
+        (subst (λ B'. Goes f (run_state funs s B r e) (run_state funs (exchanged_state f s) B' r e') (asked_of funs s B r e) (asked_of funs (exchanged_state f s) B' r e')) (sym (types_of_arguments_stay _ _ args))
         (state_goes s B r e e' i (commute_right f inside body q)))
 
     -- arguments
@@ -109,4 +110,4 @@ module _ (f : ℤ → ℤ) (funs : ℕ → CoreBody) where
         let first = asked_of funs s T t d in
         let others = asked_of_arguments funs args T d in
         let whole = before_goes f (is_var_state s) (state_goes s T t d d' h (commute_left f first others q)) (arguments_go args T d d' h (commute_right f first others q)) in
-        record { same_runs = ap (λ w. run_before w (run_state funs (exchanged_state f s) T t d') (run_arguments funs (exchanged_arguments f args) T d')) (is_var_stays f s) ∙ whole.same_runs; same_asks = whole.same_asks }
+        record { same_runs = ap (λ w. run_before w (run_state funs (exchanged_state f s) T t d') (run_arguments funs (exchanged_arguments f args) T d')) (is_var_stays _ _ s) ∙ whole.same_runs; same_asks = whole.same_asks }

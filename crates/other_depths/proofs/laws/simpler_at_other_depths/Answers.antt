@@ -1,4 +1,4 @@
-use Rattle.other_depths.proofs.SimplerDepths.{simpler_at_other_depths}
+use Rattle.other_depths.proofs.DeepStates.{simpler_at_other_depths}
 use Rattle.other_depths.proofs.laws.simpler_at_other_depths.Goals as goal
 
 pub returns : goal.returns

@@ -1,4 +1,4 @@
-use Rattle.other_numbers.proofs.SimplerNumbers.{simpler_goes_along}
+use Rattle.other_numbers.proofs.OtherNumbers.{simpler_goes_along}
 use Rattle.other_numbers.proofs.laws.simpler_goes_along.Goals as goal
 
 pub returns : goal.returns

@@ -1,0 +1,4 @@
+-- The lemmas.
+pub mod MappedForms
+pub mod SimplerMapped
+mod Examples
