@@ -1,4 +1,5 @@
 -- The lemmas.
 pub mod MappedForms
 pub mod SimplerMapped
+pub mod MappedTwice
 mod Examples

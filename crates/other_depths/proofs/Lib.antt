@@ -12,5 +12,4 @@ pub mod TermsFrom
 pub mod StatesFrom
 pub mod DepthsLeft
 pub mod Shifts
-pub mod TwiceDepths
 mod Examples

@@ -1,10 +1,12 @@
 -- Numbers exchanged twice, or each for itself.
-use Rattle.std.proofs.Common.{◌≡◌, ℤ, List, [], ◌∷◌, map, ap, ap₂, refl}
+use Rattle.std.proofs.Common.{◌≡◌, ◌∙◌, ℤ, List, [], ◌∷◌, map, ap, ap₂, refl}
 use Rattle.stream_prefix.specs.StreamPrefix.{StreamPrefix, par_both, cat_fst, cat_both, in_left, in_right, star_first, star_rest}
 use Rattle.hist_value.specs.HistValue.{HistValue, pair_of, left_of, right_of, item_before}
-use Rattle.delta_state.specs.StateTree.{Known, HeldName, LaterTree, StateTree, ArgumentTrees, par_state, cat_state, let_state, let_par_state, let_cat_state, sum_state, star_state, wait_state, frame_state, no_arguments, argument_before}
+use Rattle.delta_state.specs.StateTree.{Known, HeldName, LaterTree}
+use Rattle.mapped_states.specs.Mapped.{mapped}
+use Rattle.mapped_states.proofs.MappedTwice.{mapped_twice, mapped_same}
 use Rattle.other_numbers.specs.Numbers.{exchanged, exchanged_value}
-use Rattle.other_numbers.specs.StateNumbers.{exchanged_known, exchanged_held, exchanged_later, exchanged_state, exchanged_arguments}
+use Rattle.other_numbers.specs.StateNumbers.{exchanged_known, exchanged_held, exchanged_later}
 use Rattle.other_numbers.specs.Laws.{NumbersTwice, NumbersStay}
 
 module _ (f g : ℤ → ℤ) where
@@ -37,23 +39,6 @@ module _ (f g : ℤ → ℤ) where
   later_twice : (l : LaterTree) → exchanged_later f (exchanged_later g l) ≡ exchanged_later (λ n. f (g n)) l
   later_twice l = ap (λ es. record { term = l.term; past = es; depth = l.depth }) (known_twice l.past)
 
-  mutual
-    pub state_twice : (s : StateTree) → exchanged_state f (exchanged_state g s) ≡ exchanged_state (λ n. f (g n)) s
-    state_twice (par_state a b) = ap₂ par_state (state_twice a) (state_twice b)
-    state_twice (cat_state a l) = ap₂ cat_state (state_twice a) (later_twice l)
-    state_twice (let_state x s a b) = ap₂ (let_state x s) (state_twice a) (state_twice b)
-    state_twice (let_par_state x y z a) = ap (let_par_state x y z) (state_twice a)
-    state_twice (let_cat_state x y z a) = ap (let_cat_state x y z) (state_twice a)
-    state_twice (sum_state z t held x l y m) = λ i. sum_state z t (held_twice held i) x (later_twice l i) y (later_twice m i)
-    state_twice (star_state z t held l y ys m) = λ i. star_state z t (held_twice held i) (later_twice l i) y ys (later_twice m i)
-    state_twice (wait_state x t held l) = ap₂ (wait_state x t) (held_twice held) (later_twice l)
-    state_twice (frame_state args s) = ap₂ frame_state (arguments_twice args) (state_twice s)
-    state_twice _ = refl
-
-    pub arguments_twice : (args : ArgumentTrees) → exchanged_arguments f (exchanged_arguments g args) ≡ exchanged_arguments (λ n. f (g n)) args
-    arguments_twice no_arguments = refl
-    arguments_twice (argument_before x t s args) = ap₂ (argument_before x t) (state_twice s) (arguments_twice args)
-
 -- each number for itself
 pub prefix_same : (p : StreamPrefix) → exchanged (λ n. n) p ≡ p
 prefix_same (par_both p q) = ap₂ par_both (prefix_same p) (prefix_same q)
@@ -83,25 +68,9 @@ held_same (h ∷ hs) = ap₂ (λ p ns. record { name = h.name; type = h.type; pr
 later_same : (l : LaterTree) → exchanged_later (λ n. n) l ≡ l
 later_same l = ap (λ es. record { term = l.term; past = es; depth = l.depth }) (known_same l.past)
 
-mutual
-  pub state_same : (s : StateTree) → exchanged_state (λ n. n) s ≡ s
-  state_same (par_state a b) = ap₂ par_state (state_same a) (state_same b)
-  state_same (cat_state a l) = ap₂ cat_state (state_same a) (later_same l)
-  state_same (let_state x s a b) = ap₂ (let_state x s) (state_same a) (state_same b)
-  state_same (let_par_state x y z a) = ap (let_par_state x y z) (state_same a)
-  state_same (let_cat_state x y z a) = ap (let_cat_state x y z) (state_same a)
-  state_same (sum_state z t held x l y m) = λ i. sum_state z t (held_same held i) x (later_same l i) y (later_same m i)
-  state_same (star_state z t held l y ys m) = λ i. star_state z t (held_same held i) (later_same l i) y ys (later_same m i)
-  state_same (wait_state x t held l) = ap₂ (wait_state x t) (held_same held) (later_same l)
-  state_same (frame_state args s) = ap₂ frame_state (arguments_same args) (state_same s)
-  state_same _ = refl
-
-  arguments_same : (args : ArgumentTrees) → exchanged_arguments (λ n. n) args ≡ args
-  arguments_same no_arguments = refl
-  arguments_same (argument_before x t s args) = ap₂ (argument_before x t) (state_same s) (arguments_same args)
-
 pub numbers_twice : NumbersTwice
-numbers_twice f g s = state_twice f g s
+numbers_twice f g s =
+    mapped_twice (exchanged_later f) (exchanged_later g) (map (exchanged_held f)) (map (exchanged_held g)) s ∙ (λ i. mapped (λ l. later_twice f g l i) (λ held. held_twice f g held i) s)
 
 pub numbers_stay : NumbersStay
-numbers_stay s = state_same s
+numbers_stay s = (λ i. mapped (λ l. later_same l i) (λ held. held_same held i) s) ∙ mapped_same s

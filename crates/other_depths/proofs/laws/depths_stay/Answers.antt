@@ -1,4 +1,4 @@
-use Rattle.other_depths.proofs.TwiceDepths.{depths_stay}
+use Rattle.other_depths.proofs.DeepStates.{depths_stay}
 use Rattle.other_depths.proofs.laws.depths_stay.Goals as goal
 
 pub returns : goal.returns
