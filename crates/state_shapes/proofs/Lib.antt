@@ -4,4 +4,3 @@ pub mod Making
 pub mod FoundBeside
 pub mod Rows
 pub mod SameForms
-pub mod Unfilled

@@ -1,8 +1,9 @@
 -- Nothing is put in for any number or depth.
+use Rattle.std.proofs.Common.{[]}
+use Rattle.filled_states.proofs.FilledStates.{filled_with_none}
 use Rattle.state_shapes.specs.Makes.{boxed_state}
 use Rattle.state_shapes.proofs.Making.{makes_same}
-use Rattle.state_shapes.proofs.Unfilled.{unfilled}
 use Rattle.state_shapes.proofs.filling.copy.Goals as goal
 
 pub returns : goal.returns
-returns c = makes_same boxed_state c.fill_state.result _ _ (unfilled _) c.fill_state.ensures
+returns c = makes_same boxed_state c.fill_state.result _ _ (filled_with_none [] [] _) c.fill_state.ensures
