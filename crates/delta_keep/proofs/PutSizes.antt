@@ -26,6 +26,10 @@ before {o0} {o1} {a} p n =
 pub both : {F G : Type 0} {o0 o1 : Output} {a : List ℕ} → (IsCounted o0 → F) → Puts o0 o1 a → (IsCounted o1 → G) → IsCounted o1 → F × G
 both f p g n = (f (before p n), g n)
 
+-- and what holds of a value holds of what is the same
+pub fits_as : {A : Type 0} (Fits : A → Type 0) {o : Output} {x y : A} → x ≡ y → (IsCounted o → Fits y) → IsCounted o → Fits x
+fits_as Fits q f n = subst Fits (sym q) (f n)
+
 -- there is a byte
 abbrev pub HasByte : List ℕ → Type 0
 HasByte [] = ⊥

@@ -1,10 +1,11 @@
+-- Values by their forms: their bytes, and the sizes of their numbers.
 use Rattle.std.proofs.Common.{ap, sym, map, ◌∙◌, subst}
 use Rattle.hist_value.specs.HistValue.{hist_value_of}
 use Rattle.kept_state.specs.KeptBytes.{value_bytes, list_bytes}
 use Rattle.kept_state.specs.KeptSizes.{FitsValue}
-use Rattle.delta_keep.proofs.PutInTurn.{puts_same, puts_2}
+use Rattle.delta_keep.proofs.PutInTurn.{puts_same, puts_2, puts_3}
 use Rattle.delta_keep.proofs.Trees.{list_value_bytes}
-use Rattle.delta_keep.proofs.PutSizes.{some_more, some_all, value_filled}
+use Rattle.delta_keep.proofs.PutSizes.{some_more, some_all, value_filled, both, fits_as}
 use Rattle.delta_keep.proofs.Sizes.{list_fits}
 use Rattle.delta_keep.proofs.put_parts.+put_values.Goals as goal
 
@@ -23,3 +24,27 @@ pub put_value-returns-in-List-clause-sizes : goal.put_value-returns-in-List-clau
 put_value-returns-in-List-clause-sizes t c n =
     let items = rw c.deref-in-List.ensures.value at c.put_values.ensures.sizes in
     subst (λ w. FitsValue (hist_value_of w)) (sym c.in-List.is) (list_fits c.in-List.items (items n))
+
+pub put_value-returns-in-Unit-clause-puts : goal.put_value-returns-in-Unit-clause-puts
+put_value-returns-in-Unit-clause-puts t c = rw c.in-Unit.is c.put_byte.ensures
+
+pub put_value-returns-in-Unit-clause-sizes : goal.put_value-returns-in-Unit-clause-sizes
+put_value-returns-in-Unit-clause-sizes t c = fits_as (λ v. FitsValue (hist_value_of v)) c.in-Unit.is (λ n. tt)
+
+pub put_value-returns-in-Pair-clause-puts : goal.put_value-returns-in-Pair-clause-puts
+put_value-returns-in-Pair-clause-puts t c = rw c.in-Pair.is (puts_3 c.put_byte-in-Pair.ensures (rw c.deref.ensures at c.put_value.ensures.puts) (rw c.deref-in-Pair.ensures at c.put_value-in-Pair.ensures.puts))
+
+pub put_value-returns-in-Pair-clause-sizes : goal.put_value-returns-in-Pair-clause-sizes
+put_value-returns-in-Pair-clause-sizes t c = fits_as (λ v. FitsValue (hist_value_of v)) c.in-Pair.is (both (rw c.deref.ensures at c.put_value.ensures.sizes) (rw c.deref-in-Pair.ensures at c.put_value-in-Pair.ensures.puts) (rw c.deref-in-Pair.ensures at c.put_value-in-Pair.ensures.sizes))
+
+pub put_value-returns-in-Inl-clause-puts : goal.put_value-returns-in-Inl-clause-puts
+put_value-returns-in-Inl-clause-puts t c = rw c.in-Inl.is (puts_2 c.put_byte-in-Inl.ensures (rw c.deref-in-Inl.ensures at c.put_value-in-Inl.ensures.puts))
+
+pub put_value-returns-in-Inl-clause-sizes : goal.put_value-returns-in-Inl-clause-sizes
+put_value-returns-in-Inl-clause-sizes t c = fits_as (λ v. FitsValue (hist_value_of v)) c.in-Inl.is (rw c.deref-in-Inl.ensures at c.put_value-in-Inl.ensures.sizes)
+
+pub put_value-returns-in-Inr-clause-puts : goal.put_value-returns-in-Inr-clause-puts
+put_value-returns-in-Inr-clause-puts t c = rw c.in-Inr.is (puts_2 c.put_byte-in-Inr.ensures (rw c.deref-in-Inr.ensures at c.put_value-in-Inr.ensures.puts))
+
+pub put_value-returns-in-Inr-clause-sizes : goal.put_value-returns-in-Inr-clause-sizes
+put_value-returns-in-Inr-clause-sizes t c = fits_as (λ v. FitsValue (hist_value_of v)) c.in-Inr.is (rw c.deref-in-Inr.ensures at c.put_value-in-Inr.ensures.sizes)

@@ -1,3 +1,4 @@
+-- States by their forms: their bytes, and the sizes of their numbers.
 use Rattle.std.proofs.Common.{sym, ap, map, ◌∙◌, ◌++◌, subst}
 use Rattle.stream_type.specs.StreamType.{type_of}
 use Rattle.kept_state.specs.KeptBytes.{short_bytes, list_bytes, type_bytes, held_name_bytes}
@@ -7,7 +8,7 @@ use Rattle.delta_keep.specs.Written.{written_later, written_state, written_argum
 use Rattle.delta_keep.specs.Reads.{FitsArgument}
 use Rattle.delta_keep.proofs.PutInTurn.{puts_same, puts_2, puts_3, puts_formed, puts_named}
 use Rattle.delta_keep.proofs.Trees.{frame_bytes}
-use Rattle.delta_keep.proofs.PutSizes.{some_more, all_themselves, argument_filled, both}
+use Rattle.delta_keep.proofs.PutSizes.{some_more, all_themselves, argument_filled, before, both, fits_as}
 use Rattle.delta_keep.proofs.Sizes.{frame_fits}
 use Rattle.delta_keep.proofs.put_states.+put_states.Goals as goal
 
@@ -76,3 +77,55 @@ put_state-returns-in-Frame-clause-sizes t c n =
     let body = rw c.deref-in-Frame-2.ensures at c.put_state-in-Frame.ensures.sizes in
     let puts = rw c.deref-in-Frame-2.ensures at c.put_state-in-Frame.ensures.puts in
     subst (λ r. FitsState (state_of r)) (sym c.in-Frame.is) (frame_fits c.in-Frame.args c.in-Frame.s (both args puts body n))
+
+pub put_state-returns-in-Sink-clause-sizes : goal.put_state-returns-in-Sink-clause-sizes
+put_state-returns-in-Sink-clause-sizes t c = fits_as (λ r. FitsState (state_of r)) c.in-Sink.is (λ n. tt)
+
+pub put_state-returns-in-Var-clause-sizes : goal.put_state-returns-in-Var-clause-sizes
+put_state-returns-in-Var-clause-sizes t c = fits_as (λ r. FitsState (state_of r)) c.in-Var.is (λ n. c.put_name.ensures.sizes)
+
+pub put_state-returns-in-Par-clause-sizes : goal.put_state-returns-in-Par-clause-sizes
+put_state-returns-in-Par-clause-sizes t c = fits_as (λ r. FitsState (state_of r)) c.in-Par.is (both (rw c.deref-in-Par.ensures at c.put_state.ensures.sizes) (rw c.deref-in-Par-2.ensures at c.put_state-in-Par.ensures.puts) (rw c.deref-in-Par-2.ensures at c.put_state-in-Par.ensures.sizes))
+
+pub put_state-returns-in-Cat-clause-sizes : goal.put_state-returns-in-Cat-clause-sizes
+put_state-returns-in-Cat-clause-sizes t c = fits_as (λ r. FitsState (state_of r)) c.in-Cat.is (both (rw c.deref-in-Cat.ensures at c.put_state-in-Cat.ensures.sizes) (rw c.deref-in-Cat-2.ensures at c.put_later.ensures.puts) (rw c.deref-in-Cat-2.ensures at c.put_later.ensures.sizes))
+
+pub put_state-returns-in-Let-clause-sizes : goal.put_state-returns-in-Let-clause-sizes
+put_state-returns-in-Let-clause-sizes t c =
+    let first = rw c.deref-in-Let-2.ensures at c.put_state-in-Let.ensures.sizes in
+    let puts = rw c.deref-in-Let-3.ensures at c.put_state-in-Let-2.ensures.puts in
+    let second = rw c.deref-in-Let-3.ensures at c.put_state-in-Let-2.ensures.sizes in
+    fits_as (λ r. FitsState (state_of r)) c.in-Let.is (λ n. (c.put_form_name_type.ensures.sizes, first (before puts n), second n))
+
+pub put_state-returns-in-LetPar-clause-sizes : goal.put_state-returns-in-LetPar-clause-sizes
+put_state-returns-in-LetPar-clause-sizes t c =
+    let names = c.put_form_names.ensures.sizes in
+    let part = rw c.deref-in-LetPar.ensures at c.put_state-in-LetPar.ensures.sizes in
+    fits_as (λ r. FitsState (state_of r)) c.in-LetPar.is (λ n. (names.0, names.1, names.2, part n))
+
+pub put_state-returns-in-LetCat-clause-sizes : goal.put_state-returns-in-LetCat-clause-sizes
+put_state-returns-in-LetCat-clause-sizes t c =
+    let names = c.put_form_names-in-LetCat.ensures.sizes in
+    let part = rw c.deref-in-LetCat.ensures at c.put_state-in-LetCat.ensures.sizes in
+    fits_as (λ r. FitsState (state_of r)) c.in-LetCat.is (λ n. (names.0, names.1, names.2, part n))
+
+pub put_state-returns-in-CaseSum-clause-sizes : goal.put_state-returns-in-CaseSum-clause-sizes
+put_state-returns-in-CaseSum-clause-sizes t c =
+    let holding = rw c.deref-in-CaseSum-2.ensures.value at c.put_holding.ensures.sizes in
+    let puts = rw (c.deref-in-CaseSum-3.ensures, c.deref-in-CaseSum-4.ensures) at c.put_branches.ensures.puts in
+    let branches = rw (c.deref-in-CaseSum-3.ensures, c.deref-in-CaseSum-4.ensures) at c.put_branches.ensures.sizes in
+    fits_as (λ r. FitsState (state_of r)) c.in-CaseSum.is
+    (λ n. let held = holding (before puts n) in let later = branches n in (held.0, held.1, later.0, later.1, later.2, later.3))
+
+pub put_state-returns-in-CaseStar-clause-sizes : goal.put_state-returns-in-CaseStar-clause-sizes
+put_state-returns-in-CaseStar-clause-sizes t c = fits_as (λ r. FitsState (state_of r)) c.in-CaseStar.is (rw (c.deref-in-CaseStar-2.ensures.value, c.deref-in-CaseStar-3.ensures, c.deref-in-CaseStar-4.ensures) at c.put_case_star.ensures.sizes)
+
+pub put_state-returns-in-Wait-clause-sizes : goal.put_state-returns-in-Wait-clause-sizes
+put_state-returns-in-Wait-clause-sizes t c =
+    let holding = rw c.deref-in-Wait-2.ensures.value at c.put_holding-in-Wait.ensures.sizes in
+    let puts = rw c.deref-in-Wait-3.ensures at c.put_later-in-Wait.ensures.puts in
+    let later = rw c.deref-in-Wait-3.ensures at c.put_later-in-Wait.ensures.sizes in
+    fits_as (λ r. FitsState (state_of r)) c.in-Wait.is (λ n. let held = holding (before puts n) in (held.0, held.1, later n))
+
+pub put_argument-returns-clause-sizes : goal.put_argument-returns-clause-sizes
+put_argument-returns-clause-sizes t c n = (c.put_name.ensures.sizes, (rw c.deref-2.ensures at c.put_state.ensures.sizes) n)

@@ -1,3 +1,4 @@
+-- Terms by their forms: their bytes, and the sizes of their numbers.
 use Rattle.std.proofs.Common.{sym, ap, ◌∙◌, ◌++◌, subst}
 use Rattle.stream_type.specs.StreamType.{type_of}
 use Rattle.core_term.specs.CoreTerm.{term_in}
@@ -7,7 +8,7 @@ use Rattle.delta_keep.specs.Written.{written_node, written_term}
 use Rattle.delta_keep.specs.Reads.{FitsNode}
 use Rattle.delta_keep.proofs.PutInTurn.{puts_same, puts_2, puts_3, puts_4, puts_formed, puts_named}
 use Rattle.delta_keep.proofs.Trees.{call_bytes}
-use Rattle.delta_keep.proofs.PutSizes.{some_more, all_themselves, node_filled}
+use Rattle.delta_keep.proofs.PutSizes.{some_more, all_themselves, node_filled, before, both, fits_as}
 use Rattle.delta_keep.proofs.Sizes.{call_fits}
 use Rattle.delta_keep.proofs.put_terms.+put_nodes.Goals as goal
 
@@ -105,3 +106,85 @@ pub put_term-returns-in-Call-clause-sizes : goal.put_term-returns-in-Call-clause
 put_term-returns-in-Call-clause-sizes t c n =
     let parts = rw (c.deref-in-Call.ensures.value, c.deref-in-Call-2.ensures.value) at c.put_call.ensures.sizes in
     subst (λ e. FitsTerm (term_in e)) (sym c.in-Call.is) (call_fits c.in-Call.f c.in-Call.ms c.in-Call.es (parts n))
+
+pub put_node-returns-clause-sizes : goal.put_node-returns-clause-sizes
+put_node-returns-clause-sizes t c = c.put_term.ensures.sizes
+
+pub put_one_node-returns-clause-sizes : goal.put_one_node-returns-clause-sizes
+put_one_node-returns-clause-sizes t c = c.put_node.ensures.sizes
+
+pub put_two_nodes-returns-clause-sizes : goal.put_two_nodes-returns-clause-sizes
+put_two_nodes-returns-clause-sizes t c = both c.put_node.ensures.sizes c.put_node-2.ensures.puts c.put_node-2.ensures.sizes
+
+pub put_case_sum-returns-clause-sizes : goal.put_case_sum-returns-clause-sizes
+put_case_sum-returns-clause-sizes t c n =
+    let with_first = before c.put_name-2.ensures.puts (before c.put_node-2.ensures.puts n) in
+    (c.put_form_name_type.ensures.sizes, c.put_name.ensures.sizes, c.put_node.ensures.sizes with_first, c.put_name-2.ensures.sizes, c.put_node-2.ensures.sizes n)
+
+pub put_case_star-returns-clause-sizes : goal.put_case_star-returns-clause-sizes
+put_case_star-returns-clause-sizes t c n =
+    let with_first = before c.put_name.ensures.puts (before c.put_name-2.ensures.puts (before c.put_node-2.ensures.puts n)) in
+    (c.put_form_name_type.ensures.sizes, c.put_node.ensures.sizes with_first, c.put_name.ensures.sizes, c.put_name-2.ensures.sizes, c.put_node-2.ensures.sizes n)
+
+pub put_call-returns-clause-sizes : goal.put_call-returns-clause-sizes
+put_call-returns-clause-sizes t c n = (c.put_short.ensures.sizes, both c.put_exprs.ensures.sizes c.put_nodes.ensures.puts c.put_nodes.ensures.sizes n)
+
+pub put_term-returns-in-Var-clause-sizes : goal.put_term-returns-in-Var-clause-sizes
+put_term-returns-in-Var-clause-sizes t c = fits_as (λ e. FitsTerm (term_in e)) c.in-Var.is (λ n. c.put_name.ensures.sizes)
+
+pub put_term-returns-in-Eps-clause-sizes : goal.put_term-returns-in-Eps-clause-sizes
+put_term-returns-in-Eps-clause-sizes t c = fits_as (λ e. FitsTerm (term_in e)) c.in-Eps.is (λ n. tt)
+
+pub put_term-returns-in-Unit-clause-sizes : goal.put_term-returns-in-Unit-clause-sizes
+put_term-returns-in-Unit-clause-sizes t c = fits_as (λ e. FitsTerm (term_in e)) c.in-Unit.is (λ n. tt)
+
+pub put_term-returns-in-Nil-clause-sizes : goal.put_term-returns-in-Nil-clause-sizes
+put_term-returns-in-Nil-clause-sizes t c = fits_as (λ e. FitsTerm (term_in e)) c.in-Nil.is (λ n. tt)
+
+pub put_term-returns-in-Past-clause-sizes : goal.put_term-returns-in-Past-clause-sizes
+put_term-returns-in-Past-clause-sizes t c = fits_as (λ e. FitsTerm (term_in e)) c.in-Past.is (c.put_expr.ensures.sizes)
+
+pub put_term-returns-in-Par-clause-sizes : goal.put_term-returns-in-Par-clause-sizes
+put_term-returns-in-Par-clause-sizes t c = fits_as (λ e. FitsTerm (term_in e)) c.in-Par.is (rw (c.deref.ensures, c.deref-in-Par.ensures) at c.put_two_nodes.ensures.sizes)
+
+pub put_term-returns-in-Cat-clause-sizes : goal.put_term-returns-in-Cat-clause-sizes
+put_term-returns-in-Cat-clause-sizes t c = fits_as (λ e. FitsTerm (term_in e)) c.in-Cat.is (rw (c.deref-in-Cat.ensures, c.deref-in-Cat-2.ensures) at c.put_two_nodes-in-Cat.ensures.sizes)
+
+pub put_term-returns-in-Inl-clause-sizes : goal.put_term-returns-in-Inl-clause-sizes
+put_term-returns-in-Inl-clause-sizes t c = fits_as (λ e. FitsTerm (term_in e)) c.in-Inl.is (rw c.deref-in-Inl.ensures at c.put_one_node.ensures.sizes)
+
+pub put_term-returns-in-Inr-clause-sizes : goal.put_term-returns-in-Inr-clause-sizes
+put_term-returns-in-Inr-clause-sizes t c = fits_as (λ e. FitsTerm (term_in e)) c.in-Inr.is (rw c.deref-in-Inr.ensures at c.put_one_node-in-Inr.ensures.sizes)
+
+pub put_term-returns-in-Cons-clause-sizes : goal.put_term-returns-in-Cons-clause-sizes
+put_term-returns-in-Cons-clause-sizes t c = fits_as (λ e. FitsTerm (term_in e)) c.in-Cons.is (rw (c.deref-in-Cons.ensures, c.deref-in-Cons-2.ensures) at c.put_two_nodes-in-Cons.ensures.sizes)
+
+pub put_term-returns-in-Let-clause-sizes : goal.put_term-returns-in-Let-clause-sizes
+put_term-returns-in-Let-clause-sizes t c =
+    let first = rw c.deref-in-Let.ensures at c.put_node.ensures.sizes in
+    let puts = rw c.deref-in-Let-2.ensures at c.put_node-in-Let.ensures.puts in
+    let second = rw c.deref-in-Let-2.ensures at c.put_node-in-Let.ensures.sizes in
+    fits_as (λ e. FitsTerm (term_in e)) c.in-Let.is (λ n. (c.put_form_name_type.ensures.sizes, first (before puts n), second n))
+
+pub put_term-returns-in-LetPar-clause-sizes : goal.put_term-returns-in-LetPar-clause-sizes
+put_term-returns-in-LetPar-clause-sizes t c =
+    let names = c.put_form_names.ensures.sizes in
+    let part = rw c.deref-in-LetPar.ensures at c.put_node-in-LetPar.ensures.sizes in
+    fits_as (λ e. FitsTerm (term_in e)) c.in-LetPar.is (λ n. (names.0, names.1, names.2, part n))
+
+pub put_term-returns-in-LetCat-clause-sizes : goal.put_term-returns-in-LetCat-clause-sizes
+put_term-returns-in-LetCat-clause-sizes t c =
+    let names = c.put_form_names-in-LetCat.ensures.sizes in
+    let part = rw c.deref-in-LetCat.ensures at c.put_node-in-LetCat.ensures.sizes in
+    fits_as (λ e. FitsTerm (term_in e)) c.in-LetCat.is (λ n. (names.0, names.1, names.2, part n))
+
+pub put_term-returns-in-CaseSum-clause-sizes : goal.put_term-returns-in-CaseSum-clause-sizes
+put_term-returns-in-CaseSum-clause-sizes t c = fits_as (λ e. FitsTerm (term_in e)) c.in-CaseSum.is (rw (c.deref-in-CaseSum.ensures, c.deref-in-CaseSum-2.ensures) at c.put_case_sum.ensures.sizes)
+
+pub put_term-returns-in-CaseStar-clause-sizes : goal.put_term-returns-in-CaseStar-clause-sizes
+put_term-returns-in-CaseStar-clause-sizes t c = fits_as (λ e. FitsTerm (term_in e)) c.in-CaseStar.is (rw (c.deref-in-CaseStar.ensures, c.deref-in-CaseStar-2.ensures) at c.put_case_star.ensures.sizes)
+
+pub put_term-returns-in-Wait-clause-sizes : goal.put_term-returns-in-Wait-clause-sizes
+put_term-returns-in-Wait-clause-sizes t c =
+    let part = rw c.deref-in-Wait.ensures at c.put_node-in-Wait.ensures.sizes in
+    fits_as (λ e. FitsTerm (term_in e)) c.in-Wait.is (λ n. (c.put_form_name_type-in-Wait.ensures.sizes, part n))
