@@ -126,3 +126,10 @@ in_node at {bytes} h = as_written refl second_of (then (place_read at bytes) h)
 
 pub stops_in_node : (at : ℕ) (bytes : List ℕ) (e : Halt) → Stops (form term_kind ∷ []) bytes e → Stops node_parts (short_bytes at ++ bytes) e
 stops_in_node at bytes e h = stops_second (form term_kind ∷ []) e (place_read at bytes) h
+
+-- what a reader answered, by which of both it was
+pub was_read : {V : Type 0} {parts : List Part} {bytes : List ℕ} {r : Result V Halt} {v : V} → r ≡ Ok v → (written rest : V → List ℕ) (Fits : V → Type 0) → Reads parts bytes written rest Fits r → Read parts bytes (written v) (rest v) (Fits v)
+was_read {V} {parts} {bytes} q written rest Fits h = subst (λ (a : Result V Halt). Reads parts bytes written rest Fits a) q h
+
+pub has_stopped : {V : Type 0} (parts : List Part) (bytes : List ℕ) {r : Result V Halt} {e : Halt} → r ≡ Err e → (written rest : V → List ℕ) (Fits : V → Type 0) → Reads parts bytes written rest Fits r → Stops parts bytes e
+has_stopped {V} parts bytes q written rest Fits h = subst (λ (a : Result V Halt). Reads parts bytes written rest Fits a) q h

@@ -2,13 +2,14 @@
 use Rattle.std.proofs.Common.{◌≡◌, ◌∙◌, ◌<◌, ◌+◌, ◌-◌, ℕ, suc, List, [], ◌∷◌, ◌++◌, map, length, ap, sym, refl, arith, subst}
 use Rattle.std.specs.List.{AllByRecursion}
 use Rattle.std.proofs.lemmas.List.{map-append, length-map}
+use Rattle.std.specs.Prelude.{Result, Ok, Err}
 use Rattle.kept_state.specs.KeptBytes.{short_bytes, list_bytes}
 use Rattle.kept_state.specs.KeptForm.{Item, bool_item, type_item, prefix_item, value_item, expr_item, node_item, known_item, held_item, argument_item, any, items, list_part, item_parts, settle}
 use Rattle.kept_state.specs.KeptSizes.{FitsShort}
 use Rattle.delta_keep.specs.declared.halt.Halt.{Halt}
 use Rattle.delta_keep.specs.declared.halt.Halt.TheVariants.{Memory, At}
 use Rattle.delta_keep.specs.Walking.{Walk, walk, passed, stuck}
-use Rattle.delta_keep.specs.Reads.{Read, Stops, FitsList}
+use Rattle.delta_keep.specs.Reads.{Read, Reads, Stops, Pushes, FitsList}
 use Rattle.delta_keep.proofs.Lists.{items_bytes, read_next, read_all, count_next}
 use Rattle.delta_keep.proofs.Walks.{◌>>=◌, next_item, listed}
 
@@ -68,6 +69,20 @@ list_stops {A} {B} item {f} {g} {Fits} {many} {n} {bytes} {start} {rest} {xs} (A
     ∙ (h.walked
     ∙ (ap (λ m. walk (settle (items m item ∷ [])) rest) (let k : many - n ≡ suc (many - (n + 1)) = omega (arith, l) in k)
     ∙ (next_item item (many - (n + 1)) rest ∙ ap (λ v. v >>= λ s. walk (settle (items (many - (n + 1)) item ∷ [])) s) (item_walk item rest (stuck left) w))))
+
+-- with one that was put behind them,
+pub list_pushed : {V W A B : Type 0} {item : Item} {f : B → List ℕ} {g : A → B} {Fits : B → Type 0} {many n : ℕ} {start rest : List ℕ} {xs next : List A} (r : Result V Halt) (w : W) (value : V → A) (behind : V → List ℕ) (end : W → List ℕ) → ReadSome item f g Fits many start n xs rest → n < many
+    → Pushes value behind end xs next r (Ok w) → Reads (item_parts item) rest (λ v. f (g (value v))) behind (λ v. Fits (g (value v))) r → ReadSome item f g Fits many start (n + 1) next (end w)
+list_pushed {V} {W} {A} {B} {item} {f} {g} {Fits} {many} {n} {start} {rest} {xs} {next} (Ok v) w value behind end h l (p, q) k =
+    subst (λ bs. ReadSome item f g Fits many start (n + 1) next bs) (sym q) (read_one_more h l p refl k)
+list_pushed (Err e) w value behind end h l p k = absurd p
+
+-- and where that stops
+pub list_ended : {V W A B : Type 0} (item : Item) {f : B → List ℕ} {g : A → B} {Fits : B → Type 0} {many n : ℕ} {bytes start rest : List ℕ} {xs : List A} (next : List A) (r : Result V Halt) (e : Halt) (value : V → A) (behind : V → List ℕ) (end : W → List ℕ) → Read (any 4 ∷ []) bytes (short_bytes many) start (FitsShort many)
+    → ReadSome item f g Fits many start n xs rest → n < many → Pushes value behind end xs next r (Err e) → Reads (item_parts item) rest (λ v. f (g (value v))) behind (λ v. Fits (g (value v))) r → Stops (list_part item ∷ []) bytes e
+list_ended item next (Ok v) Memory value behind end c h l p k = tt
+list_ended item next (Ok v) (At left) value behind end c h l p k = absurd p
+list_ended {V} {W} {A} {B} item {f} {g} {Fits} {many} {n} {bytes} next (Err d) e value behind end c h l p k = subst (λ (a : Halt). Stops (list_part item ∷ []) bytes a) (sym p) (list_stops item d c h l k)
 
 -- where its count isn't read
 pub count_stops : (item : Item) (bytes : List ℕ) (e : Halt) → Stops (any 4 ∷ []) bytes e → Stops (list_part item ∷ []) bytes e

@@ -1,5 +1,5 @@
 -- What a reader of some parts answers: one record for all that is read.
-use Rattle.std.specs.Prelude.{ℕ, ◌≡◌, ⊤, List, [], ◌++◌, length, Result, Ok, Err}
+use Rattle.std.specs.Prelude.{ℕ, ◌≡◌, ⊤, List, [], ◌∷◌, ◌++◌, length, Result, Ok, Err}
 use Rattle.std.specs.List.{AllByRecursion}
 use Rattle.core_term.specs.declared.term.Node.{Node}
 use Rattle.core_term.specs.CoreTerm.{term_of}
@@ -42,6 +42,15 @@ abbrev pub Boxes : {V W : Type 0} → (V → W) → (V → List ℕ) → W → L
 Boxes value rest w bytes (Ok v) = (value v ≡ w) × (rest v ≡ bytes)
 Boxes value rest w bytes (Err Memory) = ⊤
 Boxes value rest w bytes (Err (At left)) = ⊥
+
+-- an item that was read stands behind those before it, and what is behind it is answered, or memory was refused; where
+-- its reader stopped, it stops
+abbrev pub Pushes : {V W A : Type 0} → (V → A) → (V → List ℕ) → (W → List ℕ) → List A → List A → Result V Halt → Result W Halt → Type 0
+Pushes value behind rest old new (Ok v) (Ok w) = (new ≡ old ++ value v ∷ []) × (rest w ≡ behind v)
+Pushes value behind rest old new (Ok v) (Err Memory) = ⊤
+Pushes value behind rest old new (Ok v) (Err (At left)) = ⊥
+Pushes value behind rest old new (Err e) (Ok w) = ⊥
+Pushes value behind rest old new (Err e) (Err f) = f ≡ e
 
 -- so many items can be counted, and each has its sizes
 abbrev pub FitsList : {A : Type 0} → (A → Type 0) → List A → Type 0

@@ -1,10 +1,13 @@
 //! Kept states in bytes: what a run keeps to go on later, written and read again.
 #![tactic(auto)]
 
+mod exprs_done;
 mod fault;
 mod halt;
 mod kept;
 mod output;
+mod prefixes_done;
+mod pushing;
 mod put_numbers;
 mod put_parts;
 mod put_states;
@@ -19,6 +22,10 @@ mod read_values;
 mod reading;
 mod refusal;
 mod saving;
+mod states_done;
+mod terms_done;
+mod types_done;
+mod values_done;
 
 pub use fault::ReadFault;
 pub use kept::{Argument, HeldName, Kept, KeptState, Known, Waiting, dismiss};

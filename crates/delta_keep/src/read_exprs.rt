@@ -7,8 +7,10 @@ ghost use Rattle.kept_state.specs.KeptForm.{op_kind, expr_kind, expr_item, form,
 ghost use Rattle.kept_state.specs.KeptSizes.{FitsExpr, FitsExprs};
 ghost use Rattle.delta_keep.specs.Reads.{Reads};
 
+use crate::exprs_done::{one_done, read_literal, read_variable, two_done};
 use crate::halt::Halt;
-use crate::read_numbers::{boxed, read_byte, read_form, read_int, read_name, read_short};
+use crate::pushing::pushed;
+use crate::read_numbers::{boxed, read_byte, read_form, read_name, read_short};
 use hist_value::{Expr, Op};
 use std::alloc::Global;
 
@@ -39,42 +41,18 @@ pub(crate) fn read_expr<'a>(
 {
     let (form, rest, left) = read_form(bytes, left)?;
     match form {
-        0 => {
-            let (x, rest) = read_name(rest)?;
-            boxed(alloc, Expr::Var(x), rest)
-        }
-        1 => {
-            let (n, rest) = read_int(rest)?;
-            boxed(alloc, Expr::Lit(n), rest)
-        }
+        0 => read_variable(alloc, rest),
+        1 => read_literal(alloc, rest),
         2 => boxed(alloc, Expr::Unit, rest),
         3 => read_bin(alloc, rest, left),
-        4 => {
-            let (a, b, rest) = two_exprs(alloc, rest, left)?;
-            boxed(alloc, Expr::Pair(a, b), rest)
-        }
-        5 => {
-            let (a, rest) = read_expr(alloc, rest, left)?;
-            boxed(alloc, Expr::Fst(a), rest)
-        }
-        6 => {
-            let (a, rest) = read_expr(alloc, rest, left)?;
-            boxed(alloc, Expr::Snd(a), rest)
-        }
-        7 => {
-            let (a, rest) = read_expr(alloc, rest, left)?;
-            boxed(alloc, Expr::Inl(a), rest)
-        }
-        8 => {
-            let (a, rest) = read_expr(alloc, rest, left)?;
-            boxed(alloc, Expr::Inr(a), rest)
-        }
+        4 => two_done(alloc, 4, two_exprs(alloc, rest, left)),
+        5 => one_done(alloc, 5, read_expr(alloc, rest, left)),
+        6 => one_done(alloc, 6, read_expr(alloc, rest, left)),
+        7 => one_done(alloc, 7, read_expr(alloc, rest, left)),
+        8 => one_done(alloc, 8, read_expr(alloc, rest, left)),
         9 => read_choice(alloc, rest, left),
         10 => boxed(alloc, Expr::Nil, rest),
-        11 => {
-            let (a, b, rest) = two_exprs(alloc, rest, left)?;
-            boxed(alloc, Expr::Cons(a, b), rest)
-        }
+        11 => two_done(alloc, 11, two_exprs(alloc, rest, left)),
         12 => read_fold(alloc, rest, left),
         _ => Err(Halt::At(bytes.len())),
     }
@@ -139,9 +117,13 @@ pub(crate) fn read_exprs<'a>(
     let (count, mut rest) = read_short(bytes)?;
     let mut items = Vec::new(alloc);
     'items: for _ in 0..count {
-        let (m, behind) = read_expr(alloc, rest, left)?;
-        items.push(Box::into_inner(m))?;
-        rest = behind;
+        match pushed(&mut items, read_expr(alloc, rest, left)) {
+            Ok(behind) => rest = behind,
+            Err(halt) => {
+                drop(items);
+                return Err(halt);
+            }
+        }
     }
     Ok((items, rest))
 }

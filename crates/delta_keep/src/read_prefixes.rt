@@ -10,7 +10,9 @@ ghost use Rattle.delta_keep.specs.Reads.{Reads, FitsList};
 
 use crate::halt::Halt;
 use crate::kept::HeldName;
-use crate::read_numbers::{boxed, read_form, read_int, read_short};
+use crate::prefixes_done::{one_done, read_number, two_done};
+use crate::pushing::{added, pushed};
+use crate::read_numbers::{boxed, read_form, read_short};
 use crate::read_types::read_name_type;
 use std::alloc::Global;
 use stream_prefix::{Prefix, StarEnd};
@@ -30,31 +32,13 @@ pub(crate) fn read_prefix<'a>(
         1 => boxed(alloc, Prefix::OneEmp, rest),
         2 => boxed(alloc, Prefix::OneFull, rest),
         3 => boxed(alloc, Prefix::IntEmp, rest),
-        4 => {
-            let (n, rest) = read_int(rest)?;
-            boxed(alloc, Prefix::IntFull(n), rest)
-        }
-        5 => {
-            let (p, q, rest) = two_prefixes(alloc, rest, left)?;
-            boxed(alloc, Prefix::Par(p, q), rest)
-        }
-        6 => {
-            let (p, rest) = read_prefix(alloc, rest, left)?;
-            boxed(alloc, Prefix::CatFst(p), rest)
-        }
-        7 => {
-            let (p, q, rest) = two_prefixes(alloc, rest, left)?;
-            boxed(alloc, Prefix::CatBoth(p, q), rest)
-        }
+        4 => read_number(alloc, rest),
+        5 => two_done(alloc, 5, two_prefixes(alloc, rest, left)),
+        6 => one_done(alloc, 6, read_prefix(alloc, rest, left)),
+        7 => two_done(alloc, 7, two_prefixes(alloc, rest, left)),
         8 => boxed(alloc, Prefix::SumEmp, rest),
-        9 => {
-            let (p, rest) = read_prefix(alloc, rest, left)?;
-            boxed(alloc, Prefix::Inl(p), rest)
-        }
-        10 => {
-            let (p, rest) = read_prefix(alloc, rest, left)?;
-            boxed(alloc, Prefix::Inr(p), rest)
-        }
+        9 => one_done(alloc, 9, read_prefix(alloc, rest, left)),
+        10 => one_done(alloc, 10, read_prefix(alloc, rest, left)),
         11 => read_star(alloc, rest, left),
         _ => Err(Halt::At(bytes.len())),
     }
@@ -96,9 +80,13 @@ fn read_items<'a>(
     let (count, mut rest) = read_short(bytes)?;
     let mut items = Vec::new(alloc);
     'items: for _ in 0..count {
-        let (item, behind) = read_prefix(alloc, rest, left)?;
-        items.push(Box::into_inner(item))?;
-        rest = behind;
+        match pushed(&mut items, read_prefix(alloc, rest, left)) {
+            Ok(behind) => rest = behind,
+            Err(halt) => {
+                drop(items);
+                return Err(halt);
+            }
+        }
     }
     Ok((items, rest))
 }
@@ -143,9 +131,13 @@ pub(crate) fn read_held<'a>(
     let (count, mut rest) = read_short(bytes)?;
     let mut items = Vec::new(alloc);
     'items: for _ in 0..count {
-        let (held, behind) = read_held_name(alloc, rest, left)?;
-        items.push(held)?;
-        rest = behind;
+        match added(&mut items, read_held_name(alloc, rest, left)) {
+            Ok(behind) => rest = behind,
+            Err(halt) => {
+                drop(items);
+                return Err(halt);
+            }
+        }
     }
     Ok((items, rest))
 }

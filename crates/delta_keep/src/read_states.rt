@@ -11,11 +11,13 @@ ghost use Rattle.delta_keep.specs.Reads.{Reads, FitsList, FitsArgument};
 
 use crate::halt::Halt;
 use crate::kept::{Argument, HeldName, KeptState, Waiting};
+use crate::pushing::added;
 use crate::read_numbers::{boxed, read_form, read_long, read_name, read_names, read_short};
 use crate::read_prefixes::read_held;
 use crate::read_terms::read_node;
-use crate::read_types::{read_name_type, read_type};
+use crate::read_types::read_name_type;
 use crate::read_values::read_past;
+use crate::states_done::{names_done, par_done, read_sink, read_variable};
 use bunch::Name;
 use std::alloc::Global;
 use stream_type::Ty;
@@ -45,28 +47,13 @@ pub(crate) fn read_state<'a>(
 {
     let (form, rest, left) = read_form(bytes, left)?;
     match form {
-        0 => {
-            let (t, rest) = read_type(alloc, rest, left)?;
-            boxed(alloc, KeptState::Sink(t), rest)
-        }
-        1 => {
-            let (x, rest) = read_name(rest)?;
-            boxed(alloc, KeptState::Var(x), rest)
-        }
-        2 => {
-            let (a, b, rest) = two_states(alloc, rest, left)?;
-            boxed(alloc, KeptState::Par(a, b), rest)
-        }
+        0 => read_sink(alloc, rest, left),
+        1 => read_variable(alloc, rest),
+        2 => par_done(alloc, two_states(alloc, rest, left)),
         3 => read_cat(alloc, rest, left),
         4 => read_let(alloc, rest, left),
-        5 => {
-            let (x, y, z, a, rest) = names_and_state(alloc, rest, left)?;
-            boxed(alloc, KeptState::LetPar(x, y, z, a), rest)
-        }
-        6 => {
-            let (x, y, z, a, rest) = names_and_state(alloc, rest, left)?;
-            boxed(alloc, KeptState::LetCat(x, y, z, a), rest)
-        }
+        5 => names_done(alloc, 5, names_and_state(alloc, rest, left)),
+        6 => names_done(alloc, 6, names_and_state(alloc, rest, left)),
         7 => read_case_sum(alloc, rest, left),
         8 => read_case_star(alloc, rest, left),
         9 => read_wait(alloc, rest, left),
@@ -220,9 +207,13 @@ fn read_arguments<'a>(
     let (count, mut rest) = read_short(bytes)?;
     let mut items = Vec::new(alloc);
     'items: for _ in 0..count {
-        let (arg, behind) = read_argument(alloc, rest, left)?;
-        items.push(arg)?;
-        rest = behind;
+        match added(&mut items, read_argument(alloc, rest, left)) {
+            Ok(behind) => rest = behind,
+            Err(halt) => {
+                drop(items);
+                return Err(halt);
+            }
+        }
     }
     Ok((items, rest))
 }

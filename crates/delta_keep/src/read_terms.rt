@@ -8,9 +8,11 @@ ghost use Rattle.kept_state.specs.KeptSizes.{FitsShort};
 ghost use Rattle.delta_keep.specs.Reads.{Reads, FitsList, FitsNode};
 
 use crate::halt::Halt;
+use crate::pushing::pushed;
 use crate::read_exprs::{read_expr, read_exprs};
 use crate::read_numbers::{boxed, read_form, read_name, read_names, read_short};
 use crate::read_types::read_name_type;
+use crate::terms_done::{names_done, one_done, read_variable, two_done};
 use bunch::Name;
 use core_term::{Node, Term};
 use std::alloc::Global;
@@ -40,11 +42,7 @@ fn read_term<'a>(
 {
     let (form, rest, left) = read_form(bytes, left)?;
     match form {
-        0 => {
-            let (x, rest) = read_name(rest)?;
-            let term = Term::Var(x);
-            boxed(alloc, Node { at, term }, rest)
-        }
+        0 => read_variable(alloc, at, rest),
         1 => {
             let term = Term::Eps;
             boxed(alloc, Node { at, term }, rest)
@@ -54,46 +52,18 @@ fn read_term<'a>(
             boxed(alloc, Node { at, term }, rest)
         }
         3 => read_history(alloc, at, rest, left),
-        4 => {
-            let (a, b, rest) = two_nodes(alloc, rest, left)?;
-            let term = Term::Par(a, b);
-            boxed(alloc, Node { at, term }, rest)
-        }
-        5 => {
-            let (a, b, rest) = two_nodes(alloc, rest, left)?;
-            let term = Term::Cat(a, b);
-            boxed(alloc, Node { at, term }, rest)
-        }
-        6 => {
-            let (a, rest) = read_node(alloc, rest, left)?;
-            let term = Term::Inl(a);
-            boxed(alloc, Node { at, term }, rest)
-        }
-        7 => {
-            let (a, rest) = read_node(alloc, rest, left)?;
-            let term = Term::Inr(a);
-            boxed(alloc, Node { at, term }, rest)
-        }
+        4 => two_done(alloc, at, 4, two_nodes(alloc, rest, left)),
+        5 => two_done(alloc, at, 5, two_nodes(alloc, rest, left)),
+        6 => one_done(alloc, at, 6, read_node(alloc, rest, left)),
+        7 => one_done(alloc, at, 7, read_node(alloc, rest, left)),
         8 => {
             let term = Term::Nil;
             boxed(alloc, Node { at, term }, rest)
         }
-        9 => {
-            let (a, b, rest) = two_nodes(alloc, rest, left)?;
-            let term = Term::Cons(a, b);
-            boxed(alloc, Node { at, term }, rest)
-        }
+        9 => two_done(alloc, at, 9, two_nodes(alloc, rest, left)),
         10 => read_let(alloc, at, rest, left),
-        11 => {
-            let (x, y, z, a, rest) = names_and_node(alloc, rest, left)?;
-            let term = Term::LetPar(x, y, z, a);
-            boxed(alloc, Node { at, term }, rest)
-        }
-        12 => {
-            let (x, y, z, a, rest) = names_and_node(alloc, rest, left)?;
-            let term = Term::LetCat(x, y, z, a);
-            boxed(alloc, Node { at, term }, rest)
-        }
+        11 => names_done(alloc, at, 11, names_and_node(alloc, rest, left)),
+        12 => names_done(alloc, at, 12, names_and_node(alloc, rest, left)),
         13 => read_case_sum(alloc, at, rest, left),
         14 => read_case_star(alloc, at, rest, left),
         15 => read_wait(alloc, at, rest, left),
@@ -238,9 +208,13 @@ fn read_nodes<'a>(alloc: Global, bytes: &'a [u8], left: u32) -> Result<(Vec<Node
     let (count, mut rest) = read_short(bytes)?;
     let mut items = Vec::new(alloc);
     'items: for _ in 0..count {
-        let (node, behind) = read_node(alloc, rest, left)?;
-        items.push(Box::into_inner(node))?;
-        rest = behind;
+        match pushed(&mut items, read_node(alloc, rest, left)) {
+            Ok(behind) => rest = behind,
+            Err(halt) => {
+                drop(items);
+                return Err(halt);
+            }
+        }
     }
     Ok((items, rest))
 }

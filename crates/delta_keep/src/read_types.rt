@@ -8,7 +8,9 @@ ghost use Rattle.kept_state.specs.KeptSizes.{FitsShort};
 ghost use Rattle.delta_keep.specs.Reads.{Reads};
 
 use crate::halt::Halt;
+use crate::pushing::{added, pushed};
 use crate::read_numbers::{boxed, read_byte, read_form, read_name, read_short};
+use crate::types_done::{one_done, two_done};
 use bunch::Name;
 use std::alloc::Global;
 use stream_type::Ty;
@@ -27,22 +29,10 @@ pub(crate) fn read_type<'a>(
         0 => boxed(alloc, Ty::Eps, rest),
         1 => boxed(alloc, Ty::One, rest),
         2 => boxed(alloc, Ty::Int, rest),
-        3 => {
-            let (a, b, rest) = two_types(alloc, rest, left)?;
-            boxed(alloc, Ty::Cat(a, b), rest)
-        }
-        4 => {
-            let (a, b, rest) = two_types(alloc, rest, left)?;
-            boxed(alloc, Ty::Par(a, b), rest)
-        }
-        5 => {
-            let (a, b, rest) = two_types(alloc, rest, left)?;
-            boxed(alloc, Ty::Sum(a, b), rest)
-        }
-        6 => {
-            let (a, rest) = read_type(alloc, rest, left)?;
-            boxed(alloc, Ty::Star(a), rest)
-        }
+        3 => two_done(alloc, 3, two_types(alloc, rest, left)),
+        4 => two_done(alloc, 4, two_types(alloc, rest, left)),
+        5 => two_done(alloc, 5, two_types(alloc, rest, left)),
+        6 => one_done(alloc, read_type(alloc, rest, left)),
         _ => Err(Halt::At(bytes.len())),
     }
 }
@@ -84,9 +74,13 @@ pub(crate) fn read_types<'a>(
     let (count, mut rest) = read_short(bytes)?;
     let mut items = Vec::new(alloc);
     'items: for _ in 0..count {
-        let (t, behind) = read_type(alloc, rest, left)?;
-        items.push(Box::into_inner(t))?;
-        rest = behind;
+        match pushed(&mut items, read_type(alloc, rest, left)) {
+            Ok(behind) => rest = behind,
+            Err(halt) => {
+                drop(items);
+                return Err(halt);
+            }
+        }
     }
     Ok((items, rest))
 }
@@ -110,9 +104,13 @@ pub(crate) fn read_marks<'a>(alloc: Global, bytes: &'a [u8]) -> Result<(Vec<bool
     let (count, mut rest) = read_short(bytes)?;
     let mut items = Vec::new(alloc);
     'items: for _ in 0..count {
-        let (mark, behind) = read_mark(rest)?;
-        items.push(mark)?;
-        rest = behind;
+        match added(&mut items, read_mark(rest)) {
+            Ok(behind) => rest = behind,
+            Err(halt) => {
+                drop(items);
+                return Err(halt);
+            }
+        }
     }
     Ok((items, rest))
 }

@@ -10,8 +10,10 @@ ghost use Rattle.delta_keep.specs.Reads.{Reads, FitsList};
 
 use crate::halt::Halt;
 use crate::kept::Known;
-use crate::read_numbers::{boxed, read_form, read_int, read_short};
+use crate::pushing::{added, pushed};
+use crate::read_numbers::{boxed, read_form, read_short};
 use crate::read_types::read_name_type;
+use crate::values_done::{one_done, read_number, two_done};
 use hist_value::Value;
 use std::alloc::Global;
 
@@ -27,22 +29,10 @@ pub(crate) fn read_value<'a>(
     let (form, rest, left) = read_form(bytes, left)?;
     match form {
         0 => boxed(alloc, Value::Unit, rest),
-        1 => {
-            let (n, rest) = read_int(rest)?;
-            boxed(alloc, Value::Int(n), rest)
-        }
-        2 => {
-            let (v, w, rest) = two_values(alloc, rest, left)?;
-            boxed(alloc, Value::Pair(v, w), rest)
-        }
-        3 => {
-            let (v, rest) = read_value(alloc, rest, left)?;
-            boxed(alloc, Value::Inl(v), rest)
-        }
-        4 => {
-            let (v, rest) = read_value(alloc, rest, left)?;
-            boxed(alloc, Value::Inr(v), rest)
-        }
+        1 => read_number(alloc, rest),
+        2 => two_done(alloc, two_values(alloc, rest, left)),
+        3 => one_done(alloc, 3, read_value(alloc, rest, left)),
+        4 => one_done(alloc, 4, read_value(alloc, rest, left)),
         5 => read_list(alloc, rest, left),
         _ => Err(Halt::At(bytes.len())),
     }
@@ -81,9 +71,13 @@ fn read_values<'a>(
     let (count, mut rest) = read_short(bytes)?;
     let mut items = Vec::new(alloc);
     'items: for _ in 0..count {
-        let (item, behind) = read_value(alloc, rest, left)?;
-        items.push(Box::into_inner(item))?;
-        rest = behind;
+        match pushed(&mut items, read_value(alloc, rest, left)) {
+            Ok(behind) => rest = behind,
+            Err(halt) => {
+                drop(items);
+                return Err(halt);
+            }
+        }
     }
     Ok((items, rest))
 }
@@ -107,9 +101,13 @@ pub(crate) fn read_past<'a>(
     let (count, mut rest) = read_short(bytes)?;
     let mut items = Vec::new(alloc);
     'items: for _ in 0..count {
-        let (known, behind) = read_known(alloc, rest, left)?;
-        items.push(known)?;
-        rest = behind;
+        match added(&mut items, read_known(alloc, rest, left)) {
+            Ok(behind) => rest = behind,
+            Err(halt) => {
+                drop(items);
+                return Err(halt);
+            }
+        }
     }
     Ok((items, rest))
 }

@@ -95,7 +95,7 @@ put_state-returns-in-Let-clause-sizes t c =
     let first = rw c.deref-in-Let-2.ensures at c.put_state-in-Let.ensures.sizes in
     let puts = rw c.deref-in-Let-3.ensures at c.put_state-in-Let-2.ensures.puts in
     let second = rw c.deref-in-Let-3.ensures at c.put_state-in-Let-2.ensures.sizes in
-    fits_as (λ r. FitsState (state_of r)) c.in-Let.is (λ n. (c.put_form_name_type.ensures.sizes, first (before puts n), second n))
+    fits_as (λ r. FitsState (state_of r)) c.in-Let.is (λ n. (c.put_form_name_type.ensures.sizes, first (before {a = written_state c.in-Let.b.value} puts n), second n))
 
 pub put_state-returns-in-LetPar-clause-sizes : goal.put_state-returns-in-LetPar-clause-sizes
 put_state-returns-in-LetPar-clause-sizes t c =
@@ -115,7 +115,7 @@ put_state-returns-in-CaseSum-clause-sizes t c =
     let puts = rw (c.deref-in-CaseSum-3.ensures, c.deref-in-CaseSum-4.ensures) at c.put_branches.ensures.puts in
     let branches = rw (c.deref-in-CaseSum-3.ensures, c.deref-in-CaseSum-4.ensures) at c.put_branches.ensures.sizes in
     fits_as (λ r. FitsState (state_of r)) c.in-CaseSum.is
-    (λ n. let held = holding (before puts n) in let later = branches n in (held.0, held.1, later.0, later.1, later.2, later.3))
+    (λ n. let held = holding (before {a = short_bytes c.in-CaseSum.x.0 ++ (written_later c.in-CaseSum.l.value ++ (short_bytes c.in-CaseSum.y.0 ++ written_later c.in-CaseSum.m.value))} puts n) in let later = branches n in (held.0, held.1, later.0, later.1, later.2, later.3))
 
 pub put_state-returns-in-CaseStar-clause-sizes : goal.put_state-returns-in-CaseStar-clause-sizes
 put_state-returns-in-CaseStar-clause-sizes t c = fits_as (λ r. FitsState (state_of r)) c.in-CaseStar.is (rw (c.deref-in-CaseStar-2.ensures.value, c.deref-in-CaseStar-3.ensures, c.deref-in-CaseStar-4.ensures) at c.put_case_star.ensures.sizes)
@@ -125,7 +125,7 @@ put_state-returns-in-Wait-clause-sizes t c =
     let holding = rw c.deref-in-Wait-2.ensures.value at c.put_holding-in-Wait.ensures.sizes in
     let puts = rw c.deref-in-Wait-3.ensures at c.put_later-in-Wait.ensures.puts in
     let later = rw c.deref-in-Wait-3.ensures at c.put_later-in-Wait.ensures.sizes in
-    fits_as (λ r. FitsState (state_of r)) c.in-Wait.is (λ n. let held = holding (before puts n) in (held.0, held.1, later n))
+    fits_as (λ r. FitsState (state_of r)) c.in-Wait.is (λ n. let held = holding (before {a = written_later c.in-Wait.l.value} puts n) in (held.0, held.1, later n))
 
 pub put_argument-returns-clause-sizes : goal.put_argument-returns-clause-sizes
 put_argument-returns-clause-sizes t c n = (c.put_name.ensures.sizes, (rw c.deref-2.ensures at c.put_state.ensures.sizes) n)

@@ -5,7 +5,7 @@ use Rattle.kept_state.specs.KeptForm.{op_kind, expr_kind, any, form}
 use Rattle.kept_state.specs.KeptBytes.{expr_bytes}
 use Rattle.kept_state.specs.KeptSizes.{FitsExpr}
 use Rattle.hist_value.specs.HistExpr.{expr_of}
-use Rattle.delta_keep.proofs.Pieces.{then, as_written, stops_first, stops_second, in_form, plain, stops_in_form, stops_before, begins, boxed_read, second_of, flat_5, flat_2_3, handed_on}
+use Rattle.delta_keep.proofs.Pieces.{then, as_written, stops_first, stops_second, in_form, plain, stops_in_form, stops_before, begins, boxed_read, second_of, flat_5, flat_2_3}
 use Rattle.delta_keep.proofs.read_exprs.+read_exprs.Goals as goal
 
 pub two_exprs-returns-in_err-first : goal.two_exprs-returns-in_err-first
@@ -26,81 +26,41 @@ read_expr-returns-in_err-form t c =
     let exit = err_from_is_err_and c.from_residual.result c.from_residual.ensures.1 in
     record { reads = rw (exit.1, exit.2) (stops_before expr_kind c.args.bytes.now c.in_err-form.field-0.0 c.in_err-form.ensures.none) }
 
-pub read_expr-returns-in_err-x-in-0 : goal.read_expr-returns-in_err-x-in-0
-read_expr-returns-in_err-x-in-0 t c =
-    let exit = err_from_is_err_and c.from_residual-in_err-x-in-0.result c.from_residual-in_err-x-in-0.ensures.1 in
-    record { reads = rw (begins 0 c.in_ok-form.ensures.form c.in-0.is, exit.1, exit.2) (stops_in_form expr_kind 0 ((any 4 ∷ [])) c.in_ok-form.rest.now c.in_err-x-in-0.field-0.0 refl (c.in_err-x-in-0.ensures.reads)) }
+pub read_expr-returns-in-0 : goal.read_expr-returns-in-0
+read_expr-returns-in-0 t c = record { reads = rw (begins 0 c.in_ok-form.ensures.form c.in-0.is) (c.read_variable.ensures) }
 
-pub read_expr-returns-in_ok-x-in-0 : goal.read_expr-returns-in_ok-x-in-0
-read_expr-returns-in_ok-x-in-0 t c = record { reads = rw (begins 0 c.in_ok-form.ensures.form c.in-0.is) (boxed_read (λ x. x.0.value) (λ x. x.1.now) (λ m. expr_bytes (expr_of m)) (λ m. FitsExpr (expr_of m)) c.boxed.result c.boxed.ensures.boxes (in_form expr_kind 0 refl c.in_ok-x-in-0.ensures.reads)) }
+pub read_expr-returns-in-1 : goal.read_expr-returns-in-1
+read_expr-returns-in-1 t c = record { reads = rw (begins 1 c.in_ok-form.ensures.form c.in-1.is) (c.read_literal.ensures) }
 
-pub read_expr-returns-in_err-n-in-1 : goal.read_expr-returns-in_err-n-in-1
-read_expr-returns-in_err-n-in-1 t c =
-    let exit = err_from_is_err_and c.from_residual-in_err-n-in-1.result c.from_residual-in_err-n-in-1.ensures.1 in
-    record { reads = rw (begins 1 c.in_ok-form.ensures.form c.in-1.is, exit.1, exit.2) (stops_in_form expr_kind 1 ((any 8 ∷ [])) c.in_ok-form.rest.now c.in_err-n-in-1.field-0.0 refl (c.in_err-n-in-1.ensures.reads)) }
+pub read_expr-returns-in-4 : goal.read_expr-returns-in-4
+read_expr-returns-in-4 t c = record { reads = rw (begins 4 c.in_ok-form.ensures.form c.in-4.is) (c.two_done.ensures c.in_ok-form.rest.now refl c.two_exprs.ensures.reads) }
 
-pub read_expr-returns-in_ok-n-in-1 : goal.read_expr-returns-in_ok-n-in-1
-read_expr-returns-in_ok-n-in-1 t c = record { reads = rw (begins 1 c.in_ok-form.ensures.form c.in-1.is) (boxed_read (λ x. x.0.value) (λ x. x.1.now) (λ m. expr_bytes (expr_of m)) (λ m. FitsExpr (expr_of m)) c.boxed-in-1.result c.boxed-in-1.ensures.boxes (in_form expr_kind 1 refl (handed_on c.in_ok-n-in-1.n c.in_ok-n-in-1.ensures.reads))) }
+pub read_expr-returns-in-5 : goal.read_expr-returns-in-5
+read_expr-returns-in-5 t c = record { reads = rw (begins 5 c.in_ok-form.ensures.form c.in-5.is) (c.one_done.ensures c.in_ok-form.rest.now refl c.read_expr.ensures.reads) }
+
+pub read_expr-returns-in-6 : goal.read_expr-returns-in-6
+read_expr-returns-in-6 t c = record { reads = rw (begins 6 c.in_ok-form.ensures.form c.in-6.is) (c.one_done-in-6.ensures c.in_ok-form.rest.now refl c.read_expr-in-6.ensures.reads) }
+
+pub read_expr-returns-in-7 : goal.read_expr-returns-in-7
+read_expr-returns-in-7 t c = record { reads = rw (begins 7 c.in_ok-form.ensures.form c.in-7.is) (c.one_done-in-7.ensures c.in_ok-form.rest.now refl c.read_expr-in-7.ensures.reads) }
+
+pub read_expr-returns-in-8 : goal.read_expr-returns-in-8
+read_expr-returns-in-8 t c = record { reads = rw (begins 8 c.in_ok-form.ensures.form c.in-8.is) (c.one_done-in-8.ensures c.in_ok-form.rest.now refl c.read_expr-in-8.ensures.reads) }
+
+pub read_expr-returns-in-11 : goal.read_expr-returns-in-11
+read_expr-returns-in-11 t c = record { reads = rw (begins 11 c.in_ok-form.ensures.form c.in-11.is) (c.two_done-in-11.ensures c.in_ok-form.rest.now refl c.two_exprs-in-11.ensures.reads) }
 
 pub read_expr-returns-in-2 : goal.read_expr-returns-in-2
-read_expr-returns-in-2 t c = record { reads = rw (begins 2 c.in_ok-form.ensures.form c.in-2.is) (boxed_read (λ x. x.0.value) (λ x. x.1.now) (λ m. expr_bytes (expr_of m)) (λ m. FitsExpr (expr_of m)) c.boxed-in-2.result c.boxed-in-2.ensures.boxes (plain expr_kind 2 c.in_ok-form.rest.now refl tt)) }
+read_expr-returns-in-2 t c = record { reads = rw (begins 2 c.in_ok-form.ensures.form c.in-2.is) (boxed_read (λ x. x.0.value) (λ x. x.1.now) (λ m. expr_bytes (expr_of m)) (λ m. FitsExpr (expr_of m)) c.boxed.result c.boxed.ensures.boxes (plain expr_kind 2 c.in_ok-form.rest.now refl tt)) }
 
 pub read_expr-returns-in-3 : goal.read_expr-returns-in-3
 read_expr-returns-in-3 t c = record { reads = rw (begins 3 c.in_ok-form.ensures.form c.in-3.is) (c.read_bin.ensures.reads) }
-
-pub read_expr-returns-in_err-a-in-4 : goal.read_expr-returns-in_err-a-in-4
-read_expr-returns-in_err-a-in-4 t c =
-    let exit = err_from_is_err_and c.from_residual-in_err-a-in-4.result c.from_residual-in_err-a-in-4.ensures.1 in
-    record { reads = rw (begins 4 c.in_ok-form.ensures.form c.in-4.is, exit.1, exit.2) (stops_in_form expr_kind 4 ((form expr_kind ∷ form expr_kind ∷ [])) c.in_ok-form.rest.now c.in_err-a-in-4.field-0.0 refl (c.in_err-a-in-4.ensures.reads)) }
-
-pub read_expr-returns-in_ok-a-in-4 : goal.read_expr-returns-in_ok-a-in-4
-read_expr-returns-in_ok-a-in-4 t c = record { reads = rw (begins 4 c.in_ok-form.ensures.form c.in-4.is) (boxed_read (λ x. x.0.value) (λ x. x.1.now) (λ m. expr_bytes (expr_of m)) (λ m. FitsExpr (expr_of m)) c.boxed-in-4.result c.boxed-in-4.ensures.boxes (in_form expr_kind 4 refl c.in_ok-a-in-4.ensures.reads)) }
-
-pub read_expr-returns-in_err-a-in-5 : goal.read_expr-returns-in_err-a-in-5
-read_expr-returns-in_err-a-in-5 t c =
-    let exit = err_from_is_err_and c.from_residual-in_err-a-in-5.result c.from_residual-in_err-a-in-5.ensures.1 in
-    record { reads = rw (begins 5 c.in_ok-form.ensures.form c.in-5.is, exit.1, exit.2) (stops_in_form expr_kind 5 ((form expr_kind ∷ [])) c.in_ok-form.rest.now c.in_err-a-in-5.field-0.0 refl (c.in_err-a-in-5.ensures.reads)) }
-
-pub read_expr-returns-in_ok-a-in-5 : goal.read_expr-returns-in_ok-a-in-5
-read_expr-returns-in_ok-a-in-5 t c = record { reads = rw (begins 5 c.in_ok-form.ensures.form c.in-5.is) (boxed_read (λ x. x.0.value) (λ x. x.1.now) (λ m. expr_bytes (expr_of m)) (λ m. FitsExpr (expr_of m)) c.boxed-in-5.result c.boxed-in-5.ensures.boxes (in_form expr_kind 5 refl c.in_ok-a-in-5.ensures.reads)) }
-
-pub read_expr-returns-in_err-a-in-6 : goal.read_expr-returns-in_err-a-in-6
-read_expr-returns-in_err-a-in-6 t c =
-    let exit = err_from_is_err_and c.from_residual-in_err-a-in-6.result c.from_residual-in_err-a-in-6.ensures.1 in
-    record { reads = rw (begins 6 c.in_ok-form.ensures.form c.in-6.is, exit.1, exit.2) (stops_in_form expr_kind 6 ((form expr_kind ∷ [])) c.in_ok-form.rest.now c.in_err-a-in-6.field-0.0 refl (c.in_err-a-in-6.ensures.reads)) }
-
-pub read_expr-returns-in_ok-a-in-6 : goal.read_expr-returns-in_ok-a-in-6
-read_expr-returns-in_ok-a-in-6 t c = record { reads = rw (begins 6 c.in_ok-form.ensures.form c.in-6.is) (boxed_read (λ x. x.0.value) (λ x. x.1.now) (λ m. expr_bytes (expr_of m)) (λ m. FitsExpr (expr_of m)) c.boxed-in-6.result c.boxed-in-6.ensures.boxes (in_form expr_kind 6 refl c.in_ok-a-in-6.ensures.reads)) }
-
-pub read_expr-returns-in_err-a-in-7 : goal.read_expr-returns-in_err-a-in-7
-read_expr-returns-in_err-a-in-7 t c =
-    let exit = err_from_is_err_and c.from_residual-in_err-a-in-7.result c.from_residual-in_err-a-in-7.ensures.1 in
-    record { reads = rw (begins 7 c.in_ok-form.ensures.form c.in-7.is, exit.1, exit.2) (stops_in_form expr_kind 7 ((form expr_kind ∷ [])) c.in_ok-form.rest.now c.in_err-a-in-7.field-0.0 refl (c.in_err-a-in-7.ensures.reads)) }
-
-pub read_expr-returns-in_ok-a-in-7 : goal.read_expr-returns-in_ok-a-in-7
-read_expr-returns-in_ok-a-in-7 t c = record { reads = rw (begins 7 c.in_ok-form.ensures.form c.in-7.is) (boxed_read (λ x. x.0.value) (λ x. x.1.now) (λ m. expr_bytes (expr_of m)) (λ m. FitsExpr (expr_of m)) c.boxed-in-7.result c.boxed-in-7.ensures.boxes (in_form expr_kind 7 refl c.in_ok-a-in-7.ensures.reads)) }
-
-pub read_expr-returns-in_err-a-in-8 : goal.read_expr-returns-in_err-a-in-8
-read_expr-returns-in_err-a-in-8 t c =
-    let exit = err_from_is_err_and c.from_residual-in_err-a-in-8.result c.from_residual-in_err-a-in-8.ensures.1 in
-    record { reads = rw (begins 8 c.in_ok-form.ensures.form c.in-8.is, exit.1, exit.2) (stops_in_form expr_kind 8 ((form expr_kind ∷ [])) c.in_ok-form.rest.now c.in_err-a-in-8.field-0.0 refl (c.in_err-a-in-8.ensures.reads)) }
-
-pub read_expr-returns-in_ok-a-in-8 : goal.read_expr-returns-in_ok-a-in-8
-read_expr-returns-in_ok-a-in-8 t c = record { reads = rw (begins 8 c.in_ok-form.ensures.form c.in-8.is) (boxed_read (λ x. x.0.value) (λ x. x.1.now) (λ m. expr_bytes (expr_of m)) (λ m. FitsExpr (expr_of m)) c.boxed-in-8.result c.boxed-in-8.ensures.boxes (in_form expr_kind 8 refl c.in_ok-a-in-8.ensures.reads)) }
 
 pub read_expr-returns-in-9 : goal.read_expr-returns-in-9
 read_expr-returns-in-9 t c = record { reads = rw (begins 9 c.in_ok-form.ensures.form c.in-9.is) (c.read_choice.ensures.reads) }
 
 pub read_expr-returns-in-10 : goal.read_expr-returns-in-10
 read_expr-returns-in-10 t c = record { reads = rw (begins 10 c.in_ok-form.ensures.form c.in-10.is) (boxed_read (λ x. x.0.value) (λ x. x.1.now) (λ m. expr_bytes (expr_of m)) (λ m. FitsExpr (expr_of m)) c.boxed-in-10.result c.boxed-in-10.ensures.boxes (plain expr_kind 10 c.in_ok-form.rest.now refl tt)) }
-
-pub read_expr-returns-in_err-a-in-11 : goal.read_expr-returns-in_err-a-in-11
-read_expr-returns-in_err-a-in-11 t c =
-    let exit = err_from_is_err_and c.from_residual-in_err-a-in-11.result c.from_residual-in_err-a-in-11.ensures.1 in
-    record { reads = rw (begins 11 c.in_ok-form.ensures.form c.in-11.is, exit.1, exit.2) (stops_in_form expr_kind 11 ((form expr_kind ∷ form expr_kind ∷ [])) c.in_ok-form.rest.now c.in_err-a-in-11.field-0.0 refl (c.in_err-a-in-11.ensures.reads)) }
-
-pub read_expr-returns-in_ok-a-in-11 : goal.read_expr-returns-in_ok-a-in-11
-read_expr-returns-in_ok-a-in-11 t c = record { reads = rw (begins 11 c.in_ok-form.ensures.form c.in-11.is) (boxed_read (λ x. x.0.value) (λ x. x.1.now) (λ m. expr_bytes (expr_of m)) (λ m. FitsExpr (expr_of m)) c.boxed-in-11.result c.boxed-in-11.ensures.boxes (in_form expr_kind 11 refl c.in_ok-a-in-11.ensures.reads)) }
 
 pub read_expr-returns-in-12 : goal.read_expr-returns-in-12
 read_expr-returns-in-12 t c = record { reads = rw (begins 12 c.in_ok-form.ensures.form c.in-12.is) (c.read_fold.ensures.reads) }

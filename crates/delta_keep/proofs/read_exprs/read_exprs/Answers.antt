@@ -3,7 +3,7 @@ use Rattle.std.proofs.Common.{◌≡◌}
 use Rattle.std.proofs.lemmas.Result.{err_from_is_err_and}
 use Rattle.kept_state.specs.KeptForm.{expr_item}
 use Rattle.std.proofs.Common.{◌<◌, arith}
-use Rattle.delta_keep.proofs.ReadLists.{none_read, read_one_more, list_stops, count_stops, list_read}
+use Rattle.delta_keep.proofs.ReadLists.{none_read, list_pushed, list_ended, count_stops, list_read}
 use Rattle.delta_keep.proofs.read_exprs.read_exprs.Goals as goal
 
 pub returns-in_err-count : goal.returns-in_err-count
@@ -11,16 +11,10 @@ returns-in_err-count c =
     let exit = err_from_is_err_and c.from_residual.result c.from_residual.ensures.1 in
     record { reads = rw (exit.1, exit.2) (count_stops expr_item c.args.bytes.now c.in_err-count.field-0.0 c.in_err-count.ensures.reads) }
 
-pub returns-in_err-m : goal.returns-in_err-m
-returns-in_err-m c =
+pub returns-in-Err : goal.returns-in-Err
+returns-in-Err c =
     let lt : c.items.counter < c.in_ok-count.count = omega arith in
-    let exit = err_from_is_err_and c.from_residual-in_err-m.result c.from_residual-in_err-m.ensures.1 in
-    record { reads = rw (exit.1, exit.2) (list_stops expr_item c.in_err-m.field-0.0 c.in_ok-count.ensures.reads c.items.invariant lt c.in_err-m.ensures.reads) }
-
-pub returns-in_err-push : goal.returns-in_err-push
-returns-in_err-push c =
-    let exit = err_from_is_err_and c.from_residual-in_err-push.result c.from_residual-in_err-push.ensures.1 in
-    record { reads = rw (exit.1, exit.2) (tt) }
+    record { reads = list_ended expr_item c.pushed.new.items.items c.read_expr.result c.in-Err.halt (λ x. x.0.value) (λ x. x.1.now) (λ rest. rest.now) c.in_ok-count.ensures.reads c.items.invariant lt c.in-Err.ensures c.read_expr.ensures.reads }
 
 pub items-init : goal.items-init
 items-init c = none_read _ _ _ _ c.in_ok-count.count c.in_ok-count.rest.now c.new-items.result.items c.new-items.ensures.items
@@ -28,7 +22,7 @@ items-init c = none_read _ _ _ _ c.in_ok-count.count c.in_ok-count.rest.now c.ne
 pub items-preserved : goal.items-preserved
 items-preserved c =
     let lt : c.items.counter < c.in_ok-count.count = omega arith in
-    read_one_more c.items.invariant lt c.in_ok-push.ensures.items c.into_inner.ensures c.in_ok-m.ensures.reads
+    list_pushed c.read_expr.result c.in-Ok.behind (λ x. x.0.value) (λ x. x.1.now) (λ rest. rest.now) c.items.invariant lt c.in-Ok.ensures c.read_expr.ensures.reads
 
 pub returns : goal.returns
 returns c =

@@ -1,15 +1,15 @@
 -- Prefixes by their forms.
 use Rattle.std.proofs.Common.{◌≡◌, [], ◌∷◌, sym, refl}
 use Rattle.std.proofs.lemmas.Result.{err_from_is_err_and}
-use Rattle.kept_state.specs.KeptForm.{prefix_kind, end_kind, prefix_item, any, form, list_part}
+use Rattle.kept_state.specs.KeptForm.{prefix_kind, end_kind, prefix_item, form, list_part}
 use Rattle.kept_state.specs.KeptBytes.{prefix_bytes, rest_bytes}
 use Rattle.kept_state.specs.KeptSizes.{FitsPrefix}
 use Rattle.stream_prefix.specs.Tree.{prefix_of, end_of}
 use Rattle.delta_keep.proofs.Trees.{star_bytes}
 use Rattle.delta_keep.proofs.Sizes.{star_fits}
-use Rattle.delta_keep.proofs.Pieces.{then, as_written, stops_first, stops_second, in_form, plain, stops_in_form, stops_before, begins, boxed_read, handed_on}
+use Rattle.delta_keep.proofs.Pieces.{then, as_written, stops_first, stops_second, in_form, plain, stops_in_form, stops_before, begins, boxed_read}
 use Rattle.std.proofs.Common.{◌<◌, arith}
-use Rattle.delta_keep.proofs.ReadLists.{none_read, read_one_more, list_stops, count_stops, list_read}
+use Rattle.delta_keep.proofs.ReadLists.{none_read, list_pushed, list_ended, count_stops, list_read}
 use Rattle.delta_keep.proofs.read_prefixes.+read_prefixes.Goals as goal
 
 pub two_prefixes-returns-in_err-first : goal.two_prefixes-returns-in_err-first
@@ -30,6 +30,24 @@ read_prefix-returns-in_err-form t c =
     let exit = err_from_is_err_and c.from_residual.result c.from_residual.ensures.1 in
     record { reads = rw (exit.1, exit.2) (stops_before prefix_kind c.args.bytes.now c.in_err-form.field-0.0 c.in_err-form.ensures.none) }
 
+pub read_prefix-returns-in-4 : goal.read_prefix-returns-in-4
+read_prefix-returns-in-4 t c = record { reads = rw (begins 4 c.in_ok-form.ensures.form c.in-4.is) (c.read_number.ensures) }
+
+pub read_prefix-returns-in-5 : goal.read_prefix-returns-in-5
+read_prefix-returns-in-5 t c = record { reads = rw (begins 5 c.in_ok-form.ensures.form c.in-5.is) (c.two_done.ensures c.in_ok-form.rest.now refl c.two_prefixes.ensures.reads) }
+
+pub read_prefix-returns-in-6 : goal.read_prefix-returns-in-6
+read_prefix-returns-in-6 t c = record { reads = rw (begins 6 c.in_ok-form.ensures.form c.in-6.is) (c.one_done.ensures c.in_ok-form.rest.now refl c.read_prefix.ensures.reads) }
+
+pub read_prefix-returns-in-7 : goal.read_prefix-returns-in-7
+read_prefix-returns-in-7 t c = record { reads = rw (begins 7 c.in_ok-form.ensures.form c.in-7.is) (c.two_done-in-7.ensures c.in_ok-form.rest.now refl c.two_prefixes-in-7.ensures.reads) }
+
+pub read_prefix-returns-in-9 : goal.read_prefix-returns-in-9
+read_prefix-returns-in-9 t c = record { reads = rw (begins 9 c.in_ok-form.ensures.form c.in-9.is) (c.one_done-in-9.ensures c.in_ok-form.rest.now refl c.read_prefix-in-9.ensures.reads) }
+
+pub read_prefix-returns-in-10 : goal.read_prefix-returns-in-10
+read_prefix-returns-in-10 t c = record { reads = rw (begins 10 c.in_ok-form.ensures.form c.in-10.is) (c.one_done-in-10.ensures c.in_ok-form.rest.now refl c.read_prefix-in-10.ensures.reads) }
+
 pub read_prefix-returns-in-0 : goal.read_prefix-returns-in-0
 read_prefix-returns-in-0 t c = record { reads = rw (begins 0 c.in_ok-form.ensures.form c.in-0.is) (boxed_read (λ x. x.0.value) (λ x. x.1.now) (λ p. prefix_bytes (prefix_of p)) (λ p. FitsPrefix (prefix_of p)) c.boxed.result c.boxed.ensures.boxes (plain prefix_kind 0 c.in_ok-form.rest.now refl tt)) }
 
@@ -42,56 +60,8 @@ read_prefix-returns-in-2 t c = record { reads = rw (begins 2 c.in_ok-form.ensure
 pub read_prefix-returns-in-3 : goal.read_prefix-returns-in-3
 read_prefix-returns-in-3 t c = record { reads = rw (begins 3 c.in_ok-form.ensures.form c.in-3.is) (boxed_read (λ x. x.0.value) (λ x. x.1.now) (λ p. prefix_bytes (prefix_of p)) (λ p. FitsPrefix (prefix_of p)) c.boxed-in-3.result c.boxed-in-3.ensures.boxes (plain prefix_kind 3 c.in_ok-form.rest.now refl tt)) }
 
-pub read_prefix-returns-in_err-n-in-4 : goal.read_prefix-returns-in_err-n-in-4
-read_prefix-returns-in_err-n-in-4 t c =
-    let exit = err_from_is_err_and c.from_residual-in_err-n-in-4.result c.from_residual-in_err-n-in-4.ensures.1 in
-    record { reads = rw (begins 4 c.in_ok-form.ensures.form c.in-4.is, exit.1, exit.2) (stops_in_form prefix_kind 4 ((any 8 ∷ [])) c.in_ok-form.rest.now c.in_err-n-in-4.field-0.0 refl (c.in_err-n-in-4.ensures.reads)) }
-
-pub read_prefix-returns-in_ok-n-in-4 : goal.read_prefix-returns-in_ok-n-in-4
-read_prefix-returns-in_ok-n-in-4 t c = record { reads = rw (begins 4 c.in_ok-form.ensures.form c.in-4.is) (boxed_read (λ x. x.0.value) (λ x. x.1.now) (λ p. prefix_bytes (prefix_of p)) (λ p. FitsPrefix (prefix_of p)) c.boxed-in-4.result c.boxed-in-4.ensures.boxes (in_form prefix_kind 4 refl (handed_on c.in_ok-n-in-4.n c.in_ok-n-in-4.ensures.reads))) }
-
-pub read_prefix-returns-in_err-p-in-5 : goal.read_prefix-returns-in_err-p-in-5
-read_prefix-returns-in_err-p-in-5 t c =
-    let exit = err_from_is_err_and c.from_residual-in_err-p-in-5.result c.from_residual-in_err-p-in-5.ensures.1 in
-    record { reads = rw (begins 5 c.in_ok-form.ensures.form c.in-5.is, exit.1, exit.2) (stops_in_form prefix_kind 5 ((form prefix_kind ∷ form prefix_kind ∷ [])) c.in_ok-form.rest.now c.in_err-p-in-5.field-0.0 refl (c.in_err-p-in-5.ensures.reads)) }
-
-pub read_prefix-returns-in_ok-p-in-5 : goal.read_prefix-returns-in_ok-p-in-5
-read_prefix-returns-in_ok-p-in-5 t c = record { reads = rw (begins 5 c.in_ok-form.ensures.form c.in-5.is) (boxed_read (λ x. x.0.value) (λ x. x.1.now) (λ p. prefix_bytes (prefix_of p)) (λ p. FitsPrefix (prefix_of p)) c.boxed-in-5.result c.boxed-in-5.ensures.boxes (in_form prefix_kind 5 refl c.in_ok-p-in-5.ensures.reads)) }
-
-pub read_prefix-returns-in_err-p-in-6 : goal.read_prefix-returns-in_err-p-in-6
-read_prefix-returns-in_err-p-in-6 t c =
-    let exit = err_from_is_err_and c.from_residual-in_err-p-in-6.result c.from_residual-in_err-p-in-6.ensures.1 in
-    record { reads = rw (begins 6 c.in_ok-form.ensures.form c.in-6.is, exit.1, exit.2) (stops_in_form prefix_kind 6 ((form prefix_kind ∷ [])) c.in_ok-form.rest.now c.in_err-p-in-6.field-0.0 refl (c.in_err-p-in-6.ensures.reads)) }
-
-pub read_prefix-returns-in_ok-p-in-6 : goal.read_prefix-returns-in_ok-p-in-6
-read_prefix-returns-in_ok-p-in-6 t c = record { reads = rw (begins 6 c.in_ok-form.ensures.form c.in-6.is) (boxed_read (λ x. x.0.value) (λ x. x.1.now) (λ p. prefix_bytes (prefix_of p)) (λ p. FitsPrefix (prefix_of p)) c.boxed-in-6.result c.boxed-in-6.ensures.boxes (in_form prefix_kind 6 refl c.in_ok-p-in-6.ensures.reads)) }
-
-pub read_prefix-returns-in_err-p-in-7 : goal.read_prefix-returns-in_err-p-in-7
-read_prefix-returns-in_err-p-in-7 t c =
-    let exit = err_from_is_err_and c.from_residual-in_err-p-in-7.result c.from_residual-in_err-p-in-7.ensures.1 in
-    record { reads = rw (begins 7 c.in_ok-form.ensures.form c.in-7.is, exit.1, exit.2) (stops_in_form prefix_kind 7 ((form prefix_kind ∷ form prefix_kind ∷ [])) c.in_ok-form.rest.now c.in_err-p-in-7.field-0.0 refl (c.in_err-p-in-7.ensures.reads)) }
-
-pub read_prefix-returns-in_ok-p-in-7 : goal.read_prefix-returns-in_ok-p-in-7
-read_prefix-returns-in_ok-p-in-7 t c = record { reads = rw (begins 7 c.in_ok-form.ensures.form c.in-7.is) (boxed_read (λ x. x.0.value) (λ x. x.1.now) (λ p. prefix_bytes (prefix_of p)) (λ p. FitsPrefix (prefix_of p)) c.boxed-in-7.result c.boxed-in-7.ensures.boxes (in_form prefix_kind 7 refl c.in_ok-p-in-7.ensures.reads)) }
-
 pub read_prefix-returns-in-8 : goal.read_prefix-returns-in-8
 read_prefix-returns-in-8 t c = record { reads = rw (begins 8 c.in_ok-form.ensures.form c.in-8.is) (boxed_read (λ x. x.0.value) (λ x. x.1.now) (λ p. prefix_bytes (prefix_of p)) (λ p. FitsPrefix (prefix_of p)) c.boxed-in-8.result c.boxed-in-8.ensures.boxes (plain prefix_kind 8 c.in_ok-form.rest.now refl tt)) }
-
-pub read_prefix-returns-in_err-p-in-9 : goal.read_prefix-returns-in_err-p-in-9
-read_prefix-returns-in_err-p-in-9 t c =
-    let exit = err_from_is_err_and c.from_residual-in_err-p-in-9.result c.from_residual-in_err-p-in-9.ensures.1 in
-    record { reads = rw (begins 9 c.in_ok-form.ensures.form c.in-9.is, exit.1, exit.2) (stops_in_form prefix_kind 9 ((form prefix_kind ∷ [])) c.in_ok-form.rest.now c.in_err-p-in-9.field-0.0 refl (c.in_err-p-in-9.ensures.reads)) }
-
-pub read_prefix-returns-in_ok-p-in-9 : goal.read_prefix-returns-in_ok-p-in-9
-read_prefix-returns-in_ok-p-in-9 t c = record { reads = rw (begins 9 c.in_ok-form.ensures.form c.in-9.is) (boxed_read (λ x. x.0.value) (λ x. x.1.now) (λ p. prefix_bytes (prefix_of p)) (λ p. FitsPrefix (prefix_of p)) c.boxed-in-9.result c.boxed-in-9.ensures.boxes (in_form prefix_kind 9 refl c.in_ok-p-in-9.ensures.reads)) }
-
-pub read_prefix-returns-in_err-p-in-10 : goal.read_prefix-returns-in_err-p-in-10
-read_prefix-returns-in_err-p-in-10 t c =
-    let exit = err_from_is_err_and c.from_residual-in_err-p-in-10.result c.from_residual-in_err-p-in-10.ensures.1 in
-    record { reads = rw (begins 10 c.in_ok-form.ensures.form c.in-10.is, exit.1, exit.2) (stops_in_form prefix_kind 10 ((form prefix_kind ∷ [])) c.in_ok-form.rest.now c.in_err-p-in-10.field-0.0 refl (c.in_err-p-in-10.ensures.reads)) }
-
-pub read_prefix-returns-in_ok-p-in-10 : goal.read_prefix-returns-in_ok-p-in-10
-read_prefix-returns-in_ok-p-in-10 t c = record { reads = rw (begins 10 c.in_ok-form.ensures.form c.in-10.is) (boxed_read (λ x. x.0.value) (λ x. x.1.now) (λ p. prefix_bytes (prefix_of p)) (λ p. FitsPrefix (prefix_of p)) c.boxed-in-10.result c.boxed-in-10.ensures.boxes (in_form prefix_kind 10 refl c.in_ok-p-in-10.ensures.reads)) }
 
 pub read_prefix-returns-in-11 : goal.read_prefix-returns-in-11
 read_prefix-returns-in-11 t c = record { reads = rw (begins 11 c.in_ok-form.ensures.form c.in-11.is) (c.read_star.ensures.reads) }
@@ -114,16 +84,10 @@ read_items-returns-in_err-count t c =
     let exit = err_from_is_err_and c.from_residual.result c.from_residual.ensures.1 in
     record { reads = rw (exit.1, exit.2) (count_stops prefix_item c.args.bytes.now c.in_err-count.field-0.0 c.in_err-count.ensures.reads) }
 
-pub read_items-returns-in_err-item : goal.read_items-returns-in_err-item
-read_items-returns-in_err-item t c =
+pub read_items-returns-in-Err : goal.read_items-returns-in-Err
+read_items-returns-in-Err t c =
     let lt : c.items.counter < c.in_ok-count.count = omega arith in
-    let exit = err_from_is_err_and c.from_residual-in_err-item.result c.from_residual-in_err-item.ensures.1 in
-    record { reads = rw (exit.1, exit.2) (list_stops prefix_item c.in_err-item.field-0.0 c.in_ok-count.ensures.reads c.items.invariant lt c.in_err-item.ensures.reads) }
-
-pub read_items-returns-in_err-push : goal.read_items-returns-in_err-push
-read_items-returns-in_err-push t c =
-    let exit = err_from_is_err_and c.from_residual-in_err-push.result c.from_residual-in_err-push.ensures.1 in
-    record { reads = rw (exit.1, exit.2) (tt) }
+    record { reads = list_ended prefix_item c.pushed.new.items.items c.read_prefix.result c.in-Err.halt (λ x. x.0.value) (λ x. x.1.now) (λ rest. rest.now) c.in_ok-count.ensures.reads c.items.invariant lt c.in-Err.ensures c.read_prefix.ensures.reads }
 
 pub read_items-items-init : goal.read_items-items-init
 read_items-items-init t c = none_read _ _ _ _ c.in_ok-count.count c.in_ok-count.rest.now c.new-items.result.items c.new-items.ensures.items
@@ -131,7 +95,7 @@ read_items-items-init t c = none_read _ _ _ _ c.in_ok-count.count c.in_ok-count.
 pub read_items-items-preserved : goal.read_items-items-preserved
 read_items-items-preserved t c =
     let lt : c.items.counter < c.in_ok-count.count = omega arith in
-    read_one_more c.items.invariant lt c.in_ok-push.ensures.items c.into_inner.ensures c.in_ok-item.ensures.reads
+    list_pushed c.read_prefix.result c.in-Ok.behind (λ x. x.0.value) (λ x. x.1.now) (λ rest. rest.now) c.items.invariant lt c.in-Ok.ensures c.read_prefix.ensures.reads
 
 pub read_items-returns : goal.read_items-returns
 read_items-returns t c =

@@ -9,9 +9,9 @@ use Rattle.delta_keep.specs.KeptView.{state_of}
 use Rattle.delta_keep.specs.Written.{written_state}
 use Rattle.delta_keep.proofs.Trees.{frame_bytes}
 use Rattle.delta_keep.proofs.Sizes.{frame_fits}
-use Rattle.delta_keep.proofs.Pieces.{then, as_written, stops_first, stops_second, in_form, stops_in_form, stops_before, begins, boxed_read, grouped, flat_3, names_fit}
+use Rattle.delta_keep.proofs.Pieces.{then, as_written, stops_first, stops_second, in_form, stops_in_form, stops_before, begins, boxed_read, grouped, flat_3}
 use Rattle.std.proofs.Common.{◌<◌, arith}
-use Rattle.delta_keep.proofs.ReadLists.{none_read, read_one_more, list_stops, count_stops, list_read_same}
+use Rattle.delta_keep.proofs.ReadLists.{none_read, list_pushed, list_ended, count_stops, list_read_same}
 use Rattle.delta_keep.proofs.read_states.+read_states.Goals as goal
 
 pub two_states-returns-in_err-first : goal.two_states-returns-in_err-first
@@ -32,51 +32,26 @@ read_state-returns-in_err-form t c =
     let exit = err_from_is_err_and c.from_residual.result c.from_residual.ensures.1 in
     record { reads = rw (exit.1, exit.2) (stops_before state_kind c.args.bytes.now c.in_err-form.field-0.0 c.in_err-form.ensures.none) }
 
-pub read_state-returns-in_err-t-in-0 : goal.read_state-returns-in_err-t-in-0
-read_state-returns-in_err-t-in-0 t c =
-    let exit = err_from_is_err_and c.from_residual-in_err-t-in-0.result c.from_residual-in_err-t-in-0.ensures.1 in
-    record { reads = rw (begins 0 c.in_ok-form.ensures.form c.in-0.is, exit.1, exit.2) (stops_in_form state_kind 0 ((form type_kind ∷ [])) c.in_ok-form.rest.now c.in_err-t-in-0.field-0.0 refl (c.in_err-t-in-0.ensures.reads)) }
+pub read_state-returns-in-0 : goal.read_state-returns-in-0
+read_state-returns-in-0 t c = record { reads = rw (begins 0 c.in_ok-form.ensures.form c.in-0.is) (c.read_sink.ensures) }
 
-pub read_state-returns-in_ok-t-in-0 : goal.read_state-returns-in_ok-t-in-0
-read_state-returns-in_ok-t-in-0 t c = record { reads = rw (begins 0 c.in_ok-form.ensures.form c.in-0.is) (boxed_read (λ x. x.0.value) (λ x. x.1.now) written_state (λ s. FitsState (state_of s)) c.boxed.result c.boxed.ensures.boxes (in_form state_kind 0 refl c.in_ok-t-in-0.ensures.reads)) }
+pub read_state-returns-in-1 : goal.read_state-returns-in-1
+read_state-returns-in-1 t c = record { reads = rw (begins 1 c.in_ok-form.ensures.form c.in-1.is) (c.read_variable.ensures) }
 
-pub read_state-returns-in_err-x-in-1 : goal.read_state-returns-in_err-x-in-1
-read_state-returns-in_err-x-in-1 t c =
-    let exit = err_from_is_err_and c.from_residual-in_err-x-in-1.result c.from_residual-in_err-x-in-1.ensures.1 in
-    record { reads = rw (begins 1 c.in_ok-form.ensures.form c.in-1.is, exit.1, exit.2) (stops_in_form state_kind 1 ((any 4 ∷ [])) c.in_ok-form.rest.now c.in_err-x-in-1.field-0.0 refl (c.in_err-x-in-1.ensures.reads)) }
+pub read_state-returns-in-2 : goal.read_state-returns-in-2
+read_state-returns-in-2 t c = record { reads = rw (begins 2 c.in_ok-form.ensures.form c.in-2.is) (c.par_done.ensures c.in_ok-form.rest.now c.two_states.ensures.reads) }
 
-pub read_state-returns-in_ok-x-in-1 : goal.read_state-returns-in_ok-x-in-1
-read_state-returns-in_ok-x-in-1 t c = record { reads = rw (begins 1 c.in_ok-form.ensures.form c.in-1.is) (boxed_read (λ x. x.0.value) (λ x. x.1.now) written_state (λ s. FitsState (state_of s)) c.boxed-in-1.result c.boxed-in-1.ensures.boxes (in_form state_kind 1 refl c.in_ok-x-in-1.ensures.reads)) }
+pub read_state-returns-in-5 : goal.read_state-returns-in-5
+read_state-returns-in-5 t c = record { reads = rw (begins 5 c.in_ok-form.ensures.form c.in-5.is) (c.names_done.ensures c.in_ok-form.rest.now refl c.names_and_state.ensures.reads) }
 
-pub read_state-returns-in_err-a-in-2 : goal.read_state-returns-in_err-a-in-2
-read_state-returns-in_err-a-in-2 t c =
-    let exit = err_from_is_err_and c.from_residual-in_err-a-in-2.result c.from_residual-in_err-a-in-2.ensures.1 in
-    record { reads = rw (begins 2 c.in_ok-form.ensures.form c.in-2.is, exit.1, exit.2) (stops_in_form state_kind 2 ((form state_kind ∷ form state_kind ∷ [])) c.in_ok-form.rest.now c.in_err-a-in-2.field-0.0 refl (c.in_err-a-in-2.ensures.reads)) }
-
-pub read_state-returns-in_ok-a-in-2 : goal.read_state-returns-in_ok-a-in-2
-read_state-returns-in_ok-a-in-2 t c = record { reads = rw (begins 2 c.in_ok-form.ensures.form c.in-2.is) (boxed_read (λ x. x.0.value) (λ x. x.1.now) written_state (λ s. FitsState (state_of s)) c.boxed-in-2.result c.boxed-in-2.ensures.boxes (in_form state_kind 2 refl c.in_ok-a-in-2.ensures.reads)) }
+pub read_state-returns-in-6 : goal.read_state-returns-in-6
+read_state-returns-in-6 t c = record { reads = rw (begins 6 c.in_ok-form.ensures.form c.in-6.is) (c.names_done-in-6.ensures c.in_ok-form.rest.now refl c.names_and_state-in-6.ensures.reads) }
 
 pub read_state-returns-in-3 : goal.read_state-returns-in-3
 read_state-returns-in-3 t c = record { reads = rw (begins 3 c.in_ok-form.ensures.form c.in-3.is) (c.read_cat.ensures.reads) }
 
 pub read_state-returns-in-4 : goal.read_state-returns-in-4
 read_state-returns-in-4 t c = record { reads = rw (begins 4 c.in_ok-form.ensures.form c.in-4.is) (c.read_let.ensures.reads) }
-
-pub read_state-returns-in_err-x-in-5 : goal.read_state-returns-in_err-x-in-5
-read_state-returns-in_err-x-in-5 t c =
-    let exit = err_from_is_err_and c.from_residual-in_err-x-in-5.result c.from_residual-in_err-x-in-5.ensures.1 in
-    record { reads = rw (begins 5 c.in_ok-form.ensures.form c.in-5.is, exit.1, exit.2) (stops_in_form state_kind 5 ((any 4 ∷ any 4 ∷ any 4 ∷ form state_kind ∷ [])) c.in_ok-form.rest.now c.in_err-x-in-5.field-0.0 refl (c.in_err-x-in-5.ensures.reads)) }
-
-pub read_state-returns-in_ok-x-in-5 : goal.read_state-returns-in_ok-x-in-5
-read_state-returns-in_ok-x-in-5 t c = record { reads = rw (begins 5 c.in_ok-form.ensures.form c.in-5.is) (boxed_read (λ x. x.0.value) (λ x. x.1.now) written_state (λ s. FitsState (state_of s)) c.boxed-in-5.result c.boxed-in-5.ensures.boxes (in_form state_kind 5 refl (as_written refl names_fit c.in_ok-x-in-5.ensures.reads))) }
-
-pub read_state-returns-in_err-x-in-6 : goal.read_state-returns-in_err-x-in-6
-read_state-returns-in_err-x-in-6 t c =
-    let exit = err_from_is_err_and c.from_residual-in_err-x-in-6.result c.from_residual-in_err-x-in-6.ensures.1 in
-    record { reads = rw (begins 6 c.in_ok-form.ensures.form c.in-6.is, exit.1, exit.2) (stops_in_form state_kind 6 ((any 4 ∷ any 4 ∷ any 4 ∷ form state_kind ∷ [])) c.in_ok-form.rest.now c.in_err-x-in-6.field-0.0 refl (c.in_err-x-in-6.ensures.reads)) }
-
-pub read_state-returns-in_ok-x-in-6 : goal.read_state-returns-in_ok-x-in-6
-read_state-returns-in_ok-x-in-6 t c = record { reads = rw (begins 6 c.in_ok-form.ensures.form c.in-6.is) (boxed_read (λ x. x.0.value) (λ x. x.1.now) written_state (λ s. FitsState (state_of s)) c.boxed-in-6.result c.boxed-in-6.ensures.boxes (in_form state_kind 6 refl (as_written refl names_fit c.in_ok-x-in-6.ensures.reads))) }
 
 pub read_state-returns-in-7 : goal.read_state-returns-in-7
 read_state-returns-in-7 t c = record { reads = rw (begins 7 c.in_ok-form.ensures.form c.in-7.is) (c.read_case_sum.ensures.reads) }
@@ -160,16 +135,10 @@ read_arguments-returns-in_err-count t c =
     let exit = err_from_is_err_and c.from_residual.result c.from_residual.ensures.1 in
     record { reads = rw (exit.1, exit.2) (count_stops argument_item c.args.bytes.now c.in_err-count.field-0.0 c.in_err-count.ensures.reads) }
 
-pub read_arguments-returns-in_err-arg : goal.read_arguments-returns-in_err-arg
-read_arguments-returns-in_err-arg t c =
+pub read_arguments-returns-in-Err : goal.read_arguments-returns-in-Err
+read_arguments-returns-in-Err t c =
     let lt : c.items.counter < c.in_ok-count.count = omega arith in
-    let exit = err_from_is_err_and c.from_residual-in_err-arg.result c.from_residual-in_err-arg.ensures.1 in
-    record { reads = rw (exit.1, exit.2) (list_stops argument_item c.in_err-arg.field-0.0 c.in_ok-count.ensures.reads c.items.invariant lt c.in_err-arg.ensures.reads) }
-
-pub read_arguments-returns-in_err-push : goal.read_arguments-returns-in_err-push
-read_arguments-returns-in_err-push t c =
-    let exit = err_from_is_err_and c.from_residual-in_err-push.result c.from_residual-in_err-push.ensures.1 in
-    record { reads = rw (exit.1, exit.2) (tt) }
+    record { reads = list_ended argument_item c.added.new.items.items c.read_argument.result c.in-Err.halt (λ x. x.0) (λ x. x.1.now) (λ rest. rest.now) c.in_ok-count.ensures.reads c.items.invariant lt c.in-Err.ensures c.read_argument.ensures.reads }
 
 pub read_arguments-items-init : goal.read_arguments-items-init
 read_arguments-items-init t c = none_read _ _ _ _ c.in_ok-count.count c.in_ok-count.rest.now c.new-items.result.items c.new-items.ensures.items
@@ -177,7 +146,7 @@ read_arguments-items-init t c = none_read _ _ _ _ c.in_ok-count.count c.in_ok-co
 pub read_arguments-items-preserved : goal.read_arguments-items-preserved
 read_arguments-items-preserved t c =
     let lt : c.items.counter < c.in_ok-count.count = omega arith in
-    read_one_more c.items.invariant lt c.in_ok-push.ensures.items refl c.in_ok-arg.ensures.reads
+    list_pushed c.read_argument.result c.in-Ok.behind (λ x. x.0) (λ x. x.1.now) (λ rest. rest.now) c.items.invariant lt c.in-Ok.ensures c.read_argument.ensures.reads
 
 pub read_arguments-returns : goal.read_arguments-returns
 read_arguments-returns t c =

@@ -8,9 +8,9 @@ use Rattle.delta_keep.specs.Written.{written_node}
 use Rattle.delta_keep.specs.Reads.{FitsNode}
 use Rattle.delta_keep.proofs.Trees.{call_bytes}
 use Rattle.delta_keep.proofs.Sizes.{call_fits}
-use Rattle.delta_keep.proofs.Pieces.{then, as_written, stops_first, stops_second, in_form, plain, stops_in_form, stops_before, begins, boxed_read, grouped, flat_3, flat_5, names_fit, in_node, stops_in_node}
+use Rattle.delta_keep.proofs.Pieces.{then, as_written, stops_first, stops_second, in_form, plain, stops_in_form, stops_before, begins, boxed_read, grouped, flat_3, flat_5, in_node, stops_in_node}
 use Rattle.std.proofs.Common.{◌<◌, arith}
-use Rattle.delta_keep.proofs.ReadLists.{none_read, read_one_more, list_stops, count_stops, list_read_same}
+use Rattle.delta_keep.proofs.ReadLists.{none_read, list_pushed, list_ended, count_stops, list_read_same}
 use Rattle.delta_keep.proofs.read_terms.+read_nodes.Goals as goal
 
 pub read_node-returns-in_err-at : goal.read_node-returns-in_err-at
@@ -39,16 +39,32 @@ read_term-returns-in_err-form t c =
     let exit = err_from_is_err_and c.from_residual.result c.from_residual.ensures.1 in
     record { reads = rw (exit.1, exit.2) (stops_in_node c.args.at c.args.bytes.now c.in_err-form.field-0.0 (stops_before term_kind c.args.bytes.now c.in_err-form.field-0.0 c.in_err-form.ensures.none)) }
 
-pub read_term-returns-in_err-x-in-0 : goal.read_term-returns-in_err-x-in-0
-read_term-returns-in_err-x-in-0 t c =
-    let exit = err_from_is_err_and c.from_residual-in_err-x-in-0.result c.from_residual-in_err-x-in-0.ensures.1 in
-    record { reads = rw (begins 0 c.in_ok-form.ensures.form c.in-0.is, exit.1, exit.2) (stops_in_node c.args.at (0 ∷ c.in_ok-form.rest.now) c.in_err-x-in-0.field-0.0 (stops_in_form term_kind 0 ((any 4 ∷ [])) c.in_ok-form.rest.now c.in_err-x-in-0.field-0.0 refl (c.in_err-x-in-0.ensures.reads))) }
+pub read_term-returns-in-0 : goal.read_term-returns-in-0
+read_term-returns-in-0 t c = record { reads = rw (begins 0 c.in_ok-form.ensures.form c.in-0.is) (c.read_variable.ensures) }
 
-pub read_term-returns-in_ok-x-in-0 : goal.read_term-returns-in_ok-x-in-0
-read_term-returns-in_ok-x-in-0 t c = record { reads = rw (begins 0 c.in_ok-form.ensures.form c.in-0.is) (boxed_read (λ x. x.0.value) (λ x. x.1.now) written_node FitsNode c.boxed.result c.boxed.ensures.boxes (in_node c.args.at (in_form term_kind 0 refl c.in_ok-x-in-0.ensures.reads))) }
+pub read_term-returns-in-4 : goal.read_term-returns-in-4
+read_term-returns-in-4 t c = record { reads = rw (begins 4 c.in_ok-form.ensures.form c.in-4.is) (c.two_done.ensures c.in_ok-form.rest.now refl c.two_nodes.ensures.reads) }
+
+pub read_term-returns-in-5 : goal.read_term-returns-in-5
+read_term-returns-in-5 t c = record { reads = rw (begins 5 c.in_ok-form.ensures.form c.in-5.is) (c.two_done-in-5.ensures c.in_ok-form.rest.now refl c.two_nodes-in-5.ensures.reads) }
+
+pub read_term-returns-in-9 : goal.read_term-returns-in-9
+read_term-returns-in-9 t c = record { reads = rw (begins 9 c.in_ok-form.ensures.form c.in-9.is) (c.two_done-in-9.ensures c.in_ok-form.rest.now refl c.two_nodes-in-9.ensures.reads) }
+
+pub read_term-returns-in-6 : goal.read_term-returns-in-6
+read_term-returns-in-6 t c = record { reads = rw (begins 6 c.in_ok-form.ensures.form c.in-6.is) (c.one_done.ensures c.in_ok-form.rest.now refl c.read_node.ensures.reads) }
+
+pub read_term-returns-in-7 : goal.read_term-returns-in-7
+read_term-returns-in-7 t c = record { reads = rw (begins 7 c.in_ok-form.ensures.form c.in-7.is) (c.one_done-in-7.ensures c.in_ok-form.rest.now refl c.read_node-in-7.ensures.reads) }
+
+pub read_term-returns-in-11 : goal.read_term-returns-in-11
+read_term-returns-in-11 t c = record { reads = rw (begins 11 c.in_ok-form.ensures.form c.in-11.is) (c.names_done.ensures c.in_ok-form.rest.now refl c.names_and_node.ensures.reads) }
+
+pub read_term-returns-in-12 : goal.read_term-returns-in-12
+read_term-returns-in-12 t c = record { reads = rw (begins 12 c.in_ok-form.ensures.form c.in-12.is) (c.names_done-in-12.ensures c.in_ok-form.rest.now refl c.names_and_node-in-12.ensures.reads) }
 
 pub read_term-returns-in-1 : goal.read_term-returns-in-1
-read_term-returns-in-1 t c = record { reads = rw (begins 1 c.in_ok-form.ensures.form c.in-1.is) (boxed_read (λ x. x.0.value) (λ x. x.1.now) written_node FitsNode c.boxed-in-1.result c.boxed-in-1.ensures.boxes (in_node c.args.at (plain term_kind 1 c.in_ok-form.rest.now refl tt))) }
+read_term-returns-in-1 t c = record { reads = rw (begins 1 c.in_ok-form.ensures.form c.in-1.is) (boxed_read (λ x. x.0.value) (λ x. x.1.now) written_node FitsNode c.boxed.result c.boxed.ensures.boxes (in_node c.args.at (plain term_kind 1 c.in_ok-form.rest.now refl tt))) }
 
 pub read_term-returns-in-2 : goal.read_term-returns-in-2
 read_term-returns-in-2 t c = record { reads = rw (begins 2 c.in_ok-form.ensures.form c.in-2.is) (boxed_read (λ x. x.0.value) (λ x. x.1.now) written_node FitsNode c.boxed-in-2.result c.boxed-in-2.ensures.boxes (in_node c.args.at (plain term_kind 2 c.in_ok-form.rest.now refl tt))) }
@@ -56,67 +72,11 @@ read_term-returns-in-2 t c = record { reads = rw (begins 2 c.in_ok-form.ensures.
 pub read_term-returns-in-3 : goal.read_term-returns-in-3
 read_term-returns-in-3 t c = record { reads = rw (begins 3 c.in_ok-form.ensures.form c.in-3.is) (c.read_history.ensures.reads) }
 
-pub read_term-returns-in_err-a-in-4 : goal.read_term-returns-in_err-a-in-4
-read_term-returns-in_err-a-in-4 t c =
-    let exit = err_from_is_err_and c.from_residual-in_err-a-in-4.result c.from_residual-in_err-a-in-4.ensures.1 in
-    record { reads = rw (begins 4 c.in_ok-form.ensures.form c.in-4.is, exit.1, exit.2) (stops_in_node c.args.at (4 ∷ c.in_ok-form.rest.now) c.in_err-a-in-4.field-0.0 (stops_in_form term_kind 4 ((node_parts ++ node_parts)) c.in_ok-form.rest.now c.in_err-a-in-4.field-0.0 refl (c.in_err-a-in-4.ensures.reads))) }
-
-pub read_term-returns-in_ok-a-in-4 : goal.read_term-returns-in_ok-a-in-4
-read_term-returns-in_ok-a-in-4 t c = record { reads = rw (begins 4 c.in_ok-form.ensures.form c.in-4.is) (boxed_read (λ x. x.0.value) (λ x. x.1.now) written_node FitsNode c.boxed-in-4.result c.boxed-in-4.ensures.boxes (in_node c.args.at (in_form term_kind 4 refl c.in_ok-a-in-4.ensures.reads))) }
-
-pub read_term-returns-in_err-a-in-5 : goal.read_term-returns-in_err-a-in-5
-read_term-returns-in_err-a-in-5 t c =
-    let exit = err_from_is_err_and c.from_residual-in_err-a-in-5.result c.from_residual-in_err-a-in-5.ensures.1 in
-    record { reads = rw (begins 5 c.in_ok-form.ensures.form c.in-5.is, exit.1, exit.2) (stops_in_node c.args.at (5 ∷ c.in_ok-form.rest.now) c.in_err-a-in-5.field-0.0 (stops_in_form term_kind 5 ((node_parts ++ node_parts)) c.in_ok-form.rest.now c.in_err-a-in-5.field-0.0 refl (c.in_err-a-in-5.ensures.reads))) }
-
-pub read_term-returns-in_ok-a-in-5 : goal.read_term-returns-in_ok-a-in-5
-read_term-returns-in_ok-a-in-5 t c = record { reads = rw (begins 5 c.in_ok-form.ensures.form c.in-5.is) (boxed_read (λ x. x.0.value) (λ x. x.1.now) written_node FitsNode c.boxed-in-5.result c.boxed-in-5.ensures.boxes (in_node c.args.at (in_form term_kind 5 refl c.in_ok-a-in-5.ensures.reads))) }
-
-pub read_term-returns-in_err-a-in-6 : goal.read_term-returns-in_err-a-in-6
-read_term-returns-in_err-a-in-6 t c =
-    let exit = err_from_is_err_and c.from_residual-in_err-a-in-6.result c.from_residual-in_err-a-in-6.ensures.1 in
-    record { reads = rw (begins 6 c.in_ok-form.ensures.form c.in-6.is, exit.1, exit.2) (stops_in_node c.args.at (6 ∷ c.in_ok-form.rest.now) c.in_err-a-in-6.field-0.0 (stops_in_form term_kind 6 (node_parts) c.in_ok-form.rest.now c.in_err-a-in-6.field-0.0 refl (c.in_err-a-in-6.ensures.reads))) }
-
-pub read_term-returns-in_ok-a-in-6 : goal.read_term-returns-in_ok-a-in-6
-read_term-returns-in_ok-a-in-6 t c = record { reads = rw (begins 6 c.in_ok-form.ensures.form c.in-6.is) (boxed_read (λ x. x.0.value) (λ x. x.1.now) written_node FitsNode c.boxed-in-6.result c.boxed-in-6.ensures.boxes (in_node c.args.at (in_form term_kind 6 refl c.in_ok-a-in-6.ensures.reads))) }
-
-pub read_term-returns-in_err-a-in-7 : goal.read_term-returns-in_err-a-in-7
-read_term-returns-in_err-a-in-7 t c =
-    let exit = err_from_is_err_and c.from_residual-in_err-a-in-7.result c.from_residual-in_err-a-in-7.ensures.1 in
-    record { reads = rw (begins 7 c.in_ok-form.ensures.form c.in-7.is, exit.1, exit.2) (stops_in_node c.args.at (7 ∷ c.in_ok-form.rest.now) c.in_err-a-in-7.field-0.0 (stops_in_form term_kind 7 (node_parts) c.in_ok-form.rest.now c.in_err-a-in-7.field-0.0 refl (c.in_err-a-in-7.ensures.reads))) }
-
-pub read_term-returns-in_ok-a-in-7 : goal.read_term-returns-in_ok-a-in-7
-read_term-returns-in_ok-a-in-7 t c = record { reads = rw (begins 7 c.in_ok-form.ensures.form c.in-7.is) (boxed_read (λ x. x.0.value) (λ x. x.1.now) written_node FitsNode c.boxed-in-7.result c.boxed-in-7.ensures.boxes (in_node c.args.at (in_form term_kind 7 refl c.in_ok-a-in-7.ensures.reads))) }
-
 pub read_term-returns-in-8 : goal.read_term-returns-in-8
 read_term-returns-in-8 t c = record { reads = rw (begins 8 c.in_ok-form.ensures.form c.in-8.is) (boxed_read (λ x. x.0.value) (λ x. x.1.now) written_node FitsNode c.boxed-in-8.result c.boxed-in-8.ensures.boxes (in_node c.args.at (plain term_kind 8 c.in_ok-form.rest.now refl tt))) }
 
-pub read_term-returns-in_err-a-in-9 : goal.read_term-returns-in_err-a-in-9
-read_term-returns-in_err-a-in-9 t c =
-    let exit = err_from_is_err_and c.from_residual-in_err-a-in-9.result c.from_residual-in_err-a-in-9.ensures.1 in
-    record { reads = rw (begins 9 c.in_ok-form.ensures.form c.in-9.is, exit.1, exit.2) (stops_in_node c.args.at (9 ∷ c.in_ok-form.rest.now) c.in_err-a-in-9.field-0.0 (stops_in_form term_kind 9 ((node_parts ++ node_parts)) c.in_ok-form.rest.now c.in_err-a-in-9.field-0.0 refl (c.in_err-a-in-9.ensures.reads))) }
-
-pub read_term-returns-in_ok-a-in-9 : goal.read_term-returns-in_ok-a-in-9
-read_term-returns-in_ok-a-in-9 t c = record { reads = rw (begins 9 c.in_ok-form.ensures.form c.in-9.is) (boxed_read (λ x. x.0.value) (λ x. x.1.now) written_node FitsNode c.boxed-in-9.result c.boxed-in-9.ensures.boxes (in_node c.args.at (in_form term_kind 9 refl c.in_ok-a-in-9.ensures.reads))) }
-
 pub read_term-returns-in-10 : goal.read_term-returns-in-10
 read_term-returns-in-10 t c = record { reads = rw (begins 10 c.in_ok-form.ensures.form c.in-10.is) (c.read_let.ensures.reads) }
-
-pub read_term-returns-in_err-x-in-11 : goal.read_term-returns-in_err-x-in-11
-read_term-returns-in_err-x-in-11 t c =
-    let exit = err_from_is_err_and c.from_residual-in_err-x-in-11.result c.from_residual-in_err-x-in-11.ensures.1 in
-    record { reads = rw (begins 11 c.in_ok-form.ensures.form c.in-11.is, exit.1, exit.2) (stops_in_node c.args.at (11 ∷ c.in_ok-form.rest.now) c.in_err-x-in-11.field-0.0 (stops_in_form term_kind 11 ((any 4 ∷ any 4 ∷ any 4 ∷ node_parts)) c.in_ok-form.rest.now c.in_err-x-in-11.field-0.0 refl (c.in_err-x-in-11.ensures.reads))) }
-
-pub read_term-returns-in_ok-x-in-11 : goal.read_term-returns-in_ok-x-in-11
-read_term-returns-in_ok-x-in-11 t c = record { reads = rw (begins 11 c.in_ok-form.ensures.form c.in-11.is) (boxed_read (λ x. x.0.value) (λ x. x.1.now) written_node FitsNode c.boxed-in-11.result c.boxed-in-11.ensures.boxes (in_node c.args.at (in_form term_kind 11 refl (as_written refl names_fit c.in_ok-x-in-11.ensures.reads)))) }
-
-pub read_term-returns-in_err-x-in-12 : goal.read_term-returns-in_err-x-in-12
-read_term-returns-in_err-x-in-12 t c =
-    let exit = err_from_is_err_and c.from_residual-in_err-x-in-12.result c.from_residual-in_err-x-in-12.ensures.1 in
-    record { reads = rw (begins 12 c.in_ok-form.ensures.form c.in-12.is, exit.1, exit.2) (stops_in_node c.args.at (12 ∷ c.in_ok-form.rest.now) c.in_err-x-in-12.field-0.0 (stops_in_form term_kind 12 ((any 4 ∷ any 4 ∷ any 4 ∷ node_parts)) c.in_ok-form.rest.now c.in_err-x-in-12.field-0.0 refl (c.in_err-x-in-12.ensures.reads))) }
-
-pub read_term-returns-in_ok-x-in-12 : goal.read_term-returns-in_ok-x-in-12
-read_term-returns-in_ok-x-in-12 t c = record { reads = rw (begins 12 c.in_ok-form.ensures.form c.in-12.is) (boxed_read (λ x. x.0.value) (λ x. x.1.now) written_node FitsNode c.boxed-in-12.result c.boxed-in-12.ensures.boxes (in_node c.args.at (in_form term_kind 12 refl (as_written refl names_fit c.in_ok-x-in-12.ensures.reads)))) }
 
 pub read_term-returns-in-13 : goal.read_term-returns-in-13
 read_term-returns-in-13 t c = record { reads = rw (begins 13 c.in_ok-form.ensures.form c.in-13.is) (c.read_case_sum.ensures.reads) }
@@ -248,16 +208,10 @@ read_nodes-returns-in_err-count t c =
     let exit = err_from_is_err_and c.from_residual.result c.from_residual.ensures.1 in
     record { reads = rw (exit.1, exit.2) (count_stops node_item c.args.bytes.now c.in_err-count.field-0.0 c.in_err-count.ensures.reads) }
 
-pub read_nodes-returns-in_err-node : goal.read_nodes-returns-in_err-node
-read_nodes-returns-in_err-node t c =
+pub read_nodes-returns-in-Err : goal.read_nodes-returns-in-Err
+read_nodes-returns-in-Err t c =
     let lt : c.items.counter < c.in_ok-count.count = omega arith in
-    let exit = err_from_is_err_and c.from_residual-in_err-node.result c.from_residual-in_err-node.ensures.1 in
-    record { reads = rw (exit.1, exit.2) (list_stops node_item c.in_err-node.field-0.0 c.in_ok-count.ensures.reads c.items.invariant lt c.in_err-node.ensures.reads) }
-
-pub read_nodes-returns-in_err-push : goal.read_nodes-returns-in_err-push
-read_nodes-returns-in_err-push t c =
-    let exit = err_from_is_err_and c.from_residual-in_err-push.result c.from_residual-in_err-push.ensures.1 in
-    record { reads = rw (exit.1, exit.2) (tt) }
+    record { reads = list_ended node_item c.pushed.new.items.items c.read_node.result c.in-Err.halt (λ x. x.0.value) (λ x. x.1.now) (λ rest. rest.now) c.in_ok-count.ensures.reads c.items.invariant lt c.in-Err.ensures c.read_node.ensures.reads }
 
 pub read_nodes-items-init : goal.read_nodes-items-init
 read_nodes-items-init t c = none_read _ _ _ _ c.in_ok-count.count c.in_ok-count.rest.now c.new-items.result.items c.new-items.ensures.items
@@ -265,7 +219,7 @@ read_nodes-items-init t c = none_read _ _ _ _ c.in_ok-count.count c.in_ok-count.
 pub read_nodes-items-preserved : goal.read_nodes-items-preserved
 read_nodes-items-preserved t c =
     let lt : c.items.counter < c.in_ok-count.count = omega arith in
-    read_one_more c.items.invariant lt c.in_ok-push.ensures.items c.into_inner.ensures c.in_ok-node.ensures.reads
+    list_pushed c.read_node.result c.in-Ok.behind (λ x. x.0.value) (λ x. x.1.now) (λ rest. rest.now) c.items.invariant lt c.in-Ok.ensures c.read_node.ensures.reads
 
 pub read_nodes-returns : goal.read_nodes-returns
 read_nodes-returns t c =

@@ -5,7 +5,7 @@ use Rattle.std.specs.Prelude.{⊤}
 use Rattle.kept_state.specs.KeptForm.{type_kind, form}
 use Rattle.kept_state.specs.KeptBytes.{type_bytes}
 use Rattle.stream_type.specs.StreamType.{type_of}
-use Rattle.delta_keep.proofs.Pieces.{then, as_written, stops_first, stops_second, in_form, plain, stops_in_form, stops_before, begins, boxed_read}
+use Rattle.delta_keep.proofs.Pieces.{then, as_written, stops_first, stops_second, plain, stops_before, begins, boxed_read}
 use Rattle.delta_keep.proofs.read_types.+read_types.Goals as goal
 
 pub two_types-returns-in_err-first : goal.two_types-returns-in_err-first
@@ -26,6 +26,18 @@ read_type-returns-in_err-form t c =
     let exit = err_from_is_err_and c.from_residual.result c.from_residual.ensures.1 in
     record { reads = rw (exit.1, exit.2) (stops_before type_kind c.args.bytes.now c.in_err-form.field-0.0 c.in_err-form.ensures.none) }
 
+pub read_type-returns-in-3 : goal.read_type-returns-in-3
+read_type-returns-in-3 t c = record { reads = rw (begins 3 c.in_ok-form.ensures.form c.in-3.is) (c.two_done.ensures c.in_ok-form.rest.now refl c.two_types.ensures.reads) }
+
+pub read_type-returns-in-4 : goal.read_type-returns-in-4
+read_type-returns-in-4 t c = record { reads = rw (begins 4 c.in_ok-form.ensures.form c.in-4.is) (c.two_done-in-4.ensures c.in_ok-form.rest.now refl c.two_types-in-4.ensures.reads) }
+
+pub read_type-returns-in-5 : goal.read_type-returns-in-5
+read_type-returns-in-5 t c = record { reads = rw (begins 5 c.in_ok-form.ensures.form c.in-5.is) (c.two_done-in-5.ensures c.in_ok-form.rest.now refl c.two_types-in-5.ensures.reads) }
+
+pub read_type-returns-in-6 : goal.read_type-returns-in-6
+read_type-returns-in-6 t c = record { reads = rw (begins 6 c.in_ok-form.ensures.form c.in-6.is) (c.one_done.ensures c.in_ok-form.rest.now c.read_type.ensures.reads) }
+
 pub read_type-returns-in-0 : goal.read_type-returns-in-0
 read_type-returns-in-0 t c = record { reads = rw (begins 0 c.in_ok-form.ensures.form c.in-0.is) (boxed_read (λ x. x.0.value) (λ x. x.1.now) (λ t. type_bytes (type_of t)) (λ t. ⊤) c.boxed.result c.boxed.ensures.boxes (plain type_kind 0 c.in_ok-form.rest.now refl tt)) }
 
@@ -34,35 +46,3 @@ read_type-returns-in-1 t c = record { reads = rw (begins 1 c.in_ok-form.ensures.
 
 pub read_type-returns-in-2 : goal.read_type-returns-in-2
 read_type-returns-in-2 t c = record { reads = rw (begins 2 c.in_ok-form.ensures.form c.in-2.is) (boxed_read (λ x. x.0.value) (λ x. x.1.now) (λ t. type_bytes (type_of t)) (λ t. ⊤) c.boxed-in-2.result c.boxed-in-2.ensures.boxes (plain type_kind 2 c.in_ok-form.rest.now refl tt)) }
-
-pub read_type-returns-in_err-a-in-3 : goal.read_type-returns-in_err-a-in-3
-read_type-returns-in_err-a-in-3 t c =
-    let exit = err_from_is_err_and c.from_residual-in_err-a-in-3.result c.from_residual-in_err-a-in-3.ensures.1 in
-    record { reads = rw (begins 3 c.in_ok-form.ensures.form c.in-3.is, exit.1, exit.2) (stops_in_form type_kind 3 ((form type_kind ∷ form type_kind ∷ [])) c.in_ok-form.rest.now c.in_err-a-in-3.field-0.0 refl (c.in_err-a-in-3.ensures.reads)) }
-
-pub read_type-returns-in_ok-a-in-3 : goal.read_type-returns-in_ok-a-in-3
-read_type-returns-in_ok-a-in-3 t c = record { reads = rw (begins 3 c.in_ok-form.ensures.form c.in-3.is) (boxed_read (λ x. x.0.value) (λ x. x.1.now) (λ t. type_bytes (type_of t)) (λ t. ⊤) c.boxed-in-3.result c.boxed-in-3.ensures.boxes (in_form type_kind 3 refl c.in_ok-a-in-3.ensures.reads)) }
-
-pub read_type-returns-in_err-a-in-4 : goal.read_type-returns-in_err-a-in-4
-read_type-returns-in_err-a-in-4 t c =
-    let exit = err_from_is_err_and c.from_residual-in_err-a-in-4.result c.from_residual-in_err-a-in-4.ensures.1 in
-    record { reads = rw (begins 4 c.in_ok-form.ensures.form c.in-4.is, exit.1, exit.2) (stops_in_form type_kind 4 ((form type_kind ∷ form type_kind ∷ [])) c.in_ok-form.rest.now c.in_err-a-in-4.field-0.0 refl (c.in_err-a-in-4.ensures.reads)) }
-
-pub read_type-returns-in_ok-a-in-4 : goal.read_type-returns-in_ok-a-in-4
-read_type-returns-in_ok-a-in-4 t c = record { reads = rw (begins 4 c.in_ok-form.ensures.form c.in-4.is) (boxed_read (λ x. x.0.value) (λ x. x.1.now) (λ t. type_bytes (type_of t)) (λ t. ⊤) c.boxed-in-4.result c.boxed-in-4.ensures.boxes (in_form type_kind 4 refl c.in_ok-a-in-4.ensures.reads)) }
-
-pub read_type-returns-in_err-a-in-5 : goal.read_type-returns-in_err-a-in-5
-read_type-returns-in_err-a-in-5 t c =
-    let exit = err_from_is_err_and c.from_residual-in_err-a-in-5.result c.from_residual-in_err-a-in-5.ensures.1 in
-    record { reads = rw (begins 5 c.in_ok-form.ensures.form c.in-5.is, exit.1, exit.2) (stops_in_form type_kind 5 ((form type_kind ∷ form type_kind ∷ [])) c.in_ok-form.rest.now c.in_err-a-in-5.field-0.0 refl (c.in_err-a-in-5.ensures.reads)) }
-
-pub read_type-returns-in_ok-a-in-5 : goal.read_type-returns-in_ok-a-in-5
-read_type-returns-in_ok-a-in-5 t c = record { reads = rw (begins 5 c.in_ok-form.ensures.form c.in-5.is) (boxed_read (λ x. x.0.value) (λ x. x.1.now) (λ t. type_bytes (type_of t)) (λ t. ⊤) c.boxed-in-5.result c.boxed-in-5.ensures.boxes (in_form type_kind 5 refl c.in_ok-a-in-5.ensures.reads)) }
-
-pub read_type-returns-in_err-a-in-6 : goal.read_type-returns-in_err-a-in-6
-read_type-returns-in_err-a-in-6 t c =
-    let exit = err_from_is_err_and c.from_residual-in_err-a-in-6.result c.from_residual-in_err-a-in-6.ensures.1 in
-    record { reads = rw (begins 6 c.in_ok-form.ensures.form c.in-6.is, exit.1, exit.2) (stops_in_form type_kind 6 ((form type_kind ∷ [])) c.in_ok-form.rest.now c.in_err-a-in-6.field-0.0 refl (c.in_err-a-in-6.ensures.reads)) }
-
-pub read_type-returns-in_ok-a-in-6 : goal.read_type-returns-in_ok-a-in-6
-read_type-returns-in_ok-a-in-6 t c = record { reads = rw (begins 6 c.in_ok-form.ensures.form c.in-6.is) (boxed_read (λ x. x.0.value) (λ x. x.1.now) (λ t. type_bytes (type_of t)) (λ t. ⊤) c.boxed-in-6.result c.boxed-in-6.ensures.boxes (in_form type_kind 6 refl c.in_ok-a-in-6.ensures.reads)) }

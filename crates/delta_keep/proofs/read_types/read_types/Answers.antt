@@ -3,7 +3,7 @@ use Rattle.std.proofs.Common.{◌≡◌, refl}
 use Rattle.std.proofs.lemmas.Result.{err_from_is_err_and}
 use Rattle.kept_state.specs.KeptForm.{type_item}
 use Rattle.std.proofs.Common.{◌<◌, arith}
-use Rattle.delta_keep.proofs.ReadLists.{none_read, read_one_more, list_stops, count_stops, list_read}
+use Rattle.delta_keep.proofs.ReadLists.{none_read, list_pushed, list_ended, count_stops, list_read}
 use Rattle.delta_keep.proofs.Pieces.{as_written, first_of}
 use Rattle.delta_keep.proofs.read_types.read_types.Goals as goal
 
@@ -12,16 +12,10 @@ returns-in_err-count c =
     let exit = err_from_is_err_and c.from_residual.result c.from_residual.ensures.1 in
     record { reads = rw (exit.1, exit.2) (count_stops type_item c.args.bytes.now c.in_err-count.field-0.0 c.in_err-count.ensures.reads) }
 
-pub returns-in_err-t : goal.returns-in_err-t
-returns-in_err-t c =
+pub returns-in-Err : goal.returns-in-Err
+returns-in-Err c =
     let lt : c.items.counter < c.in_ok-count.count = omega arith in
-    let exit = err_from_is_err_and c.from_residual-in_err-t.result c.from_residual-in_err-t.ensures.1 in
-    record { reads = rw (exit.1, exit.2) (list_stops type_item c.in_err-t.field-0.0 c.in_ok-count.ensures.reads c.items.invariant lt c.in_err-t.ensures.reads) }
-
-pub returns-in_err-push : goal.returns-in_err-push
-returns-in_err-push c =
-    let exit = err_from_is_err_and c.from_residual-in_err-push.result c.from_residual-in_err-push.ensures.1 in
-    record { reads = rw (exit.1, exit.2) (tt) }
+    record { reads = list_ended type_item c.pushed.new.items.items c.read_type.result c.in-Err.halt (λ x. x.0.value) (λ x. x.1.now) (λ rest. rest.now) c.in_ok-count.ensures.reads c.items.invariant lt c.in-Err.ensures c.read_type.ensures.reads }
 
 pub items-init : goal.items-init
 items-init c = none_read _ _ _ _ c.in_ok-count.count c.in_ok-count.rest.now c.new-items.result.items c.new-items.ensures.items
@@ -29,7 +23,7 @@ items-init c = none_read _ _ _ _ c.in_ok-count.count c.in_ok-count.rest.now c.ne
 pub items-preserved : goal.items-preserved
 items-preserved c =
     let lt : c.items.counter < c.in_ok-count.count = omega arith in
-    read_one_more c.items.invariant lt c.in_ok-push.ensures.items c.into_inner.ensures c.in_ok-t.ensures.reads
+    list_pushed c.read_type.result c.in-Ok.behind (λ x. x.0.value) (λ x. x.1.now) (λ rest. rest.now) c.items.invariant lt c.in-Ok.ensures c.read_type.ensures.reads
 
 pub returns : goal.returns
 returns c =
