@@ -4,7 +4,7 @@ use bunch::{Bunch, Name};
 use core_term::{Body, Core, Node, Term, body_of, copy, copy_core, fits, free};
 use hist_value::{Expr, Op};
 use std::alloc::Global;
-use stream_type::{Memory, Ty, cat, star};
+use stream_type::{Memory, Ty, cat};
 
 fn boxed(alloc: Global, at: u32, term: Term) -> Result<Box<Node>, Memory> {
     Ok(Box::new(alloc, Node { at, term })?)
@@ -18,78 +18,102 @@ fn pair(alloc: Global) -> Result<Box<Node>, Memory> {
 }
 
 // `x : Int; y : Int`
-fn params(alloc: Global) -> Result<Bunch, Memory> {
+fn params(alloc: Global) -> Result<Box<Bunch>, Memory> {
     let first = Box::new(alloc, Bunch::Leaf(Name(0), Ty::Int))?;
     let second = Box::new(alloc, Bunch::Leaf(Name(1), Ty::Int))?;
-    Ok(Bunch::Semi(first, second))
+    Ok(Box::new(alloc, Bunch::Semi(first, second))?)
 }
 
 // A body of such parameters.
-fn body(alloc: Global, params: Bunch, gives: Ty, body: Node) -> Body {
-    Body {
+fn body(
+    alloc: Global,
+    params: Box<Bunch>,
+    gives: Box<Ty>,
+    body: Box<Node>,
+) -> Result<Box<Body>, Memory> {
+    let made = Body {
         past: Vec::new(alloc),
-        params,
-        result: gives,
-        body,
-    }
+        params: Box::into_inner(params),
+        result: Box::into_inner(gives),
+        body: Box::into_inner(body),
+    };
+    Ok(Box::new(alloc, made)?)
+}
+
+// `Int . Int`
+fn numbers(alloc: Global) -> Result<Box<Ty>, Memory> {
+    Ok(Box::new(alloc, cat(alloc, Ty::Int, Ty::Int)?)?)
 }
 
 // `main(x : Int; y : Int) : Int . Int = (x; y)`
-fn main_in_turn(alloc: Global) -> Result<Body, Memory> {
-    let pair = pair(alloc)?;
-    let numbers = cat(alloc, Ty::Int, Ty::Int)?;
-    Ok(body(alloc, params(alloc)?, numbers, Box::into_inner(pair)))
+fn main_in_turn(alloc: Global) -> Result<Box<Body>, Memory> {
+    let params = params(alloc)?;
+    let numbers = numbers(alloc)?;
+    body(alloc, params, numbers, pair(alloc)?)
+}
+
+// A program of these functions, of that main body and of these texts.
+fn program(
+    alloc: Global,
+    funs: Vec<Body>,
+    main: Box<Body>,
+    texts: Vec<String>,
+) -> Result<Box<Core>, Memory> {
+    let main = Box::into_inner(main);
+    Ok(Box::new(alloc, Core { funs, main, texts })?)
 }
 
 // The texts of x and y.
 fn texts(alloc: Global) -> Result<Vec<String>, Memory> {
     let mut texts = Vec::new(alloc);
-    for text in ["x", "y"] {
-        texts.push(String::from_str(alloc, text)?)?;
-    }
+    texts.push(String::from_str(alloc, "x")?)?;
+    texts.push(String::from_str(alloc, "y")?)?;
     Ok(texts)
 }
 
 // The program of these functions and of that main body.
-fn in_turn(alloc: Global, funs: Vec<Body>) -> Result<Core, Memory> {
+fn in_turn(alloc: Global, funs: Vec<Body>) -> Result<Box<Core>, Memory> {
     let texts = texts(alloc)?;
     let main = main_in_turn(alloc)?;
-    Ok(Core { funs, main, texts })
+    program(alloc, funs, main, texts)
 }
 
 // A body without parameters, with this result and `()`.
-fn mark(alloc: Global, t: Ty) -> Body {
-    let unit = Node {
-        at: 0,
-        term: Term::Unit,
-    };
-    body(alloc, Bunch::Empty, t, unit)
+fn mark(alloc: Global, gives: Box<Ty>) -> Result<Box<Body>, Memory> {
+    let params = Box::new(alloc, Bunch::Empty)?;
+    let unit = boxed(alloc, 0, Term::Unit)?;
+    body(alloc, params, gives, unit)
 }
 
 // A type of this height.
-fn tall(alloc: Global, height: u32) -> Result<Ty, Memory> {
-    let mut t = Ty::Int;
+fn tall(alloc: Global, height: u32) -> Result<Box<Ty>, Memory> {
+    let mut t = Box::new(alloc, Ty::Int)?;
     for _ in 1..height {
-        t = star(alloc, t)?;
+        t = Box::new(alloc, Ty::Star(t))?;
     }
     Ok(t)
 }
 
 // Whether these are the free names of a term.
-fn are_names(
-    alloc: Global,
-    node: Result<Box<Node>, Memory>,
-    expected: &[Name],
-) -> Result<bool, Memory> {
-    let node = node?;
-    let names = free(alloc, &node)?;
-    Ok(names.as_slice() == expected)
+fn are_names(alloc: Global, node: &Node, expected: &[Name]) -> bool {
+    match free(alloc, node) {
+        Ok(names) => names.as_slice() == expected,
+        Err(_) => false,
+    }
+}
+
+// The same of a term that was made.
+fn are_names_of(alloc: Global, node: Result<Box<Node>, Memory>, expected: &[Name]) -> bool {
+    match node {
+        Ok(node) => are_names(alloc, &node, expected),
+        Err(_) => false,
+    }
 }
 
 #[test]
 fn names_in_order_of_use(rt: HostRuntime) {
-    let term = pair(rt.alloc());
-    assert!(rt; matches!(are_names(rt.alloc(), term, &[Name(0), Name(1)]), Ok(true)));
+    let alloc = rt.alloc();
+    assert!(rt; are_names_of(alloc, pair(alloc), &[Name(0), Name(1)]));
 }
 
 // `let (3, 4) = 2 in (3, (2, 5))`
@@ -104,8 +128,8 @@ fn parts(alloc: Global) -> Result<Box<Node>, Memory> {
 
 #[test]
 fn bound_names_are_hidden(rt: HostRuntime) {
-    let term = parts(rt.alloc());
-    assert!(rt; matches!(are_names(rt.alloc(), term, &[Name(2), Name(5)]), Ok(true)));
+    let alloc = rt.alloc();
+    assert!(rt; are_names_of(alloc, parts(alloc), &[Name(2), Name(5)]));
 }
 
 // `wait 1 in {1}`
@@ -121,16 +145,14 @@ fn wait_for_pair(alloc: Global) -> Result<Box<Node>, Memory> {
 
 #[test]
 fn the_subject_of_a_wait_stays_free(rt: HostRuntime) {
-    let value = wait_for_value(rt.alloc());
-    assert!(rt; matches!(are_names(rt.alloc(), value, &[Name(1)]), Ok(true)));
-    let pair = wait_for_pair(rt.alloc());
-    assert!(rt; matches!(are_names(rt.alloc(), pair, &[Name(1), Name(0)]), Ok(true)));
+    let alloc = rt.alloc();
+    assert!(rt; are_names_of(alloc, wait_for_value(alloc), &[Name(1)]));
+    assert!(rt; are_names_of(alloc, wait_for_pair(alloc), &[Name(1), Name(0)]));
 }
 
 // A copy of a term.
 fn copied(alloc: Global, node: &Node) -> Result<Box<Node>, Memory> {
-    let copied = copy(alloc, node)?;
-    Ok(Box::new(alloc, copied)?)
+    Ok(Box::new(alloc, copy(alloc, node)?)?)
 }
 
 // Whether a term is this name, at this place.
@@ -169,12 +191,15 @@ fn values(alloc: Global) -> Result<Vec<Expr>, Memory> {
     Ok(values)
 }
 
+fn put(arguments: &mut Vec<Node>, argument: Box<Node>) -> Result<(), Memory> {
+    Ok(arguments.push(Box::into_inner(argument))?)
+}
+
 // The arguments `(x; y)` and `nil`.
 fn arguments(alloc: Global) -> Result<Vec<Node>, Memory> {
-    let (pair, nil) = (pair(alloc)?, boxed(alloc, 50, Term::Nil)?);
     let mut arguments = Vec::new(alloc);
-    arguments.push(Box::into_inner(pair))?;
-    arguments.push(Box::into_inner(nil))?;
+    put(&mut arguments, pair(alloc)?)?;
+    put(&mut arguments, boxed(alloc, 50, Term::Nil)?)?;
     Ok(arguments)
 }
 
@@ -208,7 +233,7 @@ fn is_call(node: &Node) -> bool {
 fn is_call_copied(alloc: Global) -> Result<bool, Memory> {
     let call = call(alloc)?;
     let copied = copied(alloc, &call)?;
-    Ok(is_call(&copied) && are_names(alloc, Ok(copied), &[Name(0), Name(1)])?)
+    Ok(is_call(&copied) && are_names(alloc, &copied, &[Name(0), Name(1)]))
 }
 
 #[test]
@@ -216,18 +241,24 @@ fn a_copied_call_has_its_arguments(rt: HostRuntime) {
     assert!(rt; matches!(is_call_copied(rt.alloc()), Ok(true)));
 }
 
+// Puts a function of that kind to the others.
+fn put_mark(alloc: Global, funs: &mut Vec<Body>, gives: Ty) -> Result<(), Memory> {
+    let fun = mark(alloc, Box::new(alloc, gives)?)?;
+    Ok(funs.push(Box::into_inner(fun))?)
+}
+
 // A function that gives a mark, and one that gives a number.
 fn marks(alloc: Global) -> Result<Vec<Body>, Memory> {
     let mut funs = Vec::new(alloc);
-    funs.push(mark(alloc, Ty::One))?;
-    funs.push(mark(alloc, Ty::Int))?;
+    put_mark(alloc, &mut funs, Ty::One)?;
+    put_mark(alloc, &mut funs, Ty::Int)?;
     Ok(funs)
 }
 
-// A copy of the program in turn with those functions.
-fn copied_program(alloc: Global) -> Result<Core, Memory> {
-    let program = in_turn(alloc, marks(alloc)?)?;
-    copy_core(alloc, &program)
+// The program in turn with those functions.
+fn in_turn_with_marks(alloc: Global) -> Result<Box<Core>, Memory> {
+    let funs = marks(alloc)?;
+    in_turn(alloc, funs)
 }
 
 // Whether a body is that of the program in turn.
@@ -238,16 +269,32 @@ fn is_in_turn(main: &Body) -> bool {
         && is_pair(&main.body)
 }
 
-// Whether that copy has two functions, two texts and the body of the program in turn.
-fn is_copied(alloc: Global) -> Result<bool, Memory> {
-    let program = copied_program(alloc)?;
+// Whether a program has two functions, two texts and the body of the program in turn.
+fn is_with_marks(program: &Core) -> bool {
     let counts = program.funs.len() == 2 && program.texts.len() == 2;
-    Ok(counts && is_in_turn(&program.main))
+    counts && is_in_turn(&program.main)
+}
+
+// Whether the copy of a program is so.
+fn is_copied(alloc: Global, program: &Core) -> bool {
+    let copied = copy_core(alloc, program);
+    let is = match &copied {
+        Ok(copied) => is_with_marks(copied),
+        Err(_) => false,
+    };
+    drop(copied);
+    is
+}
+
+// Whether the copy of that program is.
+fn is_program_copied(alloc: Global) -> Result<bool, Memory> {
+    let program = in_turn_with_marks(alloc)?;
+    Ok(is_copied(alloc, &program))
 }
 
 #[test]
 fn a_copied_program_is_equal(rt: HostRuntime) {
-    assert!(rt; matches!(is_copied(rt.alloc()), Ok(true)));
+    assert!(rt; matches!(is_program_copied(rt.alloc()), Ok(true)));
 }
 
 // Which of the functions of these numbers a program has.
@@ -281,7 +328,7 @@ fn has_none(alloc: Global) -> Result<bool, Memory> {
 
 // Whether a program of two functions has these.
 fn has_two(alloc: Global) -> Result<bool, Memory> {
-    let program = in_turn(alloc, marks(alloc)?)?;
+    let program = in_turn_with_marks(alloc)?;
     Ok(has(&program, [true, true, false, false]))
 }
 
@@ -292,47 +339,80 @@ fn functions_by_number(rt: HostRuntime) {
 }
 
 // Whether a program with these parameters and this result fits.
-fn fits_with(alloc: Global, params: Bunch, gives: Ty) -> bool {
-    let nil = Node {
-        at: 0,
-        term: Term::Nil,
-    };
-    let program = Core {
-        funs: Vec::new(alloc),
-        main: body(alloc, params, gives, nil),
-        texts: Vec::new(alloc),
-    };
-    fits(&program)
+fn fits_with(alloc: Global, params: Box<Bunch>, gives: Box<Ty>) -> Result<bool, Memory> {
+    let nil = boxed(alloc, 0, Term::Nil)?;
+    let main = body(alloc, params, gives, nil)?;
+    let program = program(alloc, Vec::new(alloc), main, Vec::new(alloc))?;
+    Ok(fits(&program))
 }
 
 // Whether a program with a result of this height fits.
 fn result_fits(alloc: Global, height: u32) -> Result<bool, Memory> {
-    Ok(fits_with(alloc, Bunch::Empty, tall(alloc, height)?))
+    let params = Box::new(alloc, Bunch::Empty)?;
+    fits_with(alloc, params, tall(alloc, height)?)
 }
 
-// The same with a parameter of this height.
+// `0 : t`, where t has this height.
+fn parameter(alloc: Global, height: u32) -> Result<Box<Bunch>, Memory> {
+    let t = tall(alloc, height)?;
+    Ok(Box::new(alloc, Bunch::Leaf(Name(0), Box::into_inner(t)))?)
+}
+
+// Whether a program with this parameter fits.
 fn parameter_fits(alloc: Global, height: u32) -> Result<bool, Memory> {
-    Ok(fits_with(alloc, Bunch::Leaf(Name(0), tall(alloc, height)?), Ty::Int))
+    let params = parameter(alloc, height)?;
+    fits_with(alloc, params, Box::new(alloc, Ty::Int)?)
 }
 
 // `0 : t, 1 : Int`, where t has this height.
-fn beside(alloc: Global, height: u32) -> Result<Bunch, Memory> {
-    let tallest = Box::new(alloc, Bunch::Leaf(Name(0), tall(alloc, height)?))?;
+fn beside(alloc: Global, height: u32) -> Result<Box<Bunch>, Memory> {
+    let tallest = parameter(alloc, height)?;
     let beside = Box::new(alloc, Bunch::Leaf(Name(1), Ty::Int))?;
-    Ok(Bunch::Comma(tallest, beside))
+    Ok(Box::new(alloc, Bunch::Comma(tallest, beside))?)
 }
 
 // The same with such parameters.
 fn both_fit(alloc: Global, height: u32) -> Result<bool, Memory> {
-    Ok(fits_with(alloc, beside(alloc, height)?, Ty::Int))
+    let params = beside(alloc, height)?;
+    fits_with(alloc, params, Box::new(alloc, Ty::Int)?)
+}
+
+// The parameters of a program.
+#[derive(Clone, Copy)]
+enum Parameters {
+    Nothing,
+    One,
+    Both,
+}
+
+// What has a height, which height, and whether such a program fits: the result where there is no parameter, and
+// else the first parameter.
+const HEIGHTS: &[(Parameters, u32, bool)] = &[
+    (Parameters::Nothing, 64, true),
+    (Parameters::Nothing, 65, false),
+    (Parameters::One, 64, true),
+    (Parameters::Both, 63, true),
+    (Parameters::Both, 64, false),
+];
+
+fn height_fits(alloc: Global, params: Parameters, height: u32) -> Result<bool, Memory> {
+    match params {
+        Parameters::Nothing => result_fits(alloc, height),
+        Parameters::One => parameter_fits(alloc, height),
+        Parameters::Both => both_fit(alloc, height),
+    }
+}
+
+// Whether each row holds.
+fn heights_hold(alloc: Global) -> Result<bool, Memory> {
+    let mut all = true;
+    for (params, height, fits) in HEIGHTS {
+        all = all && height_fits(alloc, *params, *height)? == *fits;
+    }
+    Ok(all)
 }
 
 #[test]
 fn low_programs_fit(rt: HostRuntime) {
-    let alloc = rt.alloc();
-    assert!(rt; matches!(result_fits(alloc, 64), Ok(true)));
-    assert!(rt; matches!(result_fits(alloc, 65), Ok(false)));
-    assert!(rt; matches!(parameter_fits(alloc, 64), Ok(true)));
-    assert!(rt; matches!(both_fit(alloc, 63), Ok(true)));
-    assert!(rt; matches!(both_fit(alloc, 64), Ok(false)));
+    assert!(rt; matches!(heights_hold(rt.alloc()), Ok(true)));
 }
