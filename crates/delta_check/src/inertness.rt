@@ -41,11 +41,7 @@ pub fn inert_funs(alloc: Global, c: &Core) -> Result<Vec<bool>, Memory>
 fn all_marked(alloc: Global, c: &Core) -> Result<Vec<bool>, Memory>
     ensures { IfOk result (λ v. v.items ≡ replicate (length (core_of c.now).funs) true) }
 {
-    let mut marks = Vec::new(alloc);
-    for _ in &c.funs {
-        marks.push(true)?;
-    }
-    Ok(marks)
+    Ok(vec![in alloc; true; c.funs.len()]?)
 }
 
 // The marks after one more round.

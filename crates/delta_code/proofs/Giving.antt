@@ -85,6 +85,19 @@ one_part f inside a whole q x s n l is run rest same_calls same_level made h =
     made_so whole q (f (run_of a)) (f x) (rest_of a) s n l run rest made (ap f k.run) k.rest
     (subst (λ (i : ℕ). i ≤ n) (sym same_calls) (few k)) (subst (λ (i : ℕ). i ≤ l) (sym same_level) (low k))
 
+-- a form with one part, whose run is that of the part
+pub part_within : (g : StateTree → StateTree) (inside : Result Begun Stop) (a : Begun) (whole : Result Begun Refused) (q : Result Begun Stop) (x : Run) (s : StateTree) (n l : ℕ)
+    → inside ≡ Ok a
+    → IfOk whole (λ b. run_of b ≡ run_of a)
+    → IfOk whole (λ b. rest_of b ≡ g (rest_of a))
+    → (Eased s (rest_of a) → Eased (g s) (g (rest_of a)))
+    → Made whole q
+    → Gives inside x s n l
+    → Gives q x (g s) n l
+part_within g inside a whole q x s n l is run rest eases made h =
+    let k = subst (λ (r : Result Begun Stop). Gives r x s n l) is h in
+    made_so whole q (run_of a) x (g (rest_of a)) (g s) n l run rest made k.run (eases k.rest) (few k) (low k)
+
 -- a form with two parts, of which the second gave b
 pub two_parts : (f : Run → Run → Run) (g : StateTree → StateTree → StateTree) (one : Begun) (two : Result Begun Stop) (b : Begun) (whole : Result Begun Refused) (q : Result Begun Stop) (x y : Run) (s t : StateTree) (n m l i j : ℕ)
     → two ≡ Ok b

@@ -7,3 +7,4 @@ pub mod Leading
 pub mod Chain
 pub mod Lets
 pub mod Taking
+pub mod GoingOn

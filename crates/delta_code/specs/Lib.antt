@@ -4,6 +4,7 @@ pub mod Begun
 pub mod Eased
 pub mod GivenBack
 pub mod Gives
+pub mod GoesOn
 pub mod Told
 pub mod Steps
 pub mod CodedView

@@ -7,7 +7,7 @@ ghost use Rattle.stream_type.specs.StreamType.{type_of};
 ghost use Rattle.stream_prefix.specs.Tree.{prefix_of};
 ghost use Rattle.stream_prefix.specs.StreamPrefix.{in_left, in_right, is_maximal, der};
 ghost use Rattle.core_term.specs.Run.{Run, Runs, relabel, par_run, cat_run, let_run, run_before, call_run};
-ghost use Rattle.delta_state.specs.StateTree.{StateTree, ArgumentTrees, par_state, let_state, frame_state, argument_before};
+ghost use Rattle.delta_state.specs.StateTree.{StateTree, ArgumentTrees, sink, var_state, par_state, let_state, let_cat_state, frame_state, argument_before};
 ghost use Rattle.machine_parts.specs.Levels.{below};
 ghost use Rattle.template_state.specs.declared.code.Code.{Code};
 ghost use Rattle.delta_code.specs.declared.way.Way.{Way};
@@ -16,12 +16,14 @@ ghost use Rattle.delta_code.specs.Eased.{Eased, EasedArguments};
 ghost use Rattle.delta_code.specs.Gives.{Gives, GivesAll, Leads};
 
 use crate::begun::{
-    Begun, Passed, both, bound, called, left_side, right_side, run_before, second, state_before,
+    Begun, Passed, aliased, both, bound, called, in_two, left_side, right_side, rowed, run_before,
+    second, state_before,
 };
 use crate::way::Reached;
 use bunch::Name;
 use machine_parts::stop::Stop;
 use std::alloc::Global;
+use stream_prefix::Prefix;
 use stream_type::{Memory, Ty};
 
 /// What was made of parts that ran, or want of memory.
@@ -72,6 +74,63 @@ pub fn right_done(alloc: Global, inside: Result<Begun, Stop>) -> Result<Begun, S
 {
     match inside {
         Ok(a) => made(right_side(alloc, a)),
+        Err(stop) => Err(stop),
+    }
+}
+
+/// A let of a name for z, of type t, after p on it, round what is left.
+#[inline(never)]
+pub fn alias_done(
+    alloc: Global,
+    x: Name,
+    t: &Ty,
+    p: &Prefix,
+    z: Name,
+    inside: Result<Begun, Stop>,
+) -> Result<Begun, Stop>
+    ensures { (a : Run) (s : StateTree) (n l : ℕ) → Gives inside a s n l → Gives result a (let_state x.0 (der (prefix_of p.now) (type_of t.now)) (var_state z.0) s) n l }
+{
+    match inside {
+        Ok(a) => made(aliased(alloc, x, t, p, z, a)),
+        Err(stop) => Err(stop),
+    }
+}
+
+/// `let (x; y) = z`, before its mark, round what is left.
+#[inline(never)]
+pub fn unmarked_done(
+    alloc: Global,
+    x: Name,
+    y: Name,
+    z: Name,
+    inside: Result<Begun, Stop>,
+) -> Result<Begun, Stop>
+    ensures { (a : Run) (s : StateTree) (n l : ℕ) → Gives inside a s n l → Gives result a (let_cat_state x.0 y.0 z.0 s) n l }
+{
+    match inside {
+        Ok(a) => made(rowed(alloc, x, y, z, a)),
+        Err(stop) => Err(stop),
+    }
+}
+
+/// Two lets round what is left: of a name of type t on which nothing comes any more after p, and of one for
+/// z, of type u, after q.
+#[inline(never)]
+pub fn item_done(
+    alloc: Global,
+    x: Name,
+    t: &Ty,
+    p: &Prefix,
+    y: Name,
+    u: &Ty,
+    q: &Prefix,
+    z: Name,
+    inside: Result<Begun, Stop>,
+) -> Result<Begun, Stop>
+    ensures { (a : Run) (s : StateTree) (n l : ℕ) → Gives inside a s n l → Gives result a (let_state x.0 (der (prefix_of p.now) (type_of t.now)) (sink (der (prefix_of p.now) (type_of t.now))) (let_state y.0 (der (prefix_of q.now) (type_of u.now)) (var_state z.0) s)) n l }
+{
+    match inside {
+        Ok(a) => made(in_two(alloc, x, t, p, y, u, q, z, a)),
         Err(stop) => Err(stop),
     }
 }

@@ -76,9 +76,9 @@ pub fn start<'a>(
     start_term(alloc, code, k, scope, past, n, r, left, levels)
 }
 
-// The same as one fact.
+/// The same as one fact.
 #[cycle(start)]
-fn start_term<'a>(
+pub fn start_term<'a>(
     alloc: Global,
     code: &Code,
     k: u64,

@@ -1,9 +1,15 @@
 pub mod Tables
 pub mod Samples
 pub mod Steps
-pub mod Tails
 pub mod Calls
 pub mod Loops
+pub mod InTurn
+pub mod Flat
+pub mod FlatHistories
+pub mod FlatTypes
+pub mod FlatContexts
+pub mod FlatDeclarations
+pub mod FlatPatterns
 pub mod Programs
 pub mod Firsts
 pub mod Numbers

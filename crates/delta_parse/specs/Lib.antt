@@ -5,6 +5,7 @@ pub mod Actions
 pub mod Rules
 pub mod Tables
 pub mod Readers
+pub mod Reads
 pub mod Plain
 pub mod Marks
 pub mod Bindings

@@ -7,8 +7,8 @@ use Rattle.delta_parse.specs.declared.cursor.Halt.{Halt}
 use Rattle.delta_parse.specs.declared.cursor.Halt.TheVariants as halts
 use Rattle.delta_parse.specs.declared.pattern_reader.Pattern.{Pattern as RustPattern}
 use Rattle.delta_parse.specs.declared.pattern_reader.Pattern.TheVariants as patterns
-use Rattle.delta_parse.specs.declared.expression_reader.Arms.{Arms as RustArms}
-use Rattle.delta_parse.specs.declared.expression_reader.Arms.TheVariants as arms
+use Rattle.delta_parse.specs.declared.forms_done.Arms.{Arms as RustArms}
+use Rattle.delta_parse.specs.declared.forms_done.Arms.TheVariants as arms
 use Rattle.delta_parse.specs.Terminals.{Tok}
 use Rattle.delta_parse.specs.Parts.{Pattern, one_name, two_at_once, two_in_turn, Arms, sum_arms, star_arms, Ending}
 use Rattle.delta_parse.specs.Actions.{starred, to_left, ended}

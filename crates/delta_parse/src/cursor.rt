@@ -1,10 +1,10 @@
 //! The first steps of every reader: what the next token is.
 
-ghost use Rattle.std.specs.Prelude.{◌≡◌, ◌<◌, ◌∷◌, ◌||◌, true, false, length, IfOk, IfSome, IfNone, IsTrue};
+ghost use Rattle.std.specs.Prelude.{◌≡◌, ◌<◌, ◌∷◌, ◌||◌, true, false, length, IfSome, IfNone, IsTrue};
 ghost use Rattle.grammar.specs.Grammar.{place_of};
 ghost use Rattle.grammar.specs.Reading.{starts, token_at};
 ghost use Rattle.delta_parse.specs.Terminals.{is_kind, plain_of, plains};
-ghost use Rattle.delta_parse.specs.Readers.{Gives};
+ghost use Rattle.delta_parse.specs.Reads.{Reads};
 ghost use Rattle.delta_parse.specs.declared.cursor.Halt.TheVariants.{Memory};
 
 use crate::plain::Plain;
@@ -91,8 +91,7 @@ pub(crate) fn accept_either<'a>(
 /// The first token and those after it, which has to be of this kind.
 #[tactic(auto, using(crate::proofs::Steps::plains_length))]
 pub(crate) fn expect<'a>(kind: Terminal, tokens: &'a [Plain]) -> Result<(Plain, &'a [Plain]), Halt>
-    ensures given { Gives (λ x. plain_of x.0) (λ x. plains x.1.now) result (token_at (is_kind kind) (plains tokens.now)) }
-    ensures shorter { IfOk result (λ x. length x.1.now < length tokens.now) }
+    ensures { Reads (λ x. plain_of x.0) (λ x. x.1.now) result (token_at (is_kind kind) (plains tokens.now)) (length tokens.now) }
 {
     match tokens {
         [first, rest @ ..] if same_kind(kind, first.kind) => Ok((*first, rest)),

@@ -1,42 +1,39 @@
-//! Readers of historical expressions.
+//! Readers of historical expressions. What calls back stands here, and `histories_done` makes the forms.
 
-ghost use Rattle.std.specs.Prelude.{◌≡◌, ◌<◌, ◌≤◌, [], ◌∷◌, length, map, IfOk};
+ghost use Rattle.std.specs.Prelude.{◌<◌, ◌≤◌, ◌+◌, ℕ, [], ◌∷◌, length, map, IfOk};
+ghost use Rattle.delta_tree.specs.SyntaxTree.{WrittenHist};
 ghost use Rattle.delta_tree.specs.Tree.{hist_of};
-ghost use Rattle.delta_parse.specs.Terminals.{plains};
+ghost use Rattle.delta_parse.specs.Terminals.{plain_of, plains};
 ghost use Rattle.delta_parse.specs.Parts.{a_history, a_comparison, a_sum, more_summands, a_product, more_factors, a_unary, a_history_atom, more_histories};
-ghost use Rattle.delta_parse.specs.Actions.{operator};
 ghost use Rattle.delta_parse.specs.Rules.{fold_rule, choice_rule, branch_rule, hist_bracket_rule, histories_rule, history_items_rule};
 ghost use Rattle.delta_parse.specs.Tables.{reading, read_rule};
 ghost use Rattle.delta_parse.specs.Readers.{Gives, with_operands, behind};
+ghost use Rattle.delta_parse.specs.Reads.{Reads, fold_on, choice_on, second_inside};
 
 use crate::cursor::{Halt, accept, accept_either, expect, place, starts_with};
+use crate::histories_done::{
+    accept_prefix, branch_done, choice_done, fold_done, paired, prefix_done, read_negative,
+    reckoned, whole_history, whole_number,
+};
 use crate::plain::Plain;
+use crate::signs::{followed_by, read_name_between, read_two_names};
 use crate::terminal::Terminal;
 use bunch::Name;
-use delta_tree::{Hist, historical};
-use hist_value::{Expr, Op};
+use delta_tree::Hist;
+use hist_value::Expr;
 use std::alloc::Global;
 
-// The operation of a sign.
-fn operation(sign: Terminal) -> Op
-    ensures { result ≡ operator sign }
-{
-    match sign {
-        Terminal::Plus => Op::Add,
-        Terminal::Minus => Op::Sub,
-        Terminal::Times => Op::Mul,
-        Terminal::Slash => Op::Div,
-        Terminal::Less => Op::Less,
-        _ => Op::Same,
-    }
-}
-
 /// A historical expression, and the tokens after it.
-#[cycle(histories)]
-#[tactic(auto, using(crate::proofs::Steps::history_is, crate::proofs::Steps::plains_length))]
 pub fn read_history<'a>(alloc: Global, tokens: &'a [Plain]) -> Result<(Hist, &'a [Plain]), Halt>
     ensures given { Gives (λ x. hist_of x.0) (λ x. plains x.1.now) result (reading a_history (plains tokens.now)) }
     ensures shorter { IfOk result (λ x. length x.1.now < length tokens.now) }
+{
+    history(alloc, tokens)
+}
+
+#[cycle(histories)]
+fn history<'a>(alloc: Global, tokens: &'a [Plain]) -> Result<(Hist, &'a [Plain]), Halt>
+    ensures { Reads (λ x. hist_of x.0) (λ x. x.1.now) result (reading a_history (plains tokens.now)) (length tokens.now) }
 {
     if starts_with(Terminal::FoldWord, tokens) {
         return read_fold(alloc, tokens);
@@ -44,231 +41,256 @@ pub fn read_history<'a>(alloc: Global, tokens: &'a [Plain]) -> Result<(Hist, &'a
     if starts_with(Terminal::CaseWord, tokens) {
         return read_choice(alloc, tokens);
     }
-    let (head, rest) = read_comparison(alloc, tokens)?;
-    let Some((_, rest)) = accept(Terminal::Colons, rest) else {
-        return Ok((head, rest));
-    };
-    let (tail, rest) = read_history(alloc, rest)?;
-    let expr = Expr::Cons(head.expr, tail.expr);
-    let at = place(tokens);
-    Ok((historical(alloc, at, expr)?, rest))
+    match read_comparison(alloc, tokens) {
+        Ok((first, rest)) => match accept(Terminal::Colons, rest) {
+            Some((_, rest)) => {
+                let others = history(alloc, rest);
+                paired(alloc, place(tokens), Terminal::Colons, first, others)
+            }
+            None => Ok((first, rest)),
+        },
+        Err(halt) => Err(halt),
+    }
 }
 
 #[cycle(histories)]
-#[tactic(auto, using(crate::proofs::Steps::plains_length))]
 fn read_fold<'a>(alloc: Global, tokens: &'a [Plain]) -> Result<(Hist, &'a [Plain]), Halt>
-    ensures given { Gives (λ x. hist_of x.0) (λ x. plains x.1.now) result (read_rule fold_rule (plains tokens.now)) }
-    ensures shorter { IfOk result (λ x. length x.1.now < length tokens.now) }
+    ensures { Reads (λ x. hist_of x.0) (λ x. x.1.now) result (read_rule fold_rule (plains tokens.now)) (length tokens.now) }
 {
-    let (word, rest) = expect(Terminal::FoldWord, tokens)?;
-    let (list, rest) = read_history(alloc, rest)?;
-    let (_, rest) = expect(Terminal::FromWord, rest)?;
-    let (start, rest) = read_history(alloc, rest)?;
-    let (_, rest) = expect(Terminal::WithWord, rest)?;
-    let (so_far, rest) = expect(Terminal::NameToken, rest)?;
-    let (_, rest) = expect(Terminal::Comma, rest)?;
-    let (item, rest) = expect(Terminal::NameToken, rest)?;
-    let (_, rest) = expect(Terminal::Dot, rest)?;
-    let (body, rest) = read_history(alloc, rest)?;
-    let expr = Expr::Fold(
-        list.expr,
-        start.expr,
-        Name(so_far.name),
-        Name(item.name),
-        body.expr,
-    );
-    Ok((historical(alloc, word.at, expr)?, rest))
+    match expect(Terminal::FoldWord, tokens) {
+        Ok((word, rest)) => match followed_by(Terminal::FromWord, history(alloc, rest)) {
+            Ok((list, rest)) => read_fold_on(alloc, word.at, list, rest),
+            Err(halt) => Err(halt),
+        },
+        Err(halt) => Err(halt),
+    }
+}
+
+// A fold behind its list.
+#[cycle(histories)]
+fn read_fold_on<'a>(
+    alloc: Global,
+    at: u32,
+    list: Hist,
+    tokens: &'a [Plain],
+) -> Result<(Hist, &'a [Plain]), Halt>
+    ensures { Reads (λ x. hist_of x.0) (λ x. x.1.now) result (fold_on at (hist_of list) (plains tokens.now)) (length tokens.now) }
+{
+    match followed_by(Terminal::WithWord, history(alloc, tokens)) {
+        Ok((start, rest)) => match read_two_names(Terminal::Comma, Terminal::Dot, rest) {
+            Ok((x, y, rest)) => { fold_done(alloc, at, list, start, (x, y), history(alloc, rest)) }
+            Err(halt) => {
+                drop(list);
+                drop(start);
+                Err(halt)
+            }
+        },
+        Err(halt) => {
+            drop(list);
+            Err(halt)
+        }
+    }
 }
 
 #[cycle(histories)]
-#[tactic(auto, using(crate::proofs::Steps::plains_length))]
 fn read_choice<'a>(alloc: Global, tokens: &'a [Plain]) -> Result<(Hist, &'a [Plain]), Halt>
-    ensures given { Gives (λ x. hist_of x.0) (λ x. plains x.1.now) result (read_rule choice_rule (plains tokens.now)) }
-    ensures shorter { IfOk result (λ x. length x.1.now < length tokens.now) }
+    ensures { Reads (λ x. hist_of x.0) (λ x. x.1.now) result (read_rule choice_rule (plains tokens.now)) (length tokens.now) }
 {
-    let (word, rest) = expect(Terminal::CaseWord, tokens)?;
-    let (subject, rest) = read_history(alloc, rest)?;
-    let (_, rest) = expect(Terminal::OfWord, rest)?;
-    let (_, rest) = expect(Terminal::OpenBrace, rest)?;
-    let (x, left, rest) = read_branch(alloc, Terminal::InlWord, rest)?;
-    let (_, rest) = expect(Terminal::Bar, rest)?;
-    let (y, right, rest) = read_branch(alloc, Terminal::InrWord, rest)?;
-    let (_, rest) = expect(Terminal::CloseBrace, rest)?;
-    let expr = Expr::Choose(subject.expr, x, left.expr, y, right.expr);
-    Ok((historical(alloc, word.at, expr)?, rest))
+    match expect(Terminal::CaseWord, tokens) {
+        Ok((word, rest)) => {
+            let subject = followed_by(Terminal::OfWord, history(alloc, rest));
+            match followed_by(Terminal::OpenBrace, subject) {
+                Ok((subject, rest)) => read_choice_on(alloc, word.at, subject, rest),
+                Err(halt) => Err(halt),
+            }
+        }
+        Err(halt) => Err(halt),
+    }
+}
+
+// A choice behind what it is about.
+#[cycle(histories)]
+fn read_choice_on<'a>(
+    alloc: Global,
+    at: u32,
+    subject: Hist,
+    tokens: &'a [Plain],
+) -> Result<(Hist, &'a [Plain]), Halt>
+    ensures { Reads (λ x. hist_of x.0) (λ x. x.1.now) result (choice_on at (hist_of subject) (plains tokens.now)) (length tokens.now) }
+{
+    match followed_by(Terminal::Bar, read_branch(alloc, Terminal::InlWord, tokens)) {
+        Ok((left, rest)) => {
+            let right = read_branch(alloc, Terminal::InrWord, rest);
+            let right = followed_by(Terminal::CloseBrace, right);
+            choice_done(alloc, at, subject, left, right)
+        }
+        Err(halt) => {
+            drop(subject);
+            Err(halt)
+        }
+    }
 }
 
 // A side of a choice behind its word: its name and its expression.
 #[cycle(histories)]
-#[tactic(auto, using(crate::proofs::Steps::plains_length))]
 fn read_branch<'a>(
     alloc: Global,
     word: Terminal,
     tokens: &'a [Plain],
-) -> Result<(Name, Hist, &'a [Plain]), Halt>
-    ensures given { Gives (λ x. (x.0.0, hist_of x.1)) (λ x. plains x.2.now) result (read_rule (branch_rule word) (plains tokens.now)) }
-    ensures shorter { IfOk result (λ x. length x.2.now < length tokens.now) }
+) -> Result<((Name, Hist), &'a [Plain]), Halt>
+    ensures { Reads {Y = ℕ × WrittenHist} (λ x. (x.0.0.0, hist_of x.0.1)) (λ x. x.1.now) result (read_rule (branch_rule word) (plains tokens.now)) (length tokens.now) }
 {
-    let (_, rest) = expect(word, tokens)?;
-    let (name, rest) = expect(Terminal::NameToken, rest)?;
-    let (_, rest) = expect(Terminal::Arrow, rest)?;
-    let (body, rest) = read_history(alloc, rest)?;
-    Ok((Name(name.name), body, rest))
+    match read_name_between(word, Terminal::Arrow, tokens) {
+        Ok((_, name, rest)) => branch_done(name, history(alloc, rest)),
+        Err(halt) => Err(halt),
+    }
 }
 
 #[cycle(histories)]
-#[tactic(auto, using(crate::proofs::Steps::comparison_is, crate::proofs::Steps::plains_length))]
 fn read_comparison<'a>(alloc: Global, tokens: &'a [Plain]) -> Result<(Hist, &'a [Plain]), Halt>
-    ensures given { Gives (λ x. hist_of x.0) (λ x. plains x.1.now) result (reading a_comparison (plains tokens.now)) }
-    ensures shorter { IfOk result (λ x. length x.1.now < length tokens.now) }
+    ensures { Reads (λ x. hist_of x.0) (λ x. x.1.now) result (reading a_comparison (plains tokens.now)) (length tokens.now) }
 {
-    let (left, rest) = read_sum(alloc, tokens)?;
-    let Some((sign, rest)) = accept_either(Terminal::Less, Terminal::Equals, rest) else {
-        return Ok((left, rest));
-    };
-    let (right, rest) = read_sum(alloc, rest)?;
-    let expr = Expr::Bin(operation(sign.kind), left.expr, right.expr);
-    let at = place(tokens);
-    Ok((historical(alloc, at, expr)?, rest))
+    match read_sum(alloc, tokens) {
+        Ok((left, rest)) => match accept_either(Terminal::Less, Terminal::Equals, rest) {
+            Some((sign, rest)) => {
+                let right = read_sum(alloc, rest);
+                reckoned(alloc, place(tokens), sign.kind, left, right)
+            }
+            None => Ok((left, rest)),
+        },
+        Err(halt) => Err(halt),
+    }
 }
 
 #[cycle(histories)]
-#[tactic(auto, using(crate::proofs::Steps::sum_is, crate::proofs::Steps::plains_length))]
 fn read_sum<'a>(alloc: Global, tokens: &'a [Plain]) -> Result<(Hist, &'a [Plain]), Halt>
-    ensures given { Gives (λ x. hist_of x.0) (λ x. plains x.1.now) result (reading a_sum (plains tokens.now)) }
-    ensures shorter { IfOk result (λ x. length x.1.now < length tokens.now) }
+    ensures { Reads (λ x. hist_of x.0) (λ x. x.1.now) result (reading a_sum (plains tokens.now)) (length tokens.now) }
 {
-    let (first, rest) = read_product(alloc, tokens)?;
-    read_summands(alloc, place(tokens), first, rest)
+    match read_product(alloc, tokens) {
+        Ok((first, rest)) => read_summands(alloc, place(tokens), first, rest),
+        Err(halt) => Err(halt),
+    }
 }
 
 // What is added to or taken from what stands before.
 #[cycle(histories)]
-#[tactic(auto, using(crate::proofs::Steps::summands_is, crate::proofs::Steps::plains_length))]
 fn read_summands<'a>(
     alloc: Global,
     at: u32,
     so_far: Hist,
     tokens: &'a [Plain],
 ) -> Result<(Hist, &'a [Plain]), Halt>
-    ensures given { Gives (λ x. hist_of x.0) (λ x. plains x.1.now) result (with_operands at (hist_of so_far) (reading more_summands (plains tokens.now))) }
-    ensures shorter { IfOk result (λ x. length x.1.now ≤ length tokens.now) }
+    ensures { (n : ℕ) → length tokens.now < n → Reads (λ x. hist_of x.0) (λ x. x.1.now) result (with_operands at (hist_of so_far) (reading more_summands (plains tokens.now))) n }
 {
-    let Some((sign, rest)) = accept_either(Terminal::Plus, Terminal::Minus, tokens) else {
-        return Ok((so_far, tokens));
-    };
-    let (right, rest) = read_product(alloc, rest)?;
-    let expr = Expr::Bin(operation(sign.kind), so_far.expr, right.expr);
-    read_summands(alloc, at, historical(alloc, at, expr)?, rest)
+    match accept_either(Terminal::Plus, Terminal::Minus, tokens) {
+        Some((sign, rest)) => {
+            let right = read_product(alloc, rest);
+            match reckoned(alloc, at, sign.kind, so_far, right) {
+                Ok((so_far, rest)) => read_summands(alloc, at, so_far, rest),
+                Err(halt) => Err(halt),
+            }
+        }
+        None => Ok((so_far, tokens)),
+    }
 }
 
 #[cycle(histories)]
-#[tactic(auto, using(crate::proofs::Steps::product_is, crate::proofs::Steps::plains_length))]
 fn read_product<'a>(alloc: Global, tokens: &'a [Plain]) -> Result<(Hist, &'a [Plain]), Halt>
-    ensures given { Gives (λ x. hist_of x.0) (λ x. plains x.1.now) result (reading a_product (plains tokens.now)) }
-    ensures shorter { IfOk result (λ x. length x.1.now < length tokens.now) }
+    ensures { Reads (λ x. hist_of x.0) (λ x. x.1.now) result (reading a_product (plains tokens.now)) (length tokens.now) }
 {
-    let (first, rest) = read_unary(alloc, tokens)?;
-    read_factors(alloc, place(tokens), first, rest)
+    match read_unary(alloc, tokens) {
+        Ok((first, rest)) => read_factors(alloc, place(tokens), first, rest),
+        Err(halt) => Err(halt),
+    }
 }
 
 // What multiplies or divides what stands before.
 #[cycle(histories)]
-#[tactic(auto, using(crate::proofs::Steps::factors_is, crate::proofs::Steps::plains_length))]
 fn read_factors<'a>(
     alloc: Global,
     at: u32,
     so_far: Hist,
     tokens: &'a [Plain],
 ) -> Result<(Hist, &'a [Plain]), Halt>
-    ensures given { Gives (λ x. hist_of x.0) (λ x. plains x.1.now) result (with_operands at (hist_of so_far) (reading more_factors (plains tokens.now))) }
-    ensures shorter { IfOk result (λ x. length x.1.now ≤ length tokens.now) }
+    ensures { (n : ℕ) → length tokens.now < n → Reads (λ x. hist_of x.0) (λ x. x.1.now) result (with_operands at (hist_of so_far) (reading more_factors (plains tokens.now))) n }
 {
-    let Some((sign, rest)) = accept_either(Terminal::Times, Terminal::Slash, tokens) else {
-        return Ok((so_far, tokens));
-    };
-    let (right, rest) = read_unary(alloc, rest)?;
-    let expr = Expr::Bin(operation(sign.kind), so_far.expr, right.expr);
-    read_factors(alloc, at, historical(alloc, at, expr)?, rest)
+    match accept_either(Terminal::Times, Terminal::Slash, tokens) {
+        Some((sign, rest)) => {
+            let right = read_unary(alloc, rest);
+            match reckoned(alloc, at, sign.kind, so_far, right) {
+                Ok((so_far, rest)) => read_factors(alloc, at, so_far, rest),
+                Err(halt) => Err(halt),
+            }
+        }
+        None => Ok((so_far, tokens)),
+    }
 }
 
 #[cycle(histories)]
-#[tactic(auto, using(crate::proofs::Steps::unary_is, crate::proofs::Steps::plains_length))]
 fn read_unary<'a>(alloc: Global, tokens: &'a [Plain]) -> Result<(Hist, &'a [Plain]), Halt>
-    ensures given { Gives (λ x. hist_of x.0) (λ x. plains x.1.now) result (reading a_unary (plains tokens.now)) }
-    ensures shorter { IfOk result (λ x. length x.1.now < length tokens.now) }
+    ensures { Reads (λ x. hist_of x.0) (λ x. x.1.now) result (reading a_unary (plains tokens.now)) (length tokens.now) }
 {
-    if let Some((word, rest)) = accept(Terminal::FstWord, tokens) {
-        let (inner, rest) = read_unary(alloc, rest)?;
-        let expr = Expr::Fst(inner.expr);
-        return Ok((historical(alloc, word.at, expr)?, rest));
-    }
-    if let Some((word, rest)) = accept(Terminal::SndWord, tokens) {
-        let (inner, rest) = read_unary(alloc, rest)?;
-        let expr = Expr::Snd(inner.expr);
-        return Ok((historical(alloc, word.at, expr)?, rest));
-    }
-    if let Some((word, rest)) = accept(Terminal::InlWord, tokens) {
-        let (inner, rest) = read_unary(alloc, rest)?;
-        let expr = Expr::Inl(inner.expr);
-        return Ok((historical(alloc, word.at, expr)?, rest));
-    }
-    if let Some((word, rest)) = accept(Terminal::InrWord, tokens) {
-        let (inner, rest) = read_unary(alloc, rest)?;
-        let expr = Expr::Inr(inner.expr);
-        return Ok((historical(alloc, word.at, expr)?, rest));
+    if let Some((word, rest)) = accept_prefix(tokens) {
+        let inner = read_unary(alloc, rest);
+        return prefix_done(alloc, word.at, word.kind, inner);
     }
     read_history_atom(alloc, tokens)
 }
 
 #[cycle(histories)]
-#[tactic(auto, using(crate::proofs::Steps::history_atom_is, crate::proofs::Steps::plains_length))]
 fn read_history_atom<'a>(alloc: Global, tokens: &'a [Plain]) -> Result<(Hist, &'a [Plain]), Halt>
-    ensures given { Gives (λ x. hist_of x.0) (λ x. plains x.1.now) result (reading a_history_atom (plains tokens.now)) }
-    ensures shorter { IfOk result (λ x. length x.1.now < length tokens.now) }
+    ensures { Reads (λ x. hist_of x.0) (λ x. x.1.now) result (reading a_history_atom (plains tokens.now)) (length tokens.now) }
 {
     if let Some((name, rest)) = accept(Terminal::NameToken, tokens) {
-        let expr = Expr::Var(Name(name.name));
-        return Ok((historical(alloc, name.at, expr)?, rest));
+        return whole_history(alloc, name.at, Expr::Var(Name(name.name)), rest);
     }
     if let Some((number, rest)) = accept_either(Terminal::OneToken, Terminal::NumberToken, tokens) {
-        let expr = Expr::Lit(number.number);
-        return Ok((historical(alloc, number.at, expr)?, rest));
+        return whole_number(alloc, number, rest);
     }
     if let Some((minus, rest)) = accept(Terminal::Minus, tokens) {
-        return match accept_either(Terminal::OneToken, Terminal::NumberToken, rest) {
-            Some((number, rest)) => {
-                let expr = Expr::Lit(-number.number);
-                Ok((historical(alloc, minus.at, expr)?, rest))
-            }
-            None => Err(Halt::At(rest.len())),
-        };
+        return read_negative(alloc, minus.at, rest);
     }
     if let Some((word, rest)) = accept(Terminal::NilWord, tokens) {
-        return Ok((historical(alloc, word.at, Expr::Nil)?, rest));
+        return whole_history(alloc, word.at, Expr::Nil, rest);
     }
     read_history_bracket(alloc, tokens)
 }
 
 #[cycle(histories)]
-#[tactic(auto, using(crate::proofs::Steps::plains_length))]
 fn read_history_bracket<'a>(alloc: Global, tokens: &'a [Plain]) -> Result<(Hist, &'a [Plain]), Halt>
-    ensures given { Gives (λ x. hist_of x.0) (λ x. plains x.1.now) result (read_rule hist_bracket_rule (plains tokens.now)) }
-    ensures shorter { IfOk result (λ x. length x.1.now < length tokens.now) }
+    ensures { Reads (λ x. hist_of x.0) (λ x. x.1.now) result (read_rule hist_bracket_rule (plains tokens.now)) (length tokens.now) }
 {
-    let (open, rest) = expect(Terminal::Open, tokens)?;
-    if let Some((_, rest)) = accept(Terminal::Close, rest) {
-        return Ok((historical(alloc, open.at, Expr::Unit)?, rest));
+    match expect(Terminal::Open, tokens) {
+        Ok((open, rest)) => {
+            if let Some((_, rest)) = accept(Terminal::Close, rest) {
+                return whole_history(alloc, open.at, Expr::Unit, rest);
+            }
+            match history(alloc, rest) {
+                Ok((inner, rest)) => read_second(alloc, open, inner, rest),
+                Err(halt) => Err(halt),
+            }
+        }
+        Err(halt) => Err(halt),
     }
-    let (inner, rest) = read_history(alloc, rest)?;
-    let Some((_, rest)) = accept(Terminal::Comma, rest) else {
-        let (_, rest) = expect(Terminal::Close, rest)?;
-        return Ok((inner, rest));
-    };
-    let (second, rest) = read_history(alloc, rest)?;
-    let (_, rest) = expect(Terminal::Close, rest)?;
-    let expr = Expr::Pair(inner.expr, second.expr);
-    Ok((historical(alloc, open.at, expr)?, rest))
+}
+
+// What stands in a bracket behind its first expression, and the bracket's end.
+#[cycle(histories)]
+fn read_second<'a>(
+    alloc: Global,
+    bracket: Plain,
+    inner: Hist,
+    tokens: &'a [Plain],
+) -> Result<(Hist, &'a [Plain]), Halt>
+    ensures { Reads (λ x. hist_of x.0) (λ x. x.1.now) result (second_inside (plain_of bracket) (hist_of inner) (plains tokens.now)) (length tokens.now) }
+{
+    match accept(Terminal::Comma, tokens) {
+        Some((_, rest)) => {
+            let second = followed_by(Terminal::Close, history(alloc, rest));
+            paired(alloc, bracket.at, Terminal::Comma, inner, second)
+        }
+        None => followed_by(Terminal::Close, Ok((inner, tokens))),
+    }
 }
 
 /// The historical arguments of a call in their braces, which may be left out.

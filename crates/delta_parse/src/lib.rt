@@ -5,10 +5,13 @@
 mod bindings;
 mod checked_reader;
 mod context_reader;
+mod contexts_done;
 mod cursor;
 mod declaration_reader;
 mod expression_reader;
 mod fault;
+mod forms_done;
+mod histories_done;
 mod history_reader;
 pub mod laws;
 mod making;
@@ -17,8 +20,10 @@ mod numbering;
 mod parsing;
 mod pattern_reader;
 mod plain;
+mod signs;
 mod terminal;
 mod type_reader;
+mod types_done;
 mod whole_reader;
 
 pub use bindings::{NameFault, first_name_fault};

@@ -1,6 +1,6 @@
 //! From the tokens of a text to those that the grammar sees.
 
-ghost use Rattle.std.specs.Prelude.{◌≡◌, ◌<◌, ◌≤◌, ◌≤ℤ◌, pos, map, length, IfOk, OnOk, string_bytes};
+ghost use Rattle.std.specs.Prelude.{◌≡◌, ◌<◌, ◌≤◌, ◌≤ℤ◌, ◌++◌, ◌∷◌, [], pos, map, length, IfOk, OnOk, string_bytes};
 ghost use Rattle.std.specs.List.{position_or_len};
 ghost use Rattle.std.specs.Str.{bytes_eq};
 ghost use Rattle.delta_lex.specs.Tokens.{lexeme_of, lexemes};
@@ -28,10 +28,28 @@ pub fn plain_tokens(
     let mut names = IndexSet::new(alloc);
     let mut texts = Vec::new(alloc);
     for token in tokens {
-        let plain = plain_token(alloc, &mut names, &mut texts, token)?;
-        found.push(plain)?;
+        put_token(alloc, &mut names, &mut texts, &mut found, token)?;
     }
     Ok((found, texts))
+}
+
+// Puts the token as the grammar sees it behind those that were found, and its name behind the names where it
+// isn't among them.
+fn put_token<'t>(
+    alloc: Global,
+    names: &mut IndexSet<&'t str>,
+    texts: &mut Vec<String>,
+    found: &mut Vec<Plain>,
+    token: &Token<'t>,
+) -> Result<(), AllocError>
+    requires few { length (texts_of names.old) < 1048577 }
+    requires same { map string_bytes texts.old.items ≡ texts_of names.old }
+    ensures plain { OnOk result (plains found.new.items ≡ plains found.old.items ++ (token_with (texts_of names.old) (lexeme_of token.now) ∷ [])) }
+    ensures names { OnOk result (texts_of names.new ≡ add_name (texts_of names.old) (lexeme_of token.now)) }
+    ensures same { OnOk result (map string_bytes texts.new.items ≡ texts_of names.new) }
+{
+    let plain = plain_token(alloc, names, texts, token)?;
+    Ok(found.push(plain)?)
 }
 
 // The token as the grammar sees it. Its name is put behind the names where it isn't among them.

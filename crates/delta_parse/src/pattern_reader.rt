@@ -6,9 +6,11 @@ ghost use Rattle.delta_parse.specs.Parts.{a_pattern};
 ghost use Rattle.delta_parse.specs.Actions.{pattern_with};
 ghost use Rattle.delta_parse.specs.Tables.{reading};
 ghost use Rattle.delta_parse.specs.Readers.{Gives, pattern_tree};
+ghost use Rattle.delta_parse.specs.Reads.{Reads, second_name};
 
 use crate::cursor::{Halt, accept, accept_either, expect};
 use crate::plain::Plain;
+use crate::signs::followed_by;
 use crate::terminal::Terminal;
 use bunch::Name;
 
@@ -21,22 +23,42 @@ pub enum Pattern {
 }
 
 /// What a `let` binds, and the tokens after it.
-#[tactic(auto, using(crate::proofs::Steps::pattern_is, crate::proofs::Steps::plains_length))]
 pub fn read_pattern<'a>(tokens: &'a [Plain]) -> Result<(Pattern, &'a [Plain]), Halt>
     ensures given { Gives (λ x. pattern_tree x.0) (λ x. plains x.1.now) result (reading a_pattern (plains tokens.now)) }
     ensures shorter { IfOk result (λ x. length x.1.now < length tokens.now) }
 {
+    read_bound(tokens)
+}
+
+fn read_bound<'a>(tokens: &'a [Plain]) -> Result<(Pattern, &'a [Plain]), Halt>
+    ensures { Reads (λ x. pattern_tree x.0) (λ x. x.1.now) result (reading a_pattern (plains tokens.now)) (length tokens.now) }
+{
     if let Some((name, rest)) = accept(Terminal::NameToken, tokens) {
         return Ok((Pattern::One(Name(name.name)), rest));
     }
-    let (_, rest) = expect(Terminal::Open, tokens)?;
-    let (x, rest) = expect(Terminal::NameToken, rest)?;
-    let Some((sign, rest)) = accept_either(Terminal::Comma, Terminal::Semicolon, rest) else {
-        return Err(Halt::At(rest.len()));
-    };
-    let (y, rest) = expect(Terminal::NameToken, rest)?;
-    let (_, rest) = expect(Terminal::Close, rest)?;
-    Ok((pattern_with(sign.kind, Name(x.name), Name(y.name)), rest))
+    match expect(Terminal::Open, tokens) {
+        Ok((_, rest)) => match expect(Terminal::NameToken, rest) {
+            Ok((x, rest)) => read_second(Name(x.name), rest),
+            Err(halt) => Err(halt),
+        },
+        Err(halt) => Err(halt),
+    }
+}
+
+// What stands behind the first of two names.
+fn read_second<'a>(x: Name, tokens: &'a [Plain]) -> Result<(Pattern, &'a [Plain]), Halt>
+    ensures { Reads (λ x. pattern_tree x.0) (λ x. x.1.now) result (second_name x.0 (plains tokens.now)) (length tokens.now) }
+{
+    match accept_either(Terminal::Comma, Terminal::Semicolon, tokens) {
+        Some((sign, rest)) => match followed_by(
+            Terminal::Close,
+            expect(Terminal::NameToken, rest),
+        ) {
+            Ok((y, rest)) => Ok((pattern_with(sign.kind, x, Name(y.name)), rest)),
+            Err(halt) => Err(halt),
+        },
+        None => Err(Halt::At(tokens.len())),
+    }
 }
 
 // Two names with this sign between them.

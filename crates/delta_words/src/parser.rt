@@ -1,7 +1,7 @@
 //! The command as clap reads it, built from what each command takes.
 
 ghost use Rattle.std.specs.Prelude.{◌≡◌, ◌≢◌, [], false, map, string_bytes, IfOk, IfErr, nat_lt};
-ghost use Rattle.clap.specs.Words.{app_of, rule_of, new_app, with_subcommand, fault_of, subcommand_of, subcommand_rows_of};
+ghost use Rattle.clap.specs.Words.{App, app_of, rule_of, new_app, with_subcommand, fault_of, subcommand_of, subcommand_rows_of};
 ghost use Rattle.clap.specs.declared.builder.Command.TheViews.{out-Command as fields_of};
 ghost use Rattle.delta_words.specs.ClapCommand.{delta_app, delta_top, leaf_app, operand_rule, rest_rule, budget_rule, flag_rule, with_rule_if};
 ghost use Rattle.delta_words.specs.Commands.{takes_of};
@@ -14,12 +14,19 @@ use std::alloc::{AllocError, Global};
 
 // The command with one argument more, where that is wanted.
 #[tactic(auto, unfolding(crate::specs::ClapCommand::with_rule_if))]
-fn with_arg_if<'a>(parser: Parser<'a>, wanted: bool, arg: Arg<'a>) -> Result<Parser<'a>, AllocError>
+fn with_arg_if<'a>(
+    given: Result<Parser<'a>, AllocError>,
+    wanted: bool,
+    arg: Arg<'a>,
+) -> Result<Parser<'a>, AllocError>
     requires { arg.global ≡ false }
-    ensures app { IfOk result (λ c. app_of c ≡ with_rule_if wanted (app_of parser.entry) (rule_of arg.entry)) }
-    ensures local { (fields_of parser.entry).has_globals ≡ false → IfOk result (λ c. (fields_of c).has_globals ≡ false) }
+    ensures app { (a : App) → IfOk given.entry (λ c. app_of c ≡ a) → IfOk result (λ c. app_of c ≡ with_rule_if wanted a (rule_of arg.entry)) }
+    ensures local { IfOk given.entry (λ c. (fields_of c).has_globals ≡ false) → IfOk result (λ c. (fields_of c).has_globals ≡ false) }
 {
-    if wanted { parser.arg(arg) } else { Ok(parser) }
+    match given {
+        Ok(parser) if wanted => parser.arg(arg),
+        given => given,
+    }
 }
 
 // An operand that must stand there.
@@ -59,33 +66,42 @@ fn leaf<'a>(alloc: Global, name: &'a str, takes: Takes) -> Result<Parser<'a>, Al
     ensures app { IfOk result (λ c. app_of c ≡ leaf_app name.entry.now takes) }
     ensures local { IfOk result (λ c. (fields_of c).has_globals ≡ false) }
 {
-    let bare = Parser::new(alloc, name);
-    let first = with_arg_if(bare, takes.operands > 0, operand(alloc, "FIRST"))?;
-    let second = with_arg_if(first, takes.operands > 1, operand(alloc, "SECOND"))?;
-    let rest = with_arg_if(second, takes.operands > 2, several(alloc, "REST"))?;
-    let budget = with_arg_if(rest, takes.budget, valued(alloc, "budget"))?;
-    let v2 = with_arg_if(budget, takes.v2, flag(alloc, "v2"))?;
+    let bare = Ok(Parser::new(alloc, name));
+    let first = with_arg_if(bare, takes.operands > 0, operand(alloc, "FIRST"));
+    let second = with_arg_if(first, takes.operands > 1, operand(alloc, "SECOND"));
+    let rest = with_arg_if(second, takes.operands > 2, several(alloc, "REST"));
+    let budget = with_arg_if(rest, takes.budget, valued(alloc, "budget"));
+    let v2 = with_arg_if(budget, takes.v2, flag(alloc, "v2"));
     with_arg_if(v2, takes.frames, flag(alloc, "frames"))
 }
 
 // The command with one subcommand more.
-fn with_sub<'a>(parser: Parser<'a>, sub: Parser<'a>) -> Result<Parser<'a>, AllocError>
-    requires { (fields_of sub).has_globals ≡ false }
-    ensures { IfOk result (λ c. app_of c ≡ with_subcommand (app_of parser.entry) (app_of sub.entry).top) }
+fn with_sub<'a>(
+    parser: Parser<'a>,
+    sub: Result<Parser<'a>, AllocError>,
+) -> Result<Parser<'a>, AllocError>
+    requires { IfOk sub (λ c. (fields_of c).has_globals ≡ false) }
+    ensures { (a : App) → IfOk sub.entry (λ c. app_of c ≡ a) → IfOk result (λ c. app_of c ≡ with_subcommand (app_of parser.entry) a.top) }
 {
-    parser.subcommand(sub)
+    match sub {
+        Ok(sub) => parser.subcommand(sub),
+        Err(error) => Err(error),
+    }
 }
 
 // The command with the subcommand of a name.
 fn with_command<'a>(
     alloc: Global,
-    parser: Parser<'a>,
+    given: Result<Parser<'a>, AllocError>,
     name: &'a str,
     command: Command,
 ) -> Result<Parser<'a>, AllocError>
-    ensures { IfOk result (λ c. app_of c ≡ with_subcommand (app_of parser.entry) (leaf_app name.entry.now (takes_of command)).top) }
+    ensures { (a : App) → IfOk given.entry (λ c. app_of c ≡ a) → IfOk result (λ c. app_of c ≡ with_subcommand a (leaf_app name.entry.now (takes_of command)).top) }
 {
-    with_sub(parser, leaf(alloc, name, command.takes())?)
+    match given {
+        Ok(parser) => with_sub(parser, leaf(alloc, name, command.takes())),
+        Err(error) => Err(error),
+    }
 }
 
 // The command alone.
@@ -104,16 +120,16 @@ fn top<'a>(alloc: Global) -> Parser<'a>
 fn delta_command<'a>(alloc: Global) -> Result<Parser<'a>, AllocError>
     ensures { IfOk result (λ c. app_of c ≡ delta_app) }
 {
-    let run = with_command(alloc, top(alloc), "run", Command::Run)?;
-    let eval = with_command(alloc, run, "eval", Command::Eval)?;
-    let check = with_command(alloc, eval, "check", Command::Check)?;
-    let print = with_command(alloc, check, "print", Command::Print)?;
-    let text = with_command(alloc, print, "text", Command::Text)?;
-    let load = with_command(alloc, text, "gen", Command::Gen)?;
-    let bound = with_command(alloc, load, "bound", Command::Bound)?;
-    let derive = with_command(alloc, bound, "derive", Command::Derive)?;
-    let feed = with_command(alloc, derive, "feed", Command::Feed)?;
-    let save = with_command(alloc, feed, "save", Command::Save)?;
+    let run = with_command(alloc, Ok(top(alloc)), "run", Command::Run);
+    let eval = with_command(alloc, run, "eval", Command::Eval);
+    let check = with_command(alloc, eval, "check", Command::Check);
+    let print = with_command(alloc, check, "print", Command::Print);
+    let text = with_command(alloc, print, "text", Command::Text);
+    let load = with_command(alloc, text, "gen", Command::Gen);
+    let bound = with_command(alloc, load, "bound", Command::Bound);
+    let derive = with_command(alloc, bound, "derive", Command::Derive);
+    let feed = with_command(alloc, derive, "feed", Command::Feed);
+    let save = with_command(alloc, feed, "save", Command::Save);
     with_command(alloc, save, "resume", Command::Resume)
 }
 

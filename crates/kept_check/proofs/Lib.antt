@@ -20,4 +20,5 @@ pub mod SameNames
 pub mod LaterRules
 pub mod KnownApart
 pub mod StateForms
+pub mod FormParts
 mod Examples

@@ -29,6 +29,13 @@ over_then b r a types P Q e h k = (λ i. (all-holds (λ x. null_of (types x)) (l
 pub over_else : (b : Bool) (a : BunchTree) (types : NameTypes) (P Q : Type 0) → b ≡ list_all (λ x. null_of (types x)) (leaf_names a) → b ≡ false → IsTrue b ↔ (IsOver a types × P × Q)
 over_else b a types P Q e h = (λ i. absurd (true≢false (sym i ∙ h)), λ p. e ∙ holds-all (λ x. null_of (types x)) (leaf_names a) p.0)
 
+-- two parts are so where the first is and the second is, and they aren't where the first isn't
+pub both_then : (b r : Bool) (P Q : Type 0) → (IsTrue b ↔ P) → b ≡ true → (IsTrue r ↔ Q) → IsTrue r ↔ (P × Q)
+both_then b r P Q h e k = (λ i. (h.0 e, k.0 i), λ p. k.1 p.1)
+
+pub both_else : (b : Bool) (P Q : Type 0) → (IsTrue b ↔ P) → b ≡ false → IsTrue b ↔ (P × Q)
+both_else b P Q h e = (λ i. absurd (true≢false (sym i ∙ e)), λ p. h.1 p.0)
+
 -- a bunch is untouched where each name has its type, and no mark has come
 abbrev AreDeclared : BunchTree → NameTypes → Bool
 AreDeclared a types = list_all (λ x. is_same_type (types x) (types_in a x)) (leaf_names a)

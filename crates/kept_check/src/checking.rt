@@ -38,7 +38,6 @@ use stream_type::{Memory, Ty, copy};
 /// memory.
 #[cycle(walk)]
 pub fn check_state<'a>(
-    alloc: Global,
     judge: &Judge<'_>,
     s: &KeptState,
     r: &Ty,
@@ -52,15 +51,14 @@ pub fn check_state<'a>(
     requires once { IsTrue (is_distinct (numbers_of bound.old.items)) }
     ensures { Finds (funs_of judge.now) judge.now.depth number (states_of (context_in scope.now) (type_of r.now) (numbers_of bound.old.items) (state_of s.now)) (numbers_of bound.old.items) (names_in_turn (state_of s.now)) (numbers_of bound.new.items) result }
 {
-    match check_own(alloc, judge, s, r, scope, bound, number) {
-        Ok(()) => check_parts(alloc, judge, s, r, scope, bound, number + 1),
+    match check_own(judge, s, r, scope, bound, number) {
+        Ok(()) => check_parts(judge, s, r, scope, bound, number + 1),
         Err(stop) => Err(stop),
     }
 }
 
 // Checks a state with this number for itself, and puts the names that it binds behind those before.
 fn check_own(
-    alloc: Global,
     judge: &Judge<'_>,
     s: &KeptState,
     r: &Ty,
@@ -75,7 +73,7 @@ fn check_own(
 {
     let before = bound.len();
     match add_own(s, bound) {
-        Ok(()) => match is_good(alloc, judge, scope, s, r, bound, before) {
+        Ok(()) => match is_good(judge, scope, s, r, bound, before) {
             Ok(true) => Ok(()),
             Ok(false) => Err(Stop::At(number)),
             Err(_) => Err(Stop::Memory),
@@ -87,7 +85,6 @@ fn check_own(
 // Whether a state follows its rule and binds no name again, where the names from this place on are those
 // that it binds.
 fn is_good(
-    alloc: Global,
     judge: &Judge<'_>,
     scope: &Scope<'_>,
     s: &KeptState,
@@ -102,7 +99,7 @@ fn is_good(
     ensures { IfOk result (λ b. IsTrue b ↔ IsGood (funs_of judge.now) judge.now.depth (state_at (context_in scope.now) (type_of r.now) (numbers_of (take before bound.now)) (state_of s.now))) }
 {
     if are_distinct(bound, before) {
-        follows_rule(alloc, judge, scope, s, r)
+        follows_rule(judge, scope, s, r)
     } else {
         Ok(false)
     }
@@ -134,7 +131,6 @@ fn add_own(s: &KeptState, bound: &mut Vec<Name>) -> Result<(), Memory>
 #[cycle(walk)]
 #[tactic(auto, using(crate::proofs::Arguments::rows))]
 fn check_parts<'a>(
-    alloc: Global,
     judge: &Judge<'_>,
     s: &KeptState,
     r: &Ty,
@@ -157,31 +153,26 @@ fn check_parts<'a>(
         | KeptState::Wait(_, _, _, _) => Ok(number),
         KeptState::Par(a, b) => {
             let (left, right) = par_types(r, &Ty::Eps);
-            check_two(
-                alloc, judge, a, left, &*scope, b, right, &*scope, bound, number,
-            )
+            check_two(judge, a, left, &*scope, b, right, &*scope, bound, number)
         }
         KeptState::Cat(a, _) => {
             let (first, _) = cat_types(r, &Ty::Eps);
-            check_state(alloc, judge, a, first, scope, bound, number)
+            check_state(judge, a, first, scope, bound, number)
         }
-        KeptState::Let(x, t, a, b) => {
-            check_let(alloc, judge, *x, t, a, b, r, scope, bound, number)
-        }
+        KeptState::Let(x, t, a, b) => { check_let(judge, *x, t, a, b, r, scope, bound, number) }
         KeptState::LetPar(x, y, z, a) => {
-            check_sides(alloc, judge, *x, *y, *z, a, r, scope, bound, number)
+            check_sides(judge, *x, *y, *z, a, r, scope, bound, number)
         }
         KeptState::LetCat(x, y, z, a) => {
-            check_steps(alloc, judge, *x, *y, *z, a, r, scope, bound, number)
+            check_steps(judge, *x, *y, *z, a, r, scope, bound, number)
         }
-        KeptState::Frame(args, s) => check_frame(alloc, judge, args, s, r, scope, bound, number),
+        KeptState::Frame(args, s) => check_frame(judge, args, s, r, scope, bound, number),
     }
 }
 
 // The same of the state behind `let (x, y) = z`, in which both sides are known.
 #[cycle(walk)]
 fn check_sides<'a>(
-    alloc: Global,
     judge: &Judge<'_>,
     x: Name,
     y: Name,
@@ -201,13 +192,12 @@ fn check_sides<'a>(
     let (left, right) = par_types(type_or(&*scope, z, &Ty::Eps), &Ty::Eps);
     let first = Scope::Like(x, left, z, &*scope);
     let inner = Scope::Like(y, right, z, &first);
-    check_state(alloc, judge, a, r, &inner, bound, number)
+    check_state(judge, a, r, &inner, bound, number)
 }
 
 // The same behind `let (x; y) = z`, in which both parts are known, and that the first stands before the second.
 #[cycle(walk)]
 fn check_steps<'a>(
-    alloc: Global,
     judge: &Judge<'_>,
     x: Name,
     y: Name,
@@ -228,13 +218,12 @@ fn check_steps<'a>(
     let first = Scope::Like(x, left, z, &*scope);
     let second = Scope::Like(y, right, z, &first);
     let inner = Scope::Fact(x, y, &second);
-    check_state(alloc, judge, a, r, &inner, bound, number)
+    check_state(judge, a, r, &inner, bound, number)
 }
 
 // The same of two states in turn.
 #[cycle(walk)]
 fn check_two<'a>(
-    alloc: Global,
     judge: &Judge<'_>,
     a: &KeptState,
     s: &Ty,
@@ -253,8 +242,8 @@ fn check_two<'a>(
         ++ states_of (context_in inner.now) (type_of r.now) (numbers_of bound.old.items ++ names_in_turn (state_of a.now)) (state_of b.now))
         (numbers_of bound.old.items) (names_in_turn (state_of a.now) ++ names_in_turn (state_of b.now)) (numbers_of bound.new.items) result }
 {
-    match check_state(alloc, judge, a, s, outer, bound, number) {
-        Ok(next) => check_state(alloc, judge, b, r, inner, bound, next),
+    match check_state(judge, a, s, outer, bound, number) {
+        Ok(next) => check_state(judge, b, r, inner, bound, next),
         Err(stop) => Err(stop),
     }
 }
@@ -262,7 +251,6 @@ fn check_two<'a>(
 // The same of a let: its name is placed by the free names of what it is bound to.
 #[cycle(walk)]
 fn check_let<'a>(
-    alloc: Global,
     judge: &Judge<'_>,
     x: Name,
     t: &Ty,
@@ -281,10 +269,10 @@ fn check_let<'a>(
         ++ states_of (with_state x.0 (type_of t.now) (state_of a.now) (context_in scope.now)) (type_of r.now) (numbers_of bound.old.items ++ names_in_turn (state_of a.now)) (state_of b.now))
         (numbers_of bound.old.items) (names_in_turn (state_of a.now) ++ names_in_turn (state_of b.now)) (numbers_of bound.new.items) result }
 {
-    match let_placed(alloc, &*scope, a, b) {
+    match let_placed(judge.alloc, &*scope, a, b) {
         Ok(placed) => {
             let inner = Scope::Let(x, t, &placed, &*scope);
-            let found = check_two(alloc, judge, a, t, &*scope, b, r, &inner, bound, number);
+            let found = check_two(judge, a, t, &*scope, b, r, &inner, bound, number);
             drop(placed);
             found
         }
@@ -309,7 +297,6 @@ fn let_placed(
 // The same of a frame: its arguments in turn, then its body.
 #[cycle(walk)]
 fn check_frame<'a>(
-    alloc: Global,
     judge: &Judge<'_>,
     args: &[Argument],
     s: &KeptState,
@@ -327,8 +314,8 @@ fn check_frame<'a>(
         ++ states_of (context_of_arguments (context_in scope.now) (arguments_from args.now)) (type_of r.now) (argument_names (arguments_from args.now)) (state_of s.now))
         (numbers_of bound.old.items) (names_of_arguments (arguments_from args.now)) (numbers_of bound.new.items) result }
 {
-    match check_arguments(alloc, judge, args, scope, bound, number) {
-        Ok(next) => check_body(alloc, judge, args, s, r, scope, next),
+    match check_arguments(judge, args, scope, bound, number) {
+        Ok(next) => check_body(judge, args, s, r, scope, next),
         Err(stop) => Err(stop),
     }
 }
@@ -336,7 +323,6 @@ fn check_frame<'a>(
 // The same of a frame's body, among its own parameters.
 #[cycle(walk)]
 fn check_body(
-    alloc: Global,
     judge: &Judge<'_>,
     args: &[Argument],
     s: &KeptState,
@@ -350,10 +336,10 @@ fn check_body(
     requires parameters { IsTrue (is_distinct (argument_names (arguments_from args.now))) }
     ensures { FindsBad (funs_of judge.now) judge.now.depth number (states_of (context_of_arguments (context_in scope.now) (arguments_from args.now)) (type_of r.now) (argument_names (arguments_from args.now)) (state_of s.now)) result }
 {
-    match inside_of(alloc, scope, args) {
+    match inside_of(judge.alloc, scope, args) {
         Ok(mut inside) => {
             let inner = Scope::Among(&inside.types, &inside.order);
-            let found = check_state(alloc, judge, s, r, &inner, &mut inside.names, number);
+            let found = check_state(judge, s, r, &inner, &mut inside.names, number);
             drop(inside);
             found
         }
@@ -364,7 +350,6 @@ fn check_body(
 // The same of arguments in turn, each at the type that is left of its parameter.
 #[cycle(walk)]
 fn check_arguments<'a>(
-    alloc: Global,
     judge: &Judge<'_>,
     args: &[Argument],
     scope: &'a Scope<'a>,
@@ -381,8 +366,8 @@ fn check_arguments<'a>(
     match args {
         [] => Ok(number),
         [arg, rest @ ..] => {
-            match check_state(alloc, judge, &arg.state, &arg.ty, scope, bound, number) {
-                Ok(next) => check_arguments(alloc, judge, rest, scope, bound, next),
+            match check_state(judge, &arg.state, &arg.ty, scope, bound, number) {
+                Ok(next) => check_arguments(judge, rest, scope, bound, next),
                 Err(stop) => Err(stop),
             }
         }

@@ -1,10 +1,10 @@
 //! The forms of types that rules ask for.
 
-ghost use Rattle.std.specs.Prelude.{◌≡◌, ◌↔◌, IsTrue};
+ghost use Rattle.std.specs.Prelude.{◌≡◌, ◌≢◌, ◌↔◌, IsTrue, IfNone, IfSome};
 ghost use Rattle.stream_type.specs.StreamType.{type_of, eps};
 ghost use Rattle.core_term.specs.Typing.{HasForm, type_at};
 ghost use Rattle.delta_check.specs.Scopes.{context_in};
-ghost use Rattle.kept_check.specs.Forms.{in_form};
+ghost use Rattle.kept_check.specs.Forms.{AreParts, ArePartsAt, in_form};
 
 use bunch::Name;
 use delta_check::{Scope, stream_type};
@@ -42,6 +42,42 @@ pub fn is_of_form(form: Form, scope: &Scope<'_>, z: Name) -> bool
     match stream_type(scope, z) {
         Some(t) => has_form(form, t),
         None => false,
+    }
+}
+
+/// The parts of a type of this form: of a star an item, and the star itself.
+pub fn parts_in<'a>(form: Form, t: &'a Ty) -> Option<(&'a Ty, &'a Ty)>
+    ensures some { IfSome result (λ p. AreParts form (type_of t.now) (type_of p.0.now) (type_of p.1.now)) }
+    ensures none { IfNone result (type_of t.now ≢ in_form form (type_of t.now)) }
+{
+    match form {
+        Form::Par => match t {
+            Ty::Par(a, b) => Some((a, b)),
+            _ => None,
+        },
+        Form::Cat => match t {
+            Ty::Cat(a, b) => Some((a, b)),
+            _ => None,
+        },
+        Form::Sum => match t {
+            Ty::Sum(a, b) => Some((a, b)),
+            _ => None,
+        },
+        Form::Star => match t {
+            Ty::Star(a) => Some((a, t)),
+            _ => None,
+        },
+    }
+}
+
+/// The parts of the type of a stream of this form.
+pub fn parts_at<'a>(form: Form, scope: &Scope<'a>, z: Name) -> Option<(&'a Ty, &'a Ty)>
+    ensures some { IfSome result (λ p. ArePartsAt form (context_in scope.now) z.0 (type_of p.0.now) (type_of p.1.now)) }
+    ensures none { IfNone result (HasForm (context_in scope.now) z.0 (in_form form (type_at (context_in scope.now) z.0)) → ⊥) }
+{
+    match stream_type(scope, z) {
+        Some(t) => parts_in(form, t),
+        None => None,
     }
 }
 

@@ -30,7 +30,6 @@ use stream_type::{Memory, Ty};
 /// Whether code that isn't reached has the type in the scope, where its form has bound these names for
 /// it there. Its only error is want of memory.
 pub fn is_good(
-    alloc: Global,
     judge: &Judge<'_>,
     scope: &Scope<'_>,
     l: &Waiting,
@@ -41,29 +40,23 @@ pub fn is_good(
     requires judge { IsJudge judge.now }
     ensures { IfOk result (λ b. IsTrue b ↔ IsGoodLater (funs_of judge.now) judge.now.depth (context_in scope.now) (λ d. d) (numbers_of others.now) (later_of l.now) (type_of r.now)) }
 {
-    match is_fit(alloc, l, others, judge.depth) {
-        Ok(true) => has_type(alloc, judge, scope, l, r),
+    match is_fit(judge.alloc, l, others, judge.depth) {
+        Ok(true) => has_type(judge, scope, l, r),
         Ok(false) => Ok(false),
         Err(_) => Err(Memory),
     }
 }
 
 // Whether code has the type in the scope, beside its values.
-fn has_type(
-    alloc: Global,
-    judge: &Judge<'_>,
-    scope: &Scope<'_>,
-    l: &Waiting,
-    r: &Ty,
-) -> Result<bool, Memory>
+fn has_type(judge: &Judge<'_>, scope: &Scope<'_>, l: &Waiting, r: &Ty) -> Result<bool, Memory>
     requires size { node_count (later_of l.now).term < 2 ^ 32 }
     requires judge { IsJudge judge.now }
     ensures { IfOk result (λ b. IsTrue b ↔ HasType (funs_of judge.now) (is_inert_fun (funs_of judge.now)) (with_past (later_of l.now).past (context_in scope.now)) (later_of l.now).term (type_of r.now)) }
 {
-    match value_types(alloc, &l.past) {
+    match value_types(judge.alloc, &l.past) {
         Ok(types) => {
             let inner = Scope::Valued(&types, scope);
-            let told = check_under(alloc, judge.program, judge.marks, &inner, &l.code, r);
+            let told = check_under(judge.alloc, judge.program, judge.marks, &inner, &l.code, r);
             drop(types);
             match told {
                 Ok(()) => Ok(true),

@@ -127,11 +127,12 @@ fn first_in_place(
     match inert_funs(alloc, c) {
         Ok(marks) => {
             let judge = Judge {
+                alloc,
                 program: c,
                 marks: &marks,
                 depth: depth_after(k.events),
             };
-            let told = first_judged(alloc, &judge, k, left, params);
+            let told = first_judged(&judge, k, left, params);
             drop(marks);
             told
         }
@@ -186,7 +187,6 @@ fn fits_input(c: &Core, k: &Kept, left: &[(Name, Ty)]) -> bool
 
 // The same, where it stands in some place of the input.
 fn first_judged(
-    alloc: Global,
     judge: &Judge<'_>,
     k: &Kept,
     left: &[(Name, Ty)],
@@ -202,10 +202,10 @@ fn first_judged(
     requires params { numbers_of params.old.items ≡ leaf_names (core_of judge.now.program.now).main.params }
     ensures { TellsTyped (core_of judge.now.program.now) k.now result }
 {
-    match Order::of_bunch(alloc, &judge.program.main.params) {
+    match Order::of_bunch(judge.alloc, &judge.program.main.params) {
         Ok(order) => {
             let scope = Scope::Given(left, &order);
-            let told = check_state(alloc, judge, &k.state, &k.out, &scope, params, 0);
+            let told = check_state(judge, &k.state, &k.out, &scope, params, 0);
             drop(order);
             told
         }

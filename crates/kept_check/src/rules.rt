@@ -6,7 +6,7 @@ ghost use Rattle.stream_type.specs.StreamType.{type_of, null_of};
 ghost use Rattle.bunch.specs.Names.{numbers_of};
 ghost use Rattle.core_term.specs.CoreTerm.{node_count};
 ghost use Rattle.core_term.specs.FreeNames.{free_names, is_distinct};
-ghost use Rattle.core_term.specs.Typing.{AllBefore, is_before};
+ghost use Rattle.core_term.specs.Typing.{AllBefore, is_before, with_fact, with_parts};
 ghost use Rattle.delta_check.specs.Scopes.{context_in};
 ghost use Rattle.delta_state.specs.StateTree.{cat_state, argument_names, free_in_state};
 ghost use Rattle.delta_state.specs.StateTyping.{context_held, with_known};
@@ -17,7 +17,7 @@ ghost use Rattle.kept_check.specs.HeldRules.{IsHolding, is_decided, MayGoOn};
 ghost use Rattle.kept_check.specs.Judging.{funs_of, IsJudge};
 ghost use Rattle.kept_check.specs.Sizes.{codes_fit};
 
-use crate::forms::{Form, has_form, is_of_form, type_or};
+use crate::forms::{Form, has_form, is_of_form, parts_at, type_or};
 use crate::free::free_in;
 use crate::holding::{before_held, tag_held, whole_held};
 use crate::judge::Judge;
@@ -26,7 +26,7 @@ use crate::names::{are_distinct, is_there};
 use crate::values::{is_held, is_stream};
 use bunch::Name;
 use core_term::free;
-use core_term::parts::{cat_types, star_types, sum_types};
+use core_term::parts::cat_types;
 use delta_check::{Scope, before, stream_type};
 use delta_keep::{Argument, HeldName, KeptState, Waiting};
 use hist_value::past;
@@ -36,7 +36,6 @@ use stream_type::{Memory, Ty, null, same};
 /// Whether a state follows the rule of its own form, whatever its parts are: `FollowsRule` in the specs
 /// of kept_rules. Its only error is want of memory.
 pub fn follows_rule(
-    alloc: Global,
     judge: &Judge<'_>,
     scope: &Scope<'_>,
     s: &KeptState,
@@ -50,16 +49,16 @@ pub fn follows_rule(
         KeptState::Sink(t) => Ok(is_finished(t, r)),
         KeptState::Var(x) => Ok(is_stream(scope, *x, r)),
         KeptState::Par(_, _) => Ok(has_form(Form::Par, r)),
-        KeptState::Cat(a, l) => cat_rule(alloc, judge, scope, a, l, r),
+        KeptState::Cat(a, l) => cat_rule(judge, scope, a, l, r),
         KeptState::Let(_, _, _, _) => Ok(true),
         KeptState::LetPar(_, _, z, _) => Ok(is_of_form(Form::Par, scope, *z)),
         KeptState::LetCat(_, _, z, _) => Ok(is_of_form(Form::Cat, scope, *z)),
         KeptState::CaseSum(z, t, held, _, _, _, _) | KeptState::CaseStar(z, t, held, _, _, _, _) =>
-            { held_rule(alloc, judge, scope, s, t, held, tag_held(held, *z), r) }
+            { held_rule(judge, scope, s, t, held, tag_held(held, *z), r) }
         KeptState::Wait(x, t, held, _) => {
-            held_rule(alloc, judge, scope, s, t, held, whole_held(held, *x), r)
+            held_rule(judge, scope, s, t, held, whole_held(held, *x), r)
         }
-        KeptState::Frame(args, _) => frame_rule(alloc, args),
+        KeptState::Frame(args, _) => frame_rule(judge.alloc, args),
     }
 }
 
@@ -72,7 +71,6 @@ fn is_finished(t: &Ty, r: &Ty) -> bool
 
 // A sequence: a first part that isn't null, and code behind it.
 fn cat_rule(
-    alloc: Global,
     judge: &Judge<'_>,
     scope: &Scope<'_>,
     a: &KeptState,
@@ -90,8 +88,8 @@ fn cat_rule(
     if null(first) {
         return Ok(false);
     }
-    match is_good(alloc, judge, scope, l, &[], second) {
-        Ok(true) => is_behind(alloc, scope, a, l),
+    match is_good(judge, scope, l, &[], second) {
+        Ok(true) => is_behind(judge.alloc, scope, a, l),
         Ok(false) => Ok(false),
         Err(_) => Err(Memory),
     }
@@ -140,7 +138,6 @@ fn is_before(scope: &Scope<'_>, x: Name, y: Name) -> bool
 // A case or a wait of this type, which holds this: whether it isn't decided by what it holds, and what it
 // holds and what goes on are as they should be.
 fn held_rule(
-    alloc: Global,
     judge: &Judge<'_>,
     scope: &Scope<'_>,
     s: &KeptState,
@@ -161,8 +158,8 @@ fn held_rule(
     if !same(t, r) {
         return Ok(false);
     }
-    match is_held(alloc, scope, held, s) {
-        Ok(true) => goes_on(alloc, judge, scope, held, s, r),
+    match is_held(judge.alloc, scope, held, s) {
+        Ok(true) => goes_on(judge, scope, held, s, r),
         Ok(false) => Ok(false),
         Err(_) => Err(Memory),
     }
@@ -170,7 +167,6 @@ fn held_rule(
 
 // What goes on, over the types from before anything was held.
 fn goes_on(
-    alloc: Global,
     judge: &Judge<'_>,
     scope: &Scope<'_>,
     held: &[HeldName],
@@ -181,10 +177,10 @@ fn goes_on(
     requires judge { IsJudge judge.now }
     ensures { IfOk result (λ b. IsTrue b ↔ MayGoOn (funs_of judge.now) judge.now.depth (context_held (map held_of held.now) (context_in scope.now).order) (state_of s.now) (type_of r.now)) }
 {
-    match before_held(alloc, scope, held) {
+    match before_held(judge.alloc, scope, held) {
         Ok(before) => {
             let inner = Scope::Among(&before.types, &before.order);
-            let good = may_go_on(alloc, judge, &inner, s, r);
+            let good = may_go_on(judge, &inner, s, r);
             drop(before);
             good
         }
@@ -194,7 +190,6 @@ fn goes_on(
 
 // The same in a scope.
 fn may_go_on<'a>(
-    alloc: Global,
     judge: &Judge<'_>,
     scope: &'a Scope<'a>,
     s: &KeptState,
@@ -205,20 +200,17 @@ fn may_go_on<'a>(
     ensures { IfOk result (λ b. IsTrue b ↔ MayGoOn (funs_of judge.now) judge.now.depth (context_in scope.now) (state_of s.now) (type_of r.now)) }
 {
     match s {
-        KeptState::CaseSum(z, _, _, x, l, y, m) => {
-            has_sides(alloc, judge, scope, *z, *x, l, *y, m, r)
-        }
+        KeptState::CaseSum(z, _, _, x, l, y, m) => { has_sides(judge, scope, *z, *x, l, *y, m, r) }
         KeptState::CaseStar(z, _, _, l, y, ys, m) => {
-            has_items(alloc, judge, scope, *z, l, *y, *ys, m, r)
+            has_items(judge, scope, *z, l, *y, *ys, m, r)
         }
-        KeptState::Wait(x, _, _, l) => has_rest(alloc, judge, scope, *x, l, r),
+        KeptState::Wait(x, _, _, l) => has_rest(judge, scope, *x, l, r),
         _ => Ok(true),
     }
 }
 
 // The branches of a case on a sum.
 fn has_sides<'a>(
-    alloc: Global,
     judge: &Judge<'_>,
     scope: &'a Scope<'a>,
     z: Name,
@@ -233,22 +225,18 @@ fn has_sides<'a>(
     requires judge { IsJudge judge.now }
     ensures { IfOk result (λ b. IsTrue b ↔ IsGoodSum (funs_of judge.now) judge.now.depth (context_in scope.now) z.0 x.0 (later_of l.now) y.0 (later_of m.now) (type_of r.now)) }
 {
-    if !is_of_form(Form::Sum, &*scope, z) {
-        return Ok(false);
-    }
-    let (s, t) = sum_types(type_or(&*scope, z, &Ty::Eps), &Ty::Eps);
-    let left = Scope::Like(x, s, z, &*scope);
-    let right = Scope::Like(y, t, z, &*scope);
-    match is_good(alloc, judge, &left, l, &[x], r) {
-        Ok(true) => is_good(alloc, judge, &right, m, &[y], r),
-        Ok(false) => Ok(false),
-        Err(_) => Err(Memory),
+    match parts_at(Form::Sum, scope, z) {
+        Some((s, t)) => match is_good(judge, &Scope::Like(x, s, z, scope), l, &[x], r) {
+            Ok(true) => is_good(judge, &Scope::Like(y, t, z, scope), m, &[y], r),
+            Ok(false) => Ok(false),
+            Err(_) => Err(Memory),
+        },
+        None => Ok(false),
     }
 }
 
 // The branches of a case on a star.
 fn has_items<'a>(
-    alloc: Global,
     judge: &Judge<'_>,
     scope: &'a Scope<'a>,
     z: Name,
@@ -263,23 +251,40 @@ fn has_items<'a>(
     requires judge { IsJudge judge.now }
     ensures { IfOk result (λ b. IsTrue b ↔ IsGoodStar (funs_of judge.now) judge.now.depth (context_in scope.now) z.0 (later_of l.now) y.0 ys.0 (later_of m.now) (type_of r.now)) }
 {
-    if !is_of_form(Form::Star, &*scope, z) {
-        return Ok(false);
+    match parts_at(Form::Star, scope, z) {
+        Some((s, t)) => match is_good(judge, scope, l, &[], r) {
+            Ok(true) => is_good_item(judge, scope, z, y, s, ys, t, m, r),
+            Ok(false) => Ok(false),
+            Err(_) => Err(Memory),
+        },
+        None => Ok(false),
     }
-    let (s, t) = star_types(type_or(&*scope, z, &Ty::Eps), &Ty::Eps);
-    let item = Scope::Like(y, s, z, &*scope);
+}
+
+// The branch of an item, where these are the types of the item and of the rest.
+fn is_good_item<'a>(
+    judge: &Judge<'_>,
+    scope: &'a Scope<'a>,
+    z: Name,
+    y: Name,
+    s: &'a Ty,
+    ys: Name,
+    t: &'a Ty,
+    m: &Waiting,
+    r: &Ty,
+) -> Result<bool, Memory>
+    requires size { node_count (later_of m.now).term < 2 ^ 32 }
+    requires judge { IsJudge judge.now }
+    ensures { IfOk result (λ b. IsTrue b ↔ IsGoodLater (funs_of judge.now) judge.now.depth (with_fact y.0 ys.0 (with_parts y.0 (type_of s.now) ys.0 (type_of t.now) z.0 (context_in scope.now))) (λ d. d) (y.0 ∷ (ys.0 ∷ [])) (later_of m.now) (type_of r.now)) }
+{
+    let item = Scope::Like(y, s, z, scope);
     let items = Scope::Like(ys, t, z, &item);
     let inner = Scope::Fact(y, ys, &items);
-    match is_good(alloc, judge, &*scope, l, &[], r) {
-        Ok(true) => is_good(alloc, judge, &inner, m, &[y, ys], r),
-        Ok(false) => Ok(false),
-        Err(_) => Err(Memory),
-    }
+    is_good(judge, &inner, m, &[y, ys], r)
 }
 
 // What follows a wait: its subject isn't null, and isn't used there as a stream.
 fn has_rest<'a>(
-    alloc: Global,
     judge: &Judge<'_>,
     scope: &'a Scope<'a>,
     x: Name,
@@ -294,16 +299,15 @@ fn has_rest<'a>(
     if null(t) {
         return Ok(false);
     }
-    let used = free(alloc, &l.code)?;
+    let used = free(judge.alloc, &l.code)?;
     if is_there(&used, x) {
         return Ok(false);
     }
-    is_good_behind(alloc, judge, &*scope, x, t, l, r)
+    is_good_behind(judge, &*scope, x, t, l, r)
 }
 
 // Whether code is good where the stream of `x`, whose type is `t`, has a value.
 fn is_good_behind(
-    alloc: Global,
     judge: &Judge<'_>,
     scope: &Scope<'_>,
     x: Name,
@@ -315,11 +319,11 @@ fn is_good_behind(
     requires judge { IsJudge judge.now }
     ensures { IfOk result (λ b. IsTrue b ↔ IsGoodLater (funs_of judge.now) judge.now.depth (context_in scope.now) (with_known x.0 (type_of t.now)) (x.0 ∷ []) (later_of l.now) (type_of r.now)) }
 {
-    match past(alloc, t) {
+    match past(judge.alloc, t) {
         Ok(value) => {
             let values = [(x, value)];
             let inner = Scope::Valued(&values, scope);
-            let good = is_good(alloc, judge, &inner, l, &[x], r);
+            let good = is_good(judge, &inner, l, &[x], r);
             drop(values);
             good
         }

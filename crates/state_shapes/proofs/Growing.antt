@@ -77,6 +77,11 @@ pub goes_if : {before : Result Bool Memory} {y : Bool} {l : RegisterLists} (H : 
 goes_if {y = y} {l = l} H b h =
     record { grown = longer_still l; went = λ p e. b; holds = λ p e x k. h (let w : ◌≡◌ {A = Result Bool Memory} (Ok y) (Ok true) = e in grind (arith, w)) x k }
 
+-- a test behind what went before
+pub goes_tested : {before answer : Result Bool Memory} {y : Bool} {l : RegisterLists} (H : RegisterLists → Type 0) → (answer ≡ Ok true → (before ≡ Ok true) × (y ≡ true)) → (y ≡ true → (x : RegisterLists) → H x)
+    → Goes before l l answer H
+goes_tested {l = l} H b h = record { grown = longer_still l; went = λ p e. (b e).0; holds = λ p e x k. h (b e).1 x }
+
 -- at the beginning
 pub goes_first : {before answer : Result Bool Memory} {l m : RegisterLists} {F : RegisterLists → Type 0} → before ≡ Ok true → Goes (Ok true) l m answer F → Goes before l m answer F
 goes_first b f = record { grown = f.grown; went = λ p e. b; holds = f.holds }

@@ -1,6 +1,5 @@
 -- The lemmas.
 pub mod Growing
-pub mod Making
 pub mod FoundBeside
 pub mod Rows
 pub mod SameForms

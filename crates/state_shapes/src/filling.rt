@@ -82,7 +82,7 @@ fn fill_arguments(
         Arguments::None => boxed(alloc, Ok(Arguments::None)),
         Arguments::Before(name, t, a, others) => {
             let state = fill_state(alloc, a, r);
-            before(alloc, *name, t, state, fill_arguments(alloc, others, r))
+            one_more(alloc, *name, t, state, fill_arguments(alloc, others, r))
         }
     }
 }
@@ -95,7 +95,7 @@ fn made(alloc: Global, form: Live) -> Result<Box<Live>, Memory>
 }
 
 // One argument before others.
-fn before(
+fn one_more(
     alloc: Global,
     name: Name,
     t: &Ty,

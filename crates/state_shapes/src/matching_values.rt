@@ -94,12 +94,6 @@ pub fn prefix_goes(
         return before;
     }
     match (shape, p) {
-        (Prefix::EpsEmp, Prefix::EpsEmp)
-        | (Prefix::OneEmp, Prefix::OneEmp)
-        | (Prefix::OneFull, Prefix::OneFull)
-        | (Prefix::IntEmp, Prefix::IntEmp)
-        | (Prefix::SumEmp, Prefix::SumEmp) => Ok(true),
-        (Prefix::IntFull(k), Prefix::IntFull(n)) => number_goes(Ok(true), *k, *n, found),
         (Prefix::Par(a, b), Prefix::Par(c, d)) => {
             prefix_goes(prefix_goes(Ok(true), a, c, found), b, d, found)
         }
@@ -112,8 +106,44 @@ pub fn prefix_goes(
         (Prefix::Star(items, end), Prefix::Star(others, other)) => {
             end_goes(prefixes_go(items, others, found), end, other, found)
         }
-        _ => Ok(false),
+        _ => bare_goes(before, shape, p, found),
     }
+}
+
+// A prefix with none inside.
+fn bare_goes(
+    before: Result<bool, Memory>,
+    shape: &Prefix,
+    p: &Prefix,
+    found: &mut Found,
+) -> Result<bool, Memory>
+    ensures { Goes before (lists_in found.old) (lists_in found.new) result (λ l. prefix_of p.now ≡ prefix_from l (prefix_of shape.now)) }
+{
+    if let (Prefix::IntFull(k), Prefix::IntFull(n)) = (shape, p) {
+        return number_goes(before, *k, *n, found);
+    }
+    goes_where_same(before, same_bare(shape, p))
+}
+
+// Whether both are the same prefix, with neither a prefix nor a number inside.
+fn same_bare(shape: &Prefix, p: &Prefix) -> bool
+    ensures { result ≡ true → (l : RegisterLists) → prefix_of p.now ≡ prefix_from l (prefix_of shape.now) }
+{
+    match (shape, p) {
+        (Prefix::EpsEmp, Prefix::EpsEmp)
+        | (Prefix::OneEmp, Prefix::OneEmp)
+        | (Prefix::OneFull, Prefix::OneFull)
+        | (Prefix::IntEmp, Prefix::IntEmp)
+        | (Prefix::SumEmp, Prefix::SumEmp) => true,
+        _ => false,
+    }
+}
+
+// It goes on where it did before, and both are the same.
+fn goes_where_same(before: Result<bool, Memory>, same: bool) -> Result<bool, Memory>
+    ensures { result ≡ Ok true → (before ≡ Ok true) × (same ≡ true) }
+{
+    if same { before } else { Ok(false) }
 }
 
 // The whole items of a star.

@@ -1,3 +1,2 @@
 -- The lemmas.
-pub mod Making
 pub mod Rows

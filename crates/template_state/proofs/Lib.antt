@@ -1,5 +1,6 @@
 -- The lemmas.
 mod NamesInLists
+pub mod Making
 mod Putting
 mod PassedOnce
 mod UsedArguments

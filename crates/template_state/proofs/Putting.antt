@@ -1,8 +1,9 @@
 -- A name that is put in at parts of a state, for any type that is left.
-use Rattle.std.proofs.Common.{◌≡◌, ℕ, true, false, true≢false, ◌||◌, List, [], ◌∷◌, eqb, ap, ap₂, subst, sym}
+use Rattle.std.proofs.Common.{◌≡◌, ℕ, true, false, true≢false, ◌&&◌, ◌||◌, List, [], ◌∷◌, eqb, ap, ap₂, subst, sym}
 use Rattle.std.proofs.lemmas.Bool.{eqb-true}
 use Rattle.stream_type.specs.StreamType.{StreamType}
 use Rattle.bunch.specs.Names.{holds}
+use Rattle.core_term.proofs.Sides.{and_first, and_second}
 use Rattle.core_term.specs.Parts.{par_left, par_right, cat_first}
 use Rattle.delta_state.specs.StateTree.{LaterTree, StateTree, ArgumentTrees, par_state, cat_state, let_state, let_par_state, let_cat_state, frame_state, no_arguments, argument_before, var_state}
 use Rattle.state_rewriting.specs.Rewriting.{ReplacedBy, ReplacedArgumentsBy, as_it_is, as_they_are, one_more, here, IsAlias, IsPair, alias_for, pair_for}
@@ -25,13 +26,13 @@ put_let {s = s} n h k r = by_let n (h s) (k r)
 pub put_bound : {names : List ℕ} {R : StreamType → StateTree → StateTree → Type 0} {x : ℕ} {s : StreamType} {a b e : StateTree} → ((r : StreamType) → ReplacedBy names R r a b) → (r : StreamType) → ReplacedBy names R r (let_state x s a e) (let_state x s b e)
 put_bound {s = s} h r = by_bound (h s)
 
-pub put_let_par : {names : List ℕ} {R : StreamType → StateTree → StateTree → Type 0} {x y z : ℕ} {a b : StateTree} → holds x names ≡ false → holds y names ≡ false → holds z names ≡ false → ((r : StreamType) → ReplacedBy names R r a b)
+pub put_let_par : {names : List ℕ} {R : StreamType → StateTree → StateTree → Type 0} {x y z : ℕ} {a b : StateTree} → (holds x names ≡ false) × (holds y names ≡ false) × (holds z names ≡ false) → ((r : StreamType) → ReplacedBy names R r a b)
     → (r : StreamType) → ReplacedBy names R r (let_par_state x y z a) (let_par_state x y z b)
-put_let_par n m o h r = by_let_par n m o (h r)
+put_let_par n h r = by_let_par n.0 n.1 n.2 (h r)
 
-pub put_let_cat : {names : List ℕ} {R : StreamType → StateTree → StateTree → Type 0} {x y z : ℕ} {a b : StateTree} → holds x names ≡ false → holds y names ≡ false → holds z names ≡ false → ((r : StreamType) → ReplacedBy names R r a b)
+pub put_let_cat : {names : List ℕ} {R : StreamType → StateTree → StateTree → Type 0} {x y z : ℕ} {a b : StateTree} → (holds x names ≡ false) × (holds y names ≡ false) × (holds z names ≡ false) → ((r : StreamType) → ReplacedBy names R r a b)
     → (r : StreamType) → ReplacedBy names R r (let_cat_state x y z a) (let_cat_state x y z b)
-put_let_cat n m o h r = by_let_cat n m o (h r)
+put_let_cat n h r = by_let_cat n.0 n.1 n.2 (h r)
 
 pub put_frame : {names : List ℕ} {R : StreamType → StateTree → StateTree → Type 0} {args others : ArgumentTrees} {a : StateTree} → ReplacedArgumentsBy names R args others → (r : StreamType) → ReplacedBy names R r (frame_state args a) (frame_state others a)
 put_frame h r = by_arguments h
@@ -64,9 +65,11 @@ named_state (var_state u) x h = ap var_state (eqb-true u x h)
 named_state _ x h = absurd (true≢false (sym h))
 
 -- the pair itself
-pub put_pair_name : {x y z : ℕ} {a b : StateTree} → true ≡ is_name a x → true ≡ is_name b y → (r : StreamType) → ReplacedBy (x ∷ (y ∷ (z ∷ []))) (IsPair x y z) r (par_state a b) (var_state z)
-put_pair_name {x = x} {y = y} {z = z} {a = a} {b = b} e f r =
-    subst (λ q. ReplacedBy (x ∷ (y ∷ (z ∷ []))) (IsPair x y z) r q (var_state z)) (sym (ap₂ par_state (named_state a x (sym e)) (named_state b y (sym f)))) (one_more as_it_is (here pair_for))
+pub put_pair_name : {x y z : ℕ} {a b : StateTree} → true ≡ (is_name a x && is_name b y) → (r : StreamType) → ReplacedBy (x ∷ (y ∷ (z ∷ []))) (IsPair x y z) r (par_state a b) (var_state z)
+put_pair_name {x = x} {y = y} {z = z} {a = a} {b = b} e r =
+    let one : a ≡ var_state x = named_state a x (and_first (is_name a x) (is_name b y) (sym e)) in
+    let two : b ≡ var_state y = named_state b y (and_second (is_name a x) (is_name b y) (sym e)) in
+    subst (λ q. ReplacedBy (x ∷ (y ∷ (z ∷ []))) (IsPair x y z) r q (var_state z)) (sym (ap₂ par_state one two)) (one_more as_it_is (here pair_for))
 
 pub ruleset apart_names = (apart_two, apart_three)
 

@@ -1,5 +1,6 @@
 -- Rewritings that are made in place, one after the other.
-use Rattle.std.proofs.Common.{◌≡◌, ◌≢◌, ◌∙◌, ℕ, true, false, [], ◌∷◌, eqb, ap, refl, subst, sym}
+use Rattle.std.proofs.Common.{Result, Ok, Err, ◌≡◌, ◌≢◌, ◌∙◌, ℕ, true, false, [], ◌∷◌, eqb, ap, refl, subst, sym}
+use Rattle.std.specs.Prelude.{IsOk, OnOk}
 use Rattle.stream_type.specs.StreamType.{StreamType, null_of}
 use Rattle.bunch.specs.Names.{holds}
 use Rattle.core_term.specs.Parts.{par_left, par_right, cat_first}
@@ -41,6 +42,11 @@ simpler_none = as_they_are
 
 pub simpler_before : {x : ℕ} {t : StreamType} {a b : StateTree} {args others : ArgumentTrees} → SimplerBy t a b → ReplacedArgumentsBy [] Rewritten args others → ReplacedArgumentsBy [] Rewritten (argument_before x t a args) (argument_before x t b others)
 simpler_before h k = by_before h k
+
+-- what holds where it was made, where it was
+pub made_ok : {T E P : Type 0} (r : Result T E) → IsOk r → OnOk r P → P
+made_ok (Ok x) e h = h
+made_ok (Err x) e h = absurd (cc e)
 
 -- two and four in turn
 pub in_turn : {a b e : StateTree} → ((q : StreamType) → SimplerBy q a b) → ((q : StreamType) → SimplerBy q b e) → (q : StreamType) → SimplerBy q a e

@@ -1,5 +1,6 @@
 -- What the contracts cite.
 pub mod Readers
 pub mod Templates
+pub mod Makes
 pub mod Passing
 pub mod Rows

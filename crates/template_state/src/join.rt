@@ -194,7 +194,7 @@ fn keep_used(args: &mut Arguments, body: &Live)
         keep_used(others, body);
         if !uses(body, *x) {
             let rest = mem::replace(&mut **others, Arguments::None);
-            *args = rest;
+            drop(mem::replace(args, rest));
         }
     }
 }

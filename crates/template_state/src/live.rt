@@ -6,6 +6,7 @@ use crate::code::Op;
 use bunch::Name;
 use hist_value::Value;
 use machine_parts::entry::Entry;
+use std::mem;
 use std::rc::Rc;
 use stream_type::Ty;
 
@@ -75,5 +76,5 @@ pub enum Arguments {
 pub fn put(s: &mut Live, other: Live)
     ensures { s.new ≡ other }
 {
-    *s = other;
+    drop(mem::replace(s, other));
 }

@@ -1,6 +1,6 @@
 //! Names that are put in.
 
-ghost use Rattle.std.specs.Prelude.{◌≡◌, true, false, [], ◌∷◌};
+ghost use Rattle.std.specs.Prelude.{◌≡◌, ◌&&◌, true, false, [], ◌∷◌};
 ghost use Rattle.bunch.specs.Names.{holds};
 ghost use Rattle.stream_type.specs.StreamType.{StreamType};
 ghost use Rattle.state_rewriting.specs.Rewriting.{ReplacedBy, ReplacedArgumentsBy, IsAlias, IsPair};
@@ -16,6 +16,13 @@ fn apart(x: Name, y: Name, z: Name) -> bool
     ensures { result ≡ true → holds x.0 (y.0 ∷ (z.0 ∷ [])) ≡ false }
 {
     x.0 != y.0 && x.0 != z.0
+}
+
+// Whether each of the names is another than both.
+fn all_apart(u: Name, v: Name, w: Name, y: Name, z: Name) -> bool
+    ensures { result ≡ true → (holds u.0 (y.0 ∷ (z.0 ∷ [])) ≡ false) × (holds v.0 (y.0 ∷ (z.0 ∷ [])) ≡ false) × (holds w.0 (y.0 ∷ (z.0 ∷ [])) ≡ false) }
+{
+    apart(u, y, z) && apart(v, y, z) && apart(w, y, z)
 }
 
 /// Puts z in the place of y where y is an argument of a call.
@@ -42,12 +49,12 @@ pub fn put_name(s: &mut Live, y: Name, z: Name)
             }
         }
         Live::LetPar(u, v, w, a) => {
-            if apart(*u, y, z) && apart(*v, y, z) && apart(*w, y, z) {
+            if all_apart(*u, *v, *w, y, z) {
                 put_name(a, y, z);
             }
         }
         Live::LetCat(u, v, w, a) => {
-            if apart(*u, y, z) && apart(*v, y, z) && apart(*w, y, z) {
+            if all_apart(*u, *v, *w, y, z) {
                 put_name(a, y, z);
             }
         }
@@ -99,6 +106,13 @@ fn apart_three(u: Name, x: Name, y: Name, z: Name) -> bool
     u.0 != x.0 && (u.0 != y.0 && u.0 != z.0)
 }
 
+// Whether each of the names is another than all three.
+fn all_apart_three(u: Name, v: Name, w: Name, x: Name, y: Name, z: Name) -> bool
+    ensures { result ≡ true → (holds u.0 (x.0 ∷ (y.0 ∷ (z.0 ∷ []))) ≡ false) × (holds v.0 (x.0 ∷ (y.0 ∷ (z.0 ∷ []))) ≡ false) × (holds w.0 (x.0 ∷ (y.0 ∷ (z.0 ∷ []))) ≡ false) }
+{
+    apart_three(u, x, y, z) && apart_three(v, x, y, z) && apart_three(w, x, y, z)
+}
+
 /// Whether the state is this name.
 pub fn is_name(s: &Live, x: Name) -> bool
     ensures { result ≡ is_name (state_in s.now) x.0 }
@@ -118,6 +132,13 @@ pub fn is_name(s: &Live, x: Name) -> bool
     }
 }
 
+// Whether the states are these two names.
+fn is_pair(a: &Live, b: &Live, x: Name, y: Name) -> bool
+    ensures { result ≡ (is_name (state_in a.now) x.0 && is_name (state_in b.now) y.0) }
+{
+    is_name(a, x) && is_name(b, y)
+}
+
 /// Puts z in the place of the pair of x and y.
 #[cycle(put_pair)]
 #[tactic(auto, using(crate::proofs::Putting::putting))]
@@ -131,7 +152,7 @@ pub fn put_pair(s: &mut Live, x: Name, y: Name, z: Name)
         | Live::CaseStar(_, _, _, _, _, _, _)
         | Live::Wait(_, _, _, _) => {}
         Live::Par(a, b) => {
-            if is_name(a, x) && is_name(b, y) {
+            if is_pair(a, b, x, y) {
                 put(s, Live::Var(z));
             } else {
                 put_pair(a, x, y, z);
@@ -146,12 +167,12 @@ pub fn put_pair(s: &mut Live, x: Name, y: Name, z: Name)
             }
         }
         Live::LetPar(u, v, w, a) => {
-            if apart_three(*u, x, y, z) && apart_three(*v, x, y, z) && apart_three(*w, x, y, z) {
+            if all_apart_three(*u, *v, *w, x, y, z) {
                 put_pair(a, x, y, z);
             }
         }
         Live::LetCat(u, v, w, a) => {
-            if apart_three(*u, x, y, z) && apart_three(*v, x, y, z) && apart_three(*w, x, y, z) {
+            if all_apart_three(*u, *v, *w, x, y, z) {
                 put_pair(a, x, y, z);
             }
         }

@@ -1,6 +1,6 @@
 //! States put into a simpler form, in place.
 
-ghost use Rattle.std.specs.Prelude.{◌≡◌, true, [], OnOk};
+ghost use Rattle.std.specs.Prelude.{◌≡◌, true, [], OnOk, IsOk};
 ghost use Rattle.stream_type.specs.StreamType.{StreamType, type_of, null_of};
 ghost use Rattle.state_rewriting.specs.Rewriting.{SimplerBy, ReplacedArgumentsBy, Rewritten};
 ghost use Rattle.template_state.specs.Readers.{state_in, arguments_in};
@@ -19,7 +19,6 @@ use stream_type::{Memory, Ty};
 /// Puts the state, of which this type is left, into a simpler form: each rewriting once at each part, from the
 /// leaves to the root. Its only error is want of memory.
 #[cycle(settle)]
-#[tactic(auto, using(crate::proofs::Settling::settling))]
 pub fn settle(alloc: Global, s: &mut Live, r: &Ty) -> Result<(), Memory>
     ensures { OnOk result (SimplerBy (type_of r.now) (state_in s.old) (state_in s.new)) }
 {
@@ -33,35 +32,38 @@ pub fn settle(alloc: Global, s: &mut Live, r: &Ty) -> Result<(), Memory>
         | Live::CaseStar(_, _, _, _, _, _, _)
         | Live::Wait(_, _, _, _) => Ok(()),
         Live::Par(a, b) => {
-            let (left, right) = par_types(&*r, &Ty::Eps);
-            settle(alloc, a, left)?;
-            settle(alloc, b, right)
+            let (left, right) = par_types(r, &Ty::Eps);
+            match settle(alloc, a, left) {
+                Ok(()) => settle(alloc, b, right),
+                Err(Memory) => Err(Memory),
+            }
         }
         Live::Cat(a, _) => {
-            let (first, _) = cat_types(&*r, &Ty::Eps);
+            let (first, _) = cat_types(r, &Ty::Eps);
             settle(alloc, a, first)
         }
-        Live::Let(_, t, a, b) => {
-            settle(alloc, a, t)?;
-            settle(alloc, b, r)?;
-            settle_let(s);
-            Ok(())
-        }
+        Live::Let(_, t, a, b) => match settle(alloc, a, t) {
+            Ok(()) => {
+                let body = settle(alloc, b, r);
+                let_done(s, body)
+            }
+            Err(Memory) => Err(Memory),
+        },
         Live::LetPar(_, _, _, a) => {
-            settle(alloc, a, r)?;
-            settle_pair(s);
-            Ok(())
+            let pair = settle(alloc, a, r);
+            pair_done(s, pair)
         }
         Live::LetCat(_, _, _, a) => {
-            settle(alloc, a, r)?;
-            drop_row(s);
-            Ok(())
+            let row = settle(alloc, a, r);
+            row_done(s, row)
         }
-        Live::Frame(args, a) => {
-            settle_all(alloc, args)?;
-            settle(alloc, a, r)?;
-            settle_frame(alloc, s)
-        }
+        Live::Frame(args, a) => match settle_all(alloc, args) {
+            Ok(()) => {
+                let called = settle(alloc, a, r);
+                frame_done(alloc, s, called)
+            }
+            Err(Memory) => Err(Memory),
+        },
     }
 }
 
@@ -81,16 +83,64 @@ fn finish(alloc: Global, s: &mut Live, r: &Ty) -> Result<(), Memory>
 
 // Each of the arguments, put into a simpler form.
 #[cycle(settle)]
-#[tactic(auto, using(crate::proofs::Settling::settling))]
 fn settle_all(alloc: Global, args: &mut Arguments) -> Result<(), Memory>
     ensures { OnOk result (ReplacedArgumentsBy [] Rewritten (arguments_in args.old) (arguments_in args.new)) }
 {
     match args {
         Arguments::None => Ok(()),
-        Arguments::Before(_, t, a, others) => {
-            settle(alloc, a, t)?;
-            settle_all(alloc, others)
+        Arguments::Before(_, t, a, others) => match settle(alloc, a, t) {
+            Ok(()) => settle_all(alloc, others),
+            Err(Memory) => Err(Memory),
+        },
+    }
+}
+
+// A let whose parts are settled.
+fn let_done(s: &mut Live, done: Result<(), Memory>) -> Result<(), Memory>
+    ensures { OnOk result (IsOk done × ((q : StreamType) → SimplerBy q (state_in s.old) (state_in s.new))) }
+{
+    match done {
+        Ok(()) => {
+            settle_let(s);
+            Ok(())
         }
+        Err(Memory) => Err(Memory),
+    }
+}
+
+// A destructuring of a pair, whose part is settled.
+fn pair_done(s: &mut Live, done: Result<(), Memory>) -> Result<(), Memory>
+    ensures { OnOk result (IsOk done × ((q : StreamType) → SimplerBy q (state_in s.old) (state_in s.new))) }
+{
+    match done {
+        Ok(()) => {
+            settle_pair(s);
+            Ok(())
+        }
+        Err(Memory) => Err(Memory),
+    }
+}
+
+// The same of a sequence.
+fn row_done(s: &mut Live, done: Result<(), Memory>) -> Result<(), Memory>
+    ensures { OnOk result (IsOk done × ((q : StreamType) → SimplerBy q (state_in s.old) (state_in s.new))) }
+{
+    match done {
+        Ok(()) => {
+            drop_row(s);
+            Ok(())
+        }
+        Err(Memory) => Err(Memory),
+    }
+}
+
+// A frame whose parts are settled.
+fn frame_done(alloc: Global, s: &mut Live, done: Result<(), Memory>) -> Result<(), Memory>
+    ensures { OnOk result (IsOk done × ((q : StreamType) → SimplerBy q (state_in s.old) (state_in s.new))) }
+{
+    match done {
+        Ok(()) => settle_frame(alloc, s),
+        Err(Memory) => Err(Memory),
     }
 }
 

@@ -1,29 +1,16 @@
 //! Kept states that go over templates and back.
 
 use crate::read::{FRAME, ONE, WAITS};
-use delta_keep::{Kept, read_kept, save};
+use delta_keep::{read_kept, save};
 use std::alloc::Global;
 use std::test::Fail;
 use template_kept::{keep, wake};
 
 // The bytes of a kept state once its state was woken and kept again.
 fn again(alloc: Global, bytes: &[u8]) -> Result<Vec<u8>, Fail> {
-    let Kept {
-        events,
-        ins,
-        cuts,
-        out,
-        state,
-    } = read_kept(alloc, bytes)?;
-    let live = wake(alloc, &state)?;
-    let state = keep(alloc, &live)?;
-    let k = Kept {
-        events,
-        ins,
-        cuts,
-        out,
-        state,
-    };
+    let mut k = Box::new(alloc, read_kept(alloc, bytes)?)?;
+    let live = wake(alloc, &k.state)?;
+    k.state = keep(alloc, &live)?;
     Ok(save(alloc, &k)?)
 }
 

@@ -1,22 +1,14 @@
 //! Programs with their cores, or with what is wrong first. Places are bytes of a text, and names are
 //! numbered as they first stand in it.
 
+use crate::programs::{core, fault, is_typed};
 use core_term::{Core, Node, Term};
 use delta_check::{TypeCause, TypeFault};
-use delta_elab::{ElabFault, ProgramFault, elaborate, typed};
+use delta_elab::{ElabFault, ProgramFault};
 use hist_value::{Expr, Op};
-use program_text::program_of;
 use std::alloc::Global;
 use std::test::Fail;
 use stream_type::Ty;
-
-// The core of a text's program.
-fn core_of(alloc: Global, text: &[u8]) -> Result<Core, Fail> {
-    let program = program_of(alloc, text)?;
-    let core = elaborate(alloc, &program);
-    drop(program);
-    Ok(core?)
-}
 
 // A fault by its name, the number of the name that it tells, and its place.
 fn told(fault: &ElabFault) -> (&'static str, u32, u32) {
@@ -30,13 +22,21 @@ fn told(fault: &ElabFault) -> (&'static str, u32, u32) {
     }
 }
 
-// What is wrong first with the names and types of a text's program, or "none".
-fn fault_of(alloc: Global, text: &[u8]) -> Result<(&'static str, u32, u32), Fail> {
-    let program = program_of(alloc, text)?;
-    match &elaborate(alloc, &program) {
-        Err(fault) => Ok(told(fault)),
-        Ok(_) => Ok(("none", 0, 0)),
+// What is wrong first with the names and types of a program, or "none".
+fn told_first(fault: &Option<ProgramFault>) -> (&'static str, u32, u32) {
+    match fault {
+        Some(ProgramFault::Elab(fault)) => told(fault),
+        Some(_) => ("", 0, 0),
+        None => ("none", 0, 0),
     }
+}
+
+// The same of a text's program.
+fn fault_of(alloc: Global, text: &[u8]) -> Result<(&'static str, u32, u32), Fail> {
+    let found = fault(alloc, text)?;
+    let told = told_first(&found);
+    drop(found);
+    Ok(told)
 }
 
 fn texts_are(core: &Core, texts: &[&str]) -> bool {
@@ -81,7 +81,7 @@ fn is_parted(n: &Node) -> bool {
 
 // Whether that text's core is so, with a text for each name.
 fn gets_a_name(alloc: Global) -> Result<bool, Fail> {
-    let core = core_of(alloc, PARTED)?;
+    let core = core(alloc, PARTED)?;
     Ok(texts_are(&core, &["z", "x", "y", "#3"]) && is_parted(&core.main.body))
 }
 
@@ -101,7 +101,7 @@ fn is_bound_anew(n: &Node) -> bool {
 
 // Whether a text's core is so, gives a number, and has two names with one text.
 fn binds_anew(alloc: Global, text: &[u8]) -> Result<bool, Fail> {
-    let core = core_of(alloc, text)?;
+    let core = core(alloc, text)?;
     let gives = matches!(&core.main.result, Ty::Int);
     Ok(gives && texts_are(&core, &["x", "x"]) && is_bound_anew(&core.main.body))
 }
@@ -137,7 +137,7 @@ fn is_compared(n: &Node) -> bool {
 
 // Whether a text's core is so, with three names of its own.
 fn compares(alloc: Global, text: &[u8]) -> Result<bool, Fail> {
-    let core = core_of(alloc, text)?;
+    let core = core(alloc, text)?;
     Ok(texts_are(&core, &["#0", "#1", "#2"]) && is_compared(&core.main.body))
 }
 
@@ -147,29 +147,21 @@ fn an_if_is_a_case_on_its_test(rt: HostRuntime) -> Result<(), Fail> {
     Ok(())
 }
 
-#[test]
-fn unknown_names_are_told_with_their_places(rt: HostRuntime) -> Result<(), Fail> {
-    let rows: [(&[u8], &str, u32); 3] = [
-        (b"main(x : Int) : Int = y", "Unbound", 22),
-        (b"main(x : Int) : Int = y(x)", "NoFunction", 22),
-        (b"main(x : y) : Int = x", "NoType", 9),
-    ];
-    for (text, name, at) in rows {
-        assert!(rt; fault_of(rt.alloc(), text)? == (name, 1, at));
-    }
-    Ok(())
-}
+// Texts with names that aren't known, and the place of each.
+const UNKNOWN: &[(&[u8], &str, u32)] = &[
+    (b"main(x : Int) : Int = y", "Unbound", 22),
+    (b"main(x : Int) : Int = y(x)", "NoFunction", 22),
+    (b"main(x : y) : Int = x", "NoType", 9),
+    (b"main(x : Int) : Int = wait y in x", "Unbound", 22),
+    (b"main(x : Int) : Int = {y}", "Unbound", 23),
+    // An expression in brackets stands inside them.
+    (b"main(x : Int) : Int = {(y)}", "Unbound", 24),
+];
 
 #[test]
-fn names_are_looked_for_in_waits_and_in_histories(rt: HostRuntime) -> Result<(), Fail> {
-    let rows: [(&[u8], u32); 3] = [
-        (b"main(x : Int) : Int = wait y in x", 22),
-        (b"main(x : Int) : Int = {y}", 23),
-        // An expression in brackets stands inside them.
-        (b"main(x : Int) : Int = {(y)}", 24),
-    ];
-    for (text, at) in rows {
-        assert!(rt; fault_of(rt.alloc(), text)? == ("Unbound", 1, at));
+fn unknown_names_are_told_with_their_places(rt: HostRuntime) -> Result<(), Fail> {
+    for (text, name, at) in UNKNOWN {
+        assert!(rt; fault_of(rt.alloc(), text)? == (*name, 1, *at));
     }
     Ok(())
 }
@@ -238,37 +230,16 @@ fn a_type_above_the_limit_is_too_tall(rt: HostRuntime) -> Result<(), Fail> {
     Ok(())
 }
 
-// Whether a text's program is typed.
-fn is_typed(alloc: Global, text: &[u8]) -> Result<bool, Fail> {
-    let program = program_of(alloc, text)?;
-    Ok(typed(alloc, &program).is_ok())
-}
-
 #[test]
 fn a_typed_program_is_accepted(rt: HostRuntime) -> Result<(), Fail> {
     assert!(rt; is_typed(rt.alloc(), PARTED)?);
     Ok(())
 }
 
-// Whether a text's program is refused for that name and place.
-fn is_refused_for_a_name(alloc: Global, text: &[u8]) -> Result<bool, Fail> {
-    let program = program_of(alloc, text)?;
-    match &typed(alloc, &program) {
-        Err(ProgramFault::Elab(fault)) => Ok(told(fault) == ("Unbound", 1, 22)),
-        _ => Ok(false),
-    }
-}
-
-#[test]
-fn a_program_is_refused_for_a_name(rt: HostRuntime) -> Result<(), Fail> {
-    assert!(rt; is_refused_for_a_name(rt.alloc(), b"main(x : Int) : Int = y")?);
-    Ok(())
-}
-
 // Whether it is a mismatch in the first node, at the place 29.
-fn is_mismatch(fault: &TypeFault) -> bool {
+fn is_mismatch(fault: &Option<ProgramFault>) -> bool {
     match fault {
-        TypeFault::Refused { node, at, cause } => {
+        Some(ProgramFault::Type(TypeFault::Refused { node, at, cause })) => {
             *node == 0 && *at == 29 && matches!(cause, TypeCause::Mismatch { .. })
         }
         _ => false,
@@ -277,11 +248,10 @@ fn is_mismatch(fault: &TypeFault) -> bool {
 
 // Whether a text's program is refused for that.
 fn is_refused_for_a_type(alloc: Global, text: &[u8]) -> Result<bool, Fail> {
-    let program = program_of(alloc, text)?;
-    match &typed(alloc, &program) {
-        Err(ProgramFault::Type(fault)) => Ok(is_mismatch(fault)),
-        _ => Ok(false),
-    }
+    let found = fault(alloc, text)?;
+    let is_so = is_mismatch(&found);
+    drop(found);
+    Ok(is_so)
 }
 
 #[test]

@@ -1,7 +1,7 @@
 //! Small programs run on small inputs, with ample memory. Each answer was worked out by hand.
 
-use delta_meaning::{EvalRefusal, Evaluated, eval, run};
-use program_text::program_of;
+use crate::programs::{program, ran, refusal};
+use delta_meaning::{EvalRefusal, eval};
 use std::alloc::Global;
 use std::test::Fail;
 use stream_prefix::{Prefix, StarEnd};
@@ -26,25 +26,15 @@ const BEHIND: &[u8] = b"fun f(u : 1) : 1 = u
 main(x : Int) : 1 = let y = ((x, ()) : Int || 1) in f(())";
 
 // The numbers, and then the end.
-fn numbers(alloc: Global, numbers: &[i64]) -> Result<Prefix, Memory> {
+fn numbers(alloc: Global, numbers: &[i64]) -> Result<Box<Prefix>, Memory> {
     let mut items = Vec::new(alloc);
     for n in numbers {
         items.push(Prefix::IntFull(*n))?;
     }
-    Ok(Prefix::Star(items, StarEnd::Done))
+    Ok(Box::new(alloc, Prefix::Star(items, StarEnd::Done))?)
 }
 
-// What a text's program gives on these numbers.
-fn ran(alloc: Global, text: &[u8], items: &[i64]) -> Result<Evaluated, Fail> {
-    let input = numbers(alloc, items)?;
-    let program = program_of(alloc, text)?;
-    let found = run(alloc, &program, &input, 1000);
-    drop(program);
-    drop(input);
-    Ok(found?)
-}
-
-// Why nothing is answered on these numbers with so many calls, of 10,000 at most.
+// Why nothing is answered on these numbers with so many calls.
 fn refused(
     alloc: Global,
     text: &[u8],
@@ -52,8 +42,7 @@ fn refused(
     budget: u64,
 ) -> Result<Option<EvalRefusal>, Fail> {
     let input = numbers(alloc, items)?;
-    let program = program_of(alloc, text)?;
-    Ok(eval(alloc, &program, &input, budget.min(10_000)).err())
+    refusal(alloc, text, &input, budget)
 }
 
 // Whether a prefix has ended and has so many whole items.
@@ -66,7 +55,8 @@ fn has_items(p: &Prefix, count: usize) -> bool {
 
 // Whether the doubled numbers 3 and 4 are two items, with three calls at the first level.
 fn are_doubled(alloc: Global) -> Result<bool, Fail> {
-    let doubled = ran(alloc, DOUBLING, &[3, 4])?;
+    let input = numbers(alloc, &[3, 4])?;
+    let doubled = ran(alloc, DOUBLING, &input)?;
     let counted = doubled.calls == 3 && doubled.level == 1;
     Ok(counted && has_items(&doubled.output, 2))
 }
@@ -82,7 +72,7 @@ fn is_six(p: &Prefix) -> bool {
 // Whether the doubled number 3 is 6, where two calls may be made.
 fn three_is_doubled(alloc: Global) -> Result<bool, Fail> {
     let input = numbers(alloc, &[3])?;
-    let program = program_of(alloc, DOUBLING)?;
+    let program = program(alloc, DOUBLING)?;
     match &eval(alloc, &program, &input, 2) {
         Ok(output) => Ok(is_six(output)),
         Err(_) => Ok(false),
@@ -109,7 +99,8 @@ fn calls_are_counted_up_to_the_budget(rt: HostRuntime) -> Result<(), Fail> {
 
 // The calls of a text's program on twenty numbers, and their level.
 fn counted(alloc: Global, text: &[u8]) -> Result<(u64, u64), Fail> {
-    let found = ran(alloc, text, &[0; 20])?;
+    let input = numbers(alloc, &[0; 20])?;
+    let found = ran(alloc, text, &input)?;
     Ok((found.calls, found.level))
 }
 
@@ -122,10 +113,7 @@ fn a_loop_stays_and_a_nest_goes_down(rt: HostRuntime) -> Result<(), Fail> {
 
 // The level of the calls of a text's program where this came.
 fn level_on(alloc: Global, text: &[u8], input: &Prefix) -> Result<u64, Fail> {
-    let program = program_of(alloc, text)?;
-    let found = run(alloc, &program, input, 1000);
-    drop(program);
-    let found = found?;
+    let found = ran(alloc, text, input)?;
     Ok(found.level)
 }
 

@@ -10,6 +10,8 @@ mod evaluation;
 #[cfg(test)]
 mod nesting;
 #[cfg(test)]
+mod programs;
+#[cfg(test)]
 mod types;
 #[cfg(test)]
 mod typing;

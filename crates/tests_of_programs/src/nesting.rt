@@ -1,14 +1,14 @@
 //! Calls that stand far inside one another: what they give, and that they use their budget up. The stack
 //! has at most some thirty of them at a time.
 
-use delta_meaning::{EvalRefusal, eval, run};
-use program_text::program_of;
+use crate::programs::{ran, refusal};
+use delta_meaning::EvalRefusal;
 use std::alloc::Global;
 use std::test::Fail;
 use stream_prefix::{Prefix, StarEnd};
 
 // Programs that call themselves without end, by where the call stands.
-const ENDLESS: [&[u8]; 10] = [
+const ENDLESS: &[&[u8]] = &[
     // alone
     b"fun f(u : 1) : 1 = f(u)
 main(u : 1) : 1 = f(u)",
@@ -41,7 +41,7 @@ main(u : 1) : 1 . 1 = f(u)",
 ];
 
 // And further ones.
-const ENDLESS_TOO: [&[u8]; 10] = [
+const ENDLESS_TOO: &[&[u8]] = &[
     // a case on it
     b"fun f(u : 1) : 1 + 1 = case f(u) of { inl x => inl x | inr y => inr y }
 main(u : 1) : 1 + 1 = f(u)",
@@ -71,10 +71,9 @@ fun g(s : (1 + 1) + 1) : 1 + 1 = case s of { inl x => x | inr y => inr y }
 main(u : 1) : 1 + 1 = f(u)",
 ];
 
-// Why a program gives nothing where so many calls may be made, of 10,000 at most.
+// Why a program gives nothing where so many calls may be made.
 fn refused(alloc: Global, text: &[u8], budget: u64) -> Result<Option<EvalRefusal>, Fail> {
-    let program = program_of(alloc, text)?;
-    Ok(eval(alloc, &program, &Prefix::OneFull, budget.min(10_000)).err())
+    refusal(alloc, text, &Prefix::OneFull, budget)
 }
 
 #[test]
@@ -108,10 +107,7 @@ main(u : 1) : Int* = f{40}(u)";
 
 // The number of items, of calls and of levels of a program.
 fn counted(alloc: Global, text: &[u8]) -> Result<(usize, u64, u64), Fail> {
-    let program = program_of(alloc, text)?;
-    let found = run(alloc, &program, &Prefix::OneFull, 10_000);
-    drop(program);
-    let found = found?;
+    let found = ran(alloc, text, &Prefix::OneFull)?;
     Ok((items_of(&found.output), found.calls, found.level))
 }
 

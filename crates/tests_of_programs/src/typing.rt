@@ -4,12 +4,11 @@ ghost use Rattle.std.specs.Prelude.{IfOk};
 ghost use Rattle.core_term.specs.CoreTerm.{core_of};
 ghost use Rattle.core_term.specs.FreeNames.{IsCore, HasFewNodes};
 
+use crate::programs::{checked, fault, is_typed};
 use bunch::{Bunch, Name};
-use checked_program::accept;
-use core_term::{Body, Core, Node, Term};
+use core_term::{Body, Checked, Core, Node, Term};
 use delta_check::{TypeCause, TypeFault, check, inert, inert_funs};
-use delta_elab::{ProgramFault, typed};
-use program_text::program_of;
+use delta_elab::ProgramFault;
 use std::alloc::Global;
 use std::test::Fail;
 use stream_type::{Memory, Ty};
@@ -33,19 +32,20 @@ fn is_fault(fault: &TypeFault, row: (u32, u32, (&str, u32, u32))) -> bool {
     }
 }
 
-// Whether it is wrong first with the types of a text's program. Names are numbered as they are bound.
-fn is_wrong(alloc: Global, text: &[u8], row: (u32, u32, (&str, u32, u32))) -> Result<bool, Fail> {
-    let program = program_of(alloc, text)?;
-    match &typed(alloc, &program) {
-        Err(ProgramFault::Type(fault)) => Ok(is_fault(fault, row)),
-        _ => Ok(false),
+// Whether that is wrong first with the types of a program.
+fn is_type_fault(fault: &Option<ProgramFault>, row: (u32, u32, (&str, u32, u32))) -> bool {
+    match fault {
+        Some(ProgramFault::Type(fault)) => is_fault(fault, row),
+        _ => false,
     }
 }
 
-// Whether a text's program is typed.
-fn is_typed(alloc: Global, text: &[u8]) -> Result<bool, Fail> {
-    let program = program_of(alloc, text)?;
-    Ok(typed(alloc, &program).is_ok())
+// Whether it is wrong first with the types of a text's program. Names are numbered as they are bound.
+fn is_wrong(alloc: Global, text: &[u8], row: (u32, u32, (&str, u32, u32))) -> Result<bool, Fail> {
+    let found = fault(alloc, text)?;
+    let is_so = is_type_fault(&found, row);
+    drop(found);
+    Ok(is_so)
 }
 
 #[test]
@@ -106,8 +106,8 @@ fn inert_in(alloc: Global, core: &Core) -> Result<(bool, bool, bool), Memory> {
 
 // The same of a text's program.
 fn inert_in_text(alloc: Global, text: &[u8]) -> Result<(bool, bool, bool), Fail> {
-    let accepted = accept(alloc, text)?;
-    Ok(inert_in(alloc, accepted.checked.core())?)
+    let checked = checked(alloc, text)?;
+    Ok(inert_in(alloc, checked.core())?)
 }
 
 #[test]
@@ -119,52 +119,62 @@ main(xs : Int*) : Int* = copy(xs)";
 }
 
 // `main(x : Int) : Int = x`, or with another name for its body. The number of x is 0.
-fn named(alloc: Global, body: u32) -> Result<Core, Memory>
-    ensures core { IfOk result (λ c. IsCore (core_of c)) }
-    ensures nodes { IfOk result (λ c. HasFewNodes (core_of c)) }
+fn named(alloc: Global, body: u32) -> Result<Box<Core>, Memory>
+    ensures core { IfOk result (λ c. IsCore (core_of c.value)) }
+    ensures nodes { IfOk result (λ c. HasFewNodes (core_of c.value)) }
 {
     let mut texts = Vec::new(alloc);
     texts.push(String::from_str(alloc, "x")?)?;
-    Ok(Core {
-        funs: Vec::new(alloc),
-        main: Body {
-            past: Vec::new(alloc),
-            params: Bunch::Leaf(Name(0), Ty::Int),
-            result: Ty::Int,
-            body: Node {
-                at: 22,
-                term: Term::Var(Name(body)),
-            },
+    let main = Body {
+        past: Vec::new(alloc),
+        params: Bunch::Leaf(Name(0), Ty::Int),
+        result: Ty::Int,
+        body: Node {
+            at: 22,
+            term: Term::Var(Name(body)),
         },
-        texts,
-    })
+    };
+    let funs = Vec::new(alloc);
+    Ok(Box::new(alloc, Core { funs, main, texts })?)
 }
 
-// Whether the checked program takes and gives numbers, and its body stands at its place.
-fn is_checked(alloc: Global) -> Result<bool, Fail> {
-    let checked = check(alloc, named(alloc, 0)?)?;
+// That program, checked, or what is wrong with it.
+fn check_named(alloc: Global, body: u32) -> Result<Result<Box<Checked>, TypeFault>, Fail> {
+    let core = named(alloc, body)?;
+    match check(alloc, Box::into_inner(core)) {
+        Ok(checked) => Ok(Ok(Box::new(alloc, checked)?)),
+        Err(fault) => Ok(Err(fault)),
+    }
+}
+
+// Whether a checked program takes and gives numbers, and its body stands at its place.
+fn is_of_numbers(checked: &Checked) -> bool {
     let input = matches!(checked.input(), Ty::Int);
     let output = matches!(checked.output(), Ty::Int);
-    Ok(input && output && checked.core().main.body.at == 22)
+    input && output && checked.core().main.body.at == 22
 }
 
 #[test]
 fn a_typed_program_is_checked(rt: HostRuntime) -> Result<(), Fail> {
-    assert!(rt; is_checked(rt.alloc())?);
+    let checked = check_named(rt.alloc(), 0)??;
+    assert!(rt; is_of_numbers(&checked));
     Ok(())
 }
 
-// Whether the fault of the program with another name is that nothing binds it.
-fn is_unbound(alloc: Global) -> Result<bool, Fail> {
-    match &check(alloc, named(alloc, 2)?) {
-        Err(fault) => Ok(is_fault(fault, (0, 22, ("Unbound", 2, 0)))),
-        Ok(_) => Ok(false),
+// Whether the fault is that nothing binds the name in the first node.
+fn is_unbound(found: &Result<Box<Checked>, TypeFault>) -> bool {
+    match found {
+        Err(fault) => is_fault(fault, (0, 22, ("Unbound", 2, 0))),
+        Ok(_) => false,
     }
 }
 
 // No text comes so far: elaboration refuses it before.
 #[test]
 fn a_name_that_nothing_binds(rt: HostRuntime) -> Result<(), Fail> {
-    assert!(rt; is_unbound(rt.alloc())?);
+    let found = check_named(rt.alloc(), 2)?;
+    let is_so = is_unbound(&found);
+    drop(found);
+    assert!(rt; is_so);
     Ok(())
 }

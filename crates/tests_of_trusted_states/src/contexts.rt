@@ -1,7 +1,7 @@
 //! Terms checked in a context.
 
+use crate::loads::accepted;
 use bunch::{Bunch, Name, Order};
-use checked_program::accept;
 use core_term::{Node, Term};
 use delta_check::{TypeCause, TypeFault, check_in};
 use std::alloc::Global;
@@ -17,13 +17,16 @@ fn one_int(alloc: Global) -> Result<Vec<(Name, Ty)>, Memory> {
 
 // What is told of the name numbered 0 at the type, where it is a stream variable of type `Int`.
 fn told(alloc: Global, r: &Ty) -> Result<Result<(), TypeFault>, Fail> {
-    let accepted = accept(alloc, b"main(x : Int) : Int = x")?;
+    let accepted = accepted(alloc, b"main(x : Int) : Int = x")?;
     let vars = one_int(alloc)?;
     let order = Order::of_bunch(alloc, &Bunch::Leaf(Name(0), Ty::Int))?;
-    let n = Node {
-        at: 0,
-        term: Term::Var(Name(0)),
-    };
+    let n = Box::new(
+        alloc,
+        Node {
+            at: 0,
+            term: Term::Var(Name(0)),
+        },
+    )?;
     Ok(check_in(alloc, &accepted.checked, &[], &vars, &order, &n, r))
 }
 

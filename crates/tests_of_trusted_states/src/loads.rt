@@ -1,6 +1,6 @@
 //! Bytes that are read as kept states of a program, and others that are told apart from these.
 
-use checked_program::accept;
+use checked_program::{Accepted, accept};
 use core_term::Checked;
 use delta_keep::{Kept, KeptState};
 use kept_check::{KeepFault, load};
@@ -46,9 +46,15 @@ fn is_first_name(k: &Kept) -> bool {
     matches!(&*k.state, KeptState::Var(x) if x.0 == 0)
 }
 
+/// A text that is accepted.
+pub fn accepted(alloc: Global, text: &[u8]) -> Result<Box<Accepted>, Fail> {
+    let accepted = accept(alloc, text)?;
+    Ok(Box::new(alloc, accepted)?)
+}
+
 // Whether the bytes are read as a kept state of the program whose state is that name.
 fn loads_name(alloc: Global, text: &[u8], bytes: &[u8]) -> Result<bool, Fail> {
-    let accepted = accept(alloc, text)?;
+    let accepted = accepted(alloc, text)?;
     match load(alloc, &accepted.checked, bytes) {
         Ok(k) => Ok(is_first_name(&k)),
         Err(_) => Ok(false),
@@ -68,7 +74,7 @@ fn fault(alloc: Global, c: &Checked, bytes: &[u8]) -> Option<KeepFault> {
 
 // The same of the program of a text.
 fn told(alloc: Global, text: &[u8], bytes: &[u8]) -> Result<Option<KeepFault>, Fail> {
-    let accepted = accept(alloc, text)?;
+    let accepted = accepted(alloc, text)?;
     Ok(fault(alloc, &accepted.checked, bytes))
 }
 
@@ -114,60 +120,63 @@ fn told_changed(
     told(alloc, text, &changed(alloc, bytes, at, value)?)
 }
 
+// A byte of the first state, what it is set to, and what is wrong then.
+const FAULTS: &[(usize, u8, KeepFault)] = &[
+    (21, 1, KeepFault::Untyped(0)),
+    (3, 2, KeepFault::Version(2)),
+    (26, 1, KeepFault::Untyped(0)),
+    (4, 255, KeepFault::Untyped(0)),
+    (16, 1, KeepFault::Untyped(0)),
+    (20, 1, KeepFault::Form(21)),
+    (22, 11, KeepFault::Form(22)),
+];
+
 #[test]
 fn the_first_fault_is_told(rt: HostRuntime) -> Result<(), Fail> {
-    let rows = [
-        (21, 1, KeepFault::Untyped(0)),
-        (3, 2, KeepFault::Version(2)),
-        (26, 1, KeepFault::Untyped(0)),
-        (4, 255, KeepFault::Untyped(0)),
-        (16, 1, KeepFault::Untyped(0)),
-        (20, 1, KeepFault::Form(21)),
-        (22, 11, KeepFault::Form(22)),
-    ];
-    for (at, value, wanted) in rows {
-        assert!(rt; told_changed(rt.alloc(), SAME, ONE, at, value)? == Some(wanted));
+    for (at, value, wanted) in FAULTS {
+        assert!(rt; told_changed(rt.alloc(), SAME, ONE, *at, *value)?.as_ref() == Some(wanted));
     }
     Ok(())
 }
+
+// A byte of the held state, what it is set to, and the number of the state that isn't typed then.
+const UNTYPED: &[(usize, u8, u32)] = &[
+    // a parameter is bound again
+    (31, 0, 0),
+    // the type of x isn't a pair
+    (32, 3, 1),
+    // the end of a stream of numbers
+    (37, 2, 2),
+    // a name that isn't there, and one of another type
+    (42, 9, 3),
+    (42, 2, 3),
+    // another name holds something
+    (55, 9, 4),
+    // what is held is of another type, and of another one is left
+    (58, 2, 4),
+    // the name of a branch is bound before
+    (80, 3, 4),
+    // code that isn't deep enough
+    (121, 60, 4),
+];
 
 #[test]
 fn the_first_untyped_state_is_told(rt: HostRuntime) -> Result<(), Fail> {
-    let rows = [
-        // a parameter is bound again
-        (31, 0, 0),
-        // the type of x isn't a pair
-        (32, 3, 1),
-        // the end of a stream of numbers
-        (37, 2, 2),
-        // a name that isn't there, and one of another type
-        (42, 9, 3),
-        (42, 2, 3),
-        // another name holds something
-        (55, 9, 4),
-        // what is held is of another type, and of another one is left
-        (58, 2, 4),
-        // the name of a branch is bound before
-        (80, 3, 4),
-        // code that isn't deep enough
-        (121, 60, 4),
-    ];
-    for (at, value, number) in rows {
-        assert!(rt;
-            told_changed(rt.alloc(), CASE, HELD, at, value)? == Some(KeepFault::Untyped(number))
-        );
+    for (at, value, number) in UNTYPED {
+        let told = told_changed(rt.alloc(), CASE, HELD, *at, *value)?;
+        assert!(rt; told == Some(KeepFault::Untyped(*number)));
     }
     Ok(())
 }
 
+// The same of the state of a call: the argument, the body, the parameter's type, its name.
+const UNTYPED_OF_A_CALL: &[(usize, u8, u32)] = &[(36, 7, 1), (41, 7, 2), (31, 1, 1), (30, 5, 2)];
+
 #[test]
 fn the_first_untyped_state_of_a_call_is_told(rt: HostRuntime) -> Result<(), Fail> {
-    // the argument, the body, the parameter's type, its name
-    let rows = [(36, 7, 1), (41, 7, 2), (31, 1, 1), (30, 5, 2)];
-    for (at, value, number) in rows {
-        assert!(rt;
-            told_changed(rt.alloc(), CALL, FRAME, at, value)? == Some(KeepFault::Untyped(number))
-        );
+    for (at, value, number) in UNTYPED_OF_A_CALL {
+        let told = told_changed(rt.alloc(), CALL, FRAME, *at, *value)?;
+        assert!(rt; told == Some(KeepFault::Untyped(*number)));
     }
     Ok(())
 }
@@ -185,7 +194,7 @@ fn is_told_within(fault: Option<KeepFault>, count: usize) -> bool {
 
 // Whether it is so with each byte set to a value, one after the other.
 fn are_told(alloc: Global, text: &[u8], bytes: &[u8], value: u8) -> Result<bool, Fail> {
-    let accepted = accept(alloc, text)?;
+    let accepted = accepted(alloc, text)?;
     for at in 0..bytes.len() {
         let next = changed(alloc, bytes, at, value)?;
         if !is_told_within(fault(alloc, &accepted.checked, &next), bytes.len()) {

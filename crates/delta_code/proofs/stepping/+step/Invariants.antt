@@ -4,8 +4,8 @@ use Rattle.machine_parts.specs.Heft.{heft, heft_of_all}
 use Rattle.template_state.specs.Readers.{state_in, arguments_in}
 use Rattle.delta_code.proofs.stepping.+step.Given as goal
 
-abbrev pub decreases-step : goal.decreases-step
-decreases-step l = heft (state_in l.s.now)
+abbrev pub decreases-step_state : goal.decreases-step_state
+decreases-step_state l = heft (state_in l.s.now)
 
 abbrev pub decreases-step_both : goal.decreases-step_both
 decreases-step_both l = 1 + (heft (state_in l.a.now) + heft (state_in l.b.now))

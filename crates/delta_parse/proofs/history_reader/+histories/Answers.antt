@@ -1,16 +1,162 @@
+-- What the readers of historical expressions give, by what the readers of their parts give.
+use Rattle.std.proofs.Common.{ℕ, length, arith, refl}
+use Rattle.bunch.specs.declared.name.Name.{Name}
+use Rattle.delta_tree.specs.declared.expressions.Hist.{Hist}
+use Rattle.delta_tree.specs.SyntaxTree.{WrittenHist}
 use Rattle.delta_tree.specs.Tree.{hist_of}
+use Rattle.grammar.specs.Reading.{got}
 use Rattle.delta_parse.specs.Terminals.{plain_of, plains}
-use Rattle.delta_parse.proofs.Tails.{one_summand, one_factor}
+use Rattle.delta_parse.proofs.InTurn.{reads_is, was, token_read, then, made, stops, at_once, before_reads, before_most, found}
+use Rattle.delta_parse.proofs.FlatHistories as flat
 use Rattle.delta_parse.proofs.history_reader.+histories.Goals as goal
 
-pub read_summands-returns-clause-given : goal.read_summands-returns-clause-given
-read_summands-returns-clause-given t c =
-    let e = one_summand c.args.at (hist_of c.args.so_far) (hist_of c.in_ok-right.right) (plains c.args.tokens.now) (plain_of c.in-Some.sign) (plains c.in-Some.rest.now) (plains c.in_ok-right.rest.now) c.in-Some.ensures.some c.in-Some.ensures.kind c.in_ok-right.ensures.given in
-    let g = (rw (c.in_ok-historical.ensures, c.operation.ensures) at c.read_summands.ensures.given) in
-    rw e g
+abbrev branch_tree : Name × Hist → ℕ × WrittenHist
+branch_tree p = (p.0.0, hist_of p.1)
 
-pub read_factors-returns-clause-given : goal.read_factors-returns-clause-given
-read_factors-returns-clause-given t c =
-    let e = one_factor c.args.at (hist_of c.args.so_far) (hist_of c.in_ok-right.right) (plains c.args.tokens.now) (plain_of c.in-Some.sign) (plains c.in-Some.rest.now) (plains c.in_ok-right.rest.now) c.in-Some.ensures.some c.in-Some.ensures.kind c.in_ok-right.ensures.given in
-    let g = (rw (c.in_ok-historical.ensures, c.operation.ensures) at c.read_factors.ensures.given) in
-    rw e g
+pub history-returns-then-starts_with : goal.history-returns-then-starts_with
+history-returns-then-starts_with t c = reads_is (flat.history_fold (plains c.args.tokens.now) (found c.starts_with.ensures.value c.if-starts_with.true)) c.read_fold.ensures
+
+pub history-returns-then-starts_with-2 : goal.history-returns-then-starts_with-2
+history-returns-then-starts_with-2 t c = reads_is (flat.history_choice (plains c.args.tokens.now) (found c.starts_with.ensures.value c.if-starts_with.false) (found c.starts_with-2.ensures.value c.if-starts_with-2.true)) c.read_choice.ensures
+
+pub history-returns-in-Some : goal.history-returns-in-Some
+history-returns-in-Some t c = reads_is (flat.history_cons (plains c.args.tokens.now) (found c.starts_with.ensures.value c.if-starts_with.false) (found c.starts_with-2.ensures.value c.if-starts_with-2.false)) (then _ c.in-Ok.ensures (token_read c.in-Some.ensures.shorter (flat.tail_more _ _ _ _ _ c.in-Some.ensures.some c.in-Some.ensures.kind) (rw c.place.ensures at (c.paired.ensures _ _ c.history-others.ensures))))
+
+pub history-returns-in-None : goal.history-returns-in-None
+history-returns-in-None t c = reads_is (flat.history_cons (plains c.args.tokens.now) (found c.starts_with.ensures.value c.if-starts_with.false) (found c.starts_with-2.ensures.value c.if-starts_with-2.false)) (made _ c.in-Ok.ensures (λ m l. at_once l (flat.tail_alone _ _ _ c.in-None.ensures.none)))
+
+pub history-returns-in-Err : goal.history-returns-in-Err
+history-returns-in-Err t c = reads_is (flat.history_cons (plains c.args.tokens.now) (found c.starts_with.ensures.value c.if-starts_with.false) (found c.starts_with-2.ensures.value c.if-starts_with-2.false)) (stops _ c.in-Err.ensures)
+
+pub read_fold-returns-in-Err : goal.read_fold-returns-in-Err
+read_fold-returns-in-Err t c = reads_is (flat.fold_flat (plains c.args.tokens.now)) (stops _ c.in-Err.ensures)
+
+pub read_fold-returns-in-Err-followed_by : goal.read_fold-returns-in-Err-followed_by
+read_fold-returns-in-Err-followed_by t c = reads_is (flat.fold_flat (plains c.args.tokens.now)) (then _ c.in-Ok.ensures (stops _ (before_reads hist_of c.in-Err-followed_by.ensures c.history.ensures)))
+
+pub read_fold-returns-in-Ok-followed_by : goal.read_fold-returns-in-Ok-followed_by
+read_fold-returns-in-Ok-followed_by t c = reads_is (flat.fold_flat (plains c.args.tokens.now)) (then _ c.in-Ok.ensures (then _ (before_reads hist_of c.in-Ok-followed_by.ensures c.history.ensures) c.read_fold_on.ensures))
+
+pub read_fold_on-returns-in-Err : goal.read_fold_on-returns-in-Err
+read_fold_on-returns-in-Err t c = stops _ (before_reads hist_of c.in-Err.ensures c.history.ensures)
+
+pub read_fold_on-returns-in-Err-read_two_names : goal.read_fold_on-returns-in-Err-read_two_names
+read_fold_on-returns-in-Err-read_two_names t c = then _ (before_reads hist_of c.in-Ok.ensures c.history.ensures) (stops _ c.in-Err-read_two_names.ensures)
+
+pub read_fold_on-returns-in-Ok-read_two_names : goal.read_fold_on-returns-in-Ok-read_two_names
+read_fold_on-returns-in-Ok-read_two_names t c = then _ (before_reads hist_of c.in-Ok.ensures c.history.ensures) (then _ c.in-Ok-read_two_names.ensures (c.fold_done.ensures _ _ c.history-in-Ok-read_two_names.ensures))
+
+pub read_choice-returns-in-Err : goal.read_choice-returns-in-Err
+read_choice-returns-in-Err t c = reads_is (flat.choice_flat (plains c.args.tokens.now)) (stops _ c.in-Err.ensures)
+
+pub read_choice-returns-in-Err-followed_by : goal.read_choice-returns-in-Err-followed_by
+read_choice-returns-in-Err-followed_by t c = reads_is (flat.choice_flat (plains c.args.tokens.now)) (then _ c.in-Ok.ensures (stops _ (before_reads hist_of c.in-Err-followed_by.ensures (before_reads hist_of c.followed_by-subject.ensures c.history.ensures))))
+
+pub read_choice-returns-in-Ok-followed_by : goal.read_choice-returns-in-Ok-followed_by
+read_choice-returns-in-Ok-followed_by t c = reads_is (flat.choice_flat (plains c.args.tokens.now)) (then _ c.in-Ok.ensures (then _ (before_reads hist_of c.in-Ok-followed_by.ensures (before_reads hist_of c.followed_by-subject.ensures c.history.ensures)) c.read_choice_on.ensures))
+
+pub read_choice_on-returns-in-Err : goal.read_choice_on-returns-in-Err
+read_choice_on-returns-in-Err t c = stops _ (before_reads branch_tree c.in-Err.ensures c.read_branch.ensures)
+
+pub read_choice_on-returns-in-Ok : goal.read_choice_on-returns-in-Ok
+read_choice_on-returns-in-Ok t c = then _ (before_reads branch_tree c.in-Ok.ensures c.read_branch.ensures) (c.choice_done.ensures _ _ (before_reads branch_tree c.followed_by-right.ensures c.read_branch-right.ensures))
+
+pub read_branch-returns-in-Err : goal.read_branch-returns-in-Err
+read_branch-returns-in-Err t c = reads_is (flat.branch_flat c.args.word (plains c.args.tokens.now)) (stops _ c.in-Err.ensures)
+
+pub read_branch-returns-in-Ok : goal.read_branch-returns-in-Ok
+read_branch-returns-in-Ok t c = reads_is (flat.branch_flat c.args.word (plains c.args.tokens.now)) (then _ c.in-Ok.ensures (c.branch_done.ensures _ _ c.history.ensures))
+
+pub read_comparison-returns-in-Err : goal.read_comparison-returns-in-Err
+read_comparison-returns-in-Err t c = reads_is (flat.comparison_flat (plains c.args.tokens.now)) (stops _ c.in-Err.ensures)
+
+pub read_comparison-returns-in-None : goal.read_comparison-returns-in-None
+read_comparison-returns-in-None t c = reads_is (flat.comparison_flat (plains c.args.tokens.now)) (made _ c.in-Ok.ensures (λ m l. at_once l (flat.other_alone _ _ _ c.in-None.ensures.none)))
+
+pub read_comparison-returns-in-Some : goal.read_comparison-returns-in-Some
+read_comparison-returns-in-Some t c = reads_is (flat.comparison_flat (plains c.args.tokens.now)) (then _ c.in-Ok.ensures (token_read c.in-Some.ensures.shorter (flat.other_more _ _ _ _ _ c.in-Some.ensures.some c.in-Some.ensures.kind) (rw c.place.ensures at (c.reckoned.ensures _ _ c.read_sum-right.ensures))))
+
+pub read_sum-returns-in-Err : goal.read_sum-returns-in-Err
+read_sum-returns-in-Err t c = reads_is (flat.sum_flat (plains c.args.tokens.now)) (stops _ c.in-Err.ensures)
+
+pub read_sum-returns-in-Ok : goal.read_sum-returns-in-Ok
+read_sum-returns-in-Ok t c = reads_is (flat.sum_flat (plains c.args.tokens.now)) (made _ c.in-Ok.ensures (rw c.place.ensures at c.read_summands.ensures))
+
+pub read_summands-returns-in-None : goal.read_summands-returns-in-None
+read_summands-returns-in-None t c n l = at_once l (flat.summands_none _ _ _ c.in-None.ensures.none)
+
+pub read_summands-returns-in-Ok : goal.read_summands-returns-in-Ok
+read_summands-returns-in-Ok t c n l =
+    let s = c.in-Some.ensures.shorter in
+    token_read (omega (arith, s, l)) (flat.summands_more _ _ _ _ _ c.in-Some.ensures.some c.in-Some.ensures.kind) (made _ (was c.in-Ok.is (c.reckoned.ensures _ _ c.read_product-right.ensures)) c.read_summands.ensures)
+
+pub read_summands-returns-in-Err : goal.read_summands-returns-in-Err
+read_summands-returns-in-Err t c n l = reads_is (flat.summands_more _ _ _ _ _ c.in-Some.ensures.some c.in-Some.ensures.kind) (stops _ (was c.in-Err.is (c.reckoned.ensures _ _ c.read_product-right.ensures)))
+
+pub read_product-returns-in-Err : goal.read_product-returns-in-Err
+read_product-returns-in-Err t c = reads_is (flat.product_flat (plains c.args.tokens.now)) (stops _ c.in-Err.ensures)
+
+pub read_product-returns-in-Ok : goal.read_product-returns-in-Ok
+read_product-returns-in-Ok t c = reads_is (flat.product_flat (plains c.args.tokens.now)) (made _ c.in-Ok.ensures (rw c.place.ensures at c.read_factors.ensures))
+
+pub read_factors-returns-in-None : goal.read_factors-returns-in-None
+read_factors-returns-in-None t c n l = at_once l (flat.factors_none _ _ _ c.in-None.ensures.none)
+
+pub read_factors-returns-in-Ok : goal.read_factors-returns-in-Ok
+read_factors-returns-in-Ok t c n l =
+    let s = c.in-Some.ensures.shorter in
+    token_read (omega (arith, s, l)) (flat.factors_more _ _ _ _ _ c.in-Some.ensures.some c.in-Some.ensures.kind) (made _ (was c.in-Ok.is (c.reckoned.ensures _ _ c.read_unary-right.ensures)) c.read_factors.ensures)
+
+pub read_factors-returns-in-Err : goal.read_factors-returns-in-Err
+read_factors-returns-in-Err t c n l = reads_is (flat.factors_more _ _ _ _ _ c.in-Some.ensures.some c.in-Some.ensures.kind) (stops _ (was c.in-Err.is (c.reckoned.ensures _ _ c.read_unary-right.ensures)))
+
+pub read_unary-returns-in-Some : goal.read_unary-returns-in-Some
+read_unary-returns-in-Some t c = token_read c.in-Some.ensures.shorter (flat.unary_prefix _ _ _ c.in-Some.ensures.some c.in-Some.ensures.kind) (c.prefix_done.ensures _ _ c.read_unary-inner.ensures)
+
+pub read_unary-returns : goal.read_unary-returns
+read_unary-returns t c = reads_is (flat.unary_atom (plains c.args.tokens.now) c.in_default.ensures.none) c.read_history_atom.ensures
+
+pub read_history_atom-returns-in-Some : goal.read_history_atom-returns-in-Some
+read_history_atom-returns-in-Some t c = reads_is (flat.atom_name _ _ _ c.in-Some.ensures.some c.in-Some.ensures.kind) (c.whole_history.ensures _ c.in-Some.ensures.shorter)
+
+pub read_history_atom-returns-in-Some-accept_either : goal.read_history_atom-returns-in-Some-accept_either
+read_history_atom-returns-in-Some-accept_either t c = reads_is (flat.atom_number _ _ _ c.in_default.ensures.none c.in-Some-accept_either.ensures.some c.in-Some-accept_either.ensures.kind) (c.whole_number.ensures _ c.in-Some-accept_either.ensures.shorter)
+
+pub read_history_atom-returns-in-Some-accept : goal.read_history_atom-returns-in-Some-accept
+read_history_atom-returns-in-Some-accept t c = token_read c.in-Some-accept.ensures.shorter (flat.atom_negative _ _ _ c.in_default.ensures.none c.in_default-accept_either.ensures.none c.in-Some-accept.ensures.some c.in-Some-accept.ensures.kind) c.read_negative.ensures
+
+pub read_history_atom-returns-in-Some-accept-2 : goal.read_history_atom-returns-in-Some-accept-2
+read_history_atom-returns-in-Some-accept-2 t c = reads_is (flat.atom_nil _ _ _ c.in_default.ensures.none c.in_default-accept_either.ensures.none c.in_default-accept.ensures.none c.in-Some-accept-2.ensures.some c.in-Some-accept-2.ensures.kind) (c.whole_history-in-Some-accept-2.ensures _ c.in-Some-accept-2.ensures.shorter)
+
+pub read_history_atom-returns : goal.read_history_atom-returns
+read_history_atom-returns t c = reads_is (flat.atom_bracket (plains c.args.tokens.now) c.in_default.ensures.none c.in_default-accept_either.ensures.none c.in_default-accept.ensures.none c.in_default-accept-2.ensures.none) c.read_history_bracket.ensures
+
+pub read_history_bracket-returns-in-Some : goal.read_history_bracket-returns-in-Some
+read_history_bracket-returns-in-Some t c = reads_is (flat.bracket_flat (plains c.args.tokens.now)) (then _ c.in-Ok.ensures (reads_is (flat.inside_none (plain_of c.in-Ok.open) _ _ _ c.in-Some.ensures.some c.in-Some.ensures.kind) (c.whole_history.ensures _ c.in-Some.ensures.shorter)))
+
+pub read_history_bracket-returns-in-Ok-history : goal.read_history_bracket-returns-in-Ok-history
+read_history_bracket-returns-in-Ok-history t c = reads_is (flat.bracket_flat (plains c.args.tokens.now)) (then _ c.in-Ok.ensures (reads_is (flat.inside_some (plain_of c.in-Ok.open) _ c.in_default.ensures.none) (then _ c.in-Ok-history.ensures c.read_second.ensures)))
+
+pub read_history_bracket-returns-in-Err-history : goal.read_history_bracket-returns-in-Err-history
+read_history_bracket-returns-in-Err-history t c = reads_is (flat.bracket_flat (plains c.args.tokens.now)) (then _ c.in-Ok.ensures (reads_is (flat.inside_some (plain_of c.in-Ok.open) _ c.in_default.ensures.none) (stops _ c.in-Err-history.ensures)))
+
+pub read_history_bracket-returns-in-Err : goal.read_history_bracket-returns-in-Err
+read_history_bracket-returns-in-Err t c = reads_is (flat.bracket_flat (plains c.args.tokens.now)) (stops _ c.in-Err.ensures)
+
+pub read_second-returns-in-Some : goal.read_second-returns-in-Some
+read_second-returns-in-Some t c = token_read c.in-Some.ensures.shorter (flat.second_some (plain_of c.args.bracket) (hist_of c.args.inner) _ _ _ c.in-Some.ensures.some c.in-Some.ensures.kind) (c.paired.ensures _ _ (before_reads hist_of c.followed_by-second.ensures c.history.ensures))
+
+pub read_second-returns-in-None : goal.read_second-returns-in-None
+read_second-returns-in-None t c = reads_is (flat.second_none (plain_of c.args.bracket) (hist_of c.args.inner) (plains c.args.tokens.now) c.in-None.ensures.none) (before_most hist_of (got (hist_of c.args.inner) (plains c.args.tokens.now)) (length c.args.tokens.now) c.followed_by.ensures refl (omega arith))
+
+pub read_summands-read_summands-requires : goal.read_summands-read_summands-requires
+read_summands-read_summands-requires t c =
+    let s = (was c.in-Ok.is (c.reckoned.ensures _ _ c.read_product-right.ensures)).shorter in
+    let k = c.in-Some.ensures.shorter in
+    omega arith
+
+pub read_factors-read_factors-requires : goal.read_factors-read_factors-requires
+read_factors-read_factors-requires t c =
+    let s = (was c.in-Ok.is (c.reckoned.ensures _ _ c.read_unary-right.ensures)).shorter in
+    let k = c.in-Some.ensures.shorter in
+    omega arith

@@ -1,8 +1,8 @@
 use Rattle.std.proofs.Common.{◌+◌, ◌*◌, length}
 use Rattle.delta_parse.proofs.history_reader.+histories.Given as goal
 
-abbrev pub decreases-read_history : goal.decreases-read_history
-decreases-read_history l = length l.tokens.now * 16 + 8
+abbrev pub decreases-history : goal.decreases-history
+decreases-history l = length l.tokens.now * 16 + 8
 
 abbrev pub decreases-read_fold : goal.decreases-read_fold
 decreases-read_fold l = length l.tokens.now * 16 + 7
@@ -36,3 +36,12 @@ decreases-read_history_atom l = length l.tokens.now * 16 + 1
 
 abbrev pub decreases-read_history_bracket : goal.decreases-read_history_bracket
 decreases-read_history_bracket l = length l.tokens.now * 16 + 0
+
+abbrev pub decreases-read_fold_on : goal.decreases-read_fold_on
+decreases-read_fold_on l = length l.tokens.now * 16 + 9
+
+abbrev pub decreases-read_choice_on : goal.decreases-read_choice_on
+decreases-read_choice_on l = length l.tokens.now * 16 + 1
+
+abbrev pub decreases-read_second : goal.decreases-read_second
+decreases-read_second l = length l.tokens.now * 16 + 0

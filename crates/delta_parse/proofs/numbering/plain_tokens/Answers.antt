@@ -1,7 +1,6 @@
-use Rattle.std.proofs.Common.{◌≡◌, ◌∙◌, ◌+◌, ◌<◌, ◌++◌, ◌∷◌, [], ap, length, drop, arith}
-use Rattle.std.proofs.lemmas.List.{map-append}
+use Rattle.std.proofs.Common.{◌∙◌, ◌+◌, ◌<◌, ◌++◌, ap, refl, length, drop, arith}
 use Rattle.delta_lex.specs.Tokens.{lexemes}
-use Rattle.delta_parse.specs.Terminals.{plains, plain_of}
+use Rattle.delta_parse.specs.Terminals.{plains}
 use Rattle.delta_parse.specs.Plain.{numbered, texts_of}
 use Rattle.delta_parse.proofs.Numbers.{numbered_step, names_step, few_after}
 use Rattle.delta_parse.proofs.numbering.plain_tokens.Goals as goal
@@ -13,14 +12,13 @@ loop-token-preserved c =
     let below : i < length ts = omega arith in
     let found = c.loop-token.found.items in
     let names = texts_of c.loop-token.names in
-    let more = texts_of c.plain_token.new.names in
-    let plain = c.in_ok-plain.plain in
-    let longer : plains c.push.new.self.items ≡ plains found ++ (plain_of plain ∷ []) = ap plains c.in_ok-push.ensures.items ∙ map-append plain_of found (plain ∷ []) in
-    let held = few_after names more _ _ c.in_ok-plain.ensures.names in
+    let more = texts_of c.put_token.new.names in
+    let longer = c.in_ok-put_token.ensures.plain in
+    let held = few_after names more _ _ c.in_ok-put_token.ensures.names in
     let few = c.loop-token.invariant.few in
     record {
-      so_far = ap (λ xs. xs ++ numbered more (lexemes (drop (i + 1) ts))) longer ∙ numbered_step ts i _ (plains found) names more (plain_of plain) _ below c.in_ok-plain.ensures.plain c.in_ok-plain.ensures.names c.loop-token.invariant.so_far;
-      rest = names_step ts i _ names more _ below c.in_ok-plain.ensures.names c.loop-token.invariant.rest;
-      same = c.in_ok-plain.ensures.same;
+      so_far = ap (λ xs. xs ++ numbered more (lexemes (drop (i + 1) ts))) longer ∙ numbered_step ts i _ (plains found) names more _ _ below refl c.in_ok-put_token.ensures.names c.loop-token.invariant.so_far;
+      rest = names_step ts i _ names more _ below c.in_ok-put_token.ensures.names c.loop-token.invariant.rest;
+      same = c.in_ok-put_token.ensures.same;
       few = omega arith;
     }

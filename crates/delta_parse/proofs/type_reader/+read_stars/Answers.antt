@@ -1,10 +1,16 @@
-use Rattle.delta_tree.specs.Tree.{type_tree_of}
-use Rattle.delta_parse.specs.Terminals.{plain_of, plains}
-use Rattle.delta_parse.proofs.Tails.{one_star}
+-- One star more, or none.
+use Rattle.std.proofs.Common.{arith}
+use Rattle.delta_parse.proofs.InTurn.{reads_is, at_once, refused}
+use Rattle.delta_parse.proofs.FlatTypes as flat
 use Rattle.delta_parse.proofs.type_reader.+read_stars.Goals as goal
 
-pub returns-clause-given : goal.returns-clause-given
-returns-clause-given t c =
-    let e = one_star c.args.at (type_tree_of c.args.so_far) (plains c.args.tokens.now) (plain_of c.in-Some._star) (plains c.in-Some.rest.now) c.in-Some.ensures.some c.in-Some.ensures.kind in
-    let g = (rw c.in_ok-written_type.ensures at c.read_stars.ensures.given) in
-    rw e g
+pub returns-in-None : goal.returns-in-None
+returns-in-None t c n l = at_once l (flat.stars_none _ _ _ c.in-None.ensures.none)
+
+pub returns-in-Ok : goal.returns-in-Ok
+returns-in-Ok t c n l =
+    let s = c.in-Some.ensures.shorter in
+    reads_is (flat.stars_more _ _ _ _ _ c.in-Some.ensures.some c.in-Some.ensures.kind) (rw c.in-Ok.ensures at (c.read_stars.ensures n (omega (arith, s, l))))
+
+pub returns-in-Err : goal.returns-in-Err
+returns-in-Err t c n l = refused

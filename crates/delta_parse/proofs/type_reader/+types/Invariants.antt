@@ -1,8 +1,8 @@
 use Rattle.std.proofs.Common.{◌+◌, ◌*◌, length}
 use Rattle.delta_parse.proofs.type_reader.+types.Given as goal
 
-abbrev pub decreases-read_type : goal.decreases-read_type
-decreases-read_type l = length l.tokens.now * 8 + 5
+abbrev pub decreases-read_sum : goal.decreases-read_sum
+decreases-read_sum l = length l.tokens.now * 8 + 5
 
 abbrev pub decreases-read_par : goal.decreases-read_par
 decreases-read_par l = length l.tokens.now * 8 + 4

@@ -1,4 +1,4 @@
--- What a call binds.
+-- What the forms bind, and a call.
 use Rattle.std.proofs.Common.{◌≡◌, ◌∙◌, ◌++◌, ℕ, List, map, ap, append_assoc, refl}
 use Rattle.bunch.specs.Names.{numbers_of}
 use Rattle.hist_value.specs.HistExpr.{expr_of}
@@ -14,6 +14,18 @@ add_bound-returns-in-Call t c =
     let whole : term_of c.args.n.now ≡ call_term c.in-Call.field-0 (map expr_of c.in-Call.past.items) (terms_from (map term_of c.in-Call.arguments.items)) =
     rw c.in-Call.is (term_in-call c.in-Call.field-0 c.in-Call.past c.in-Call.arguments) in
     rw whole (rw (c.deref-in-Call.ensures.value, c.deref-in-Call-2.ensures.value) at c.add_of_call.ensures)
+
+pub add_bound-returns-in-Let : goal.add_bound-returns-in-Let
+add_bound-returns-in-Let t c = rw c.in-Let.is (rw (c.deref.ensures, c.deref-in-Let.ensures) at c.add_parts.ensures)
+
+pub add_bound-returns-in-CaseSum : goal.add_bound-returns-in-CaseSum
+add_bound-returns-in-CaseSum t c = rw c.in-CaseSum.is (rw (c.deref-in-CaseSum.ensures, c.deref-in-CaseSum-2.ensures) at c.add_parts-in-CaseSum.ensures)
+
+pub add_bound-returns-in-CaseStar : goal.add_bound-returns-in-CaseStar
+add_bound-returns-in-CaseStar t c = rw c.in-CaseStar.is (rw (c.deref-in-CaseStar.ensures, c.deref-in-CaseStar-2.ensures) at c.add_parts-in-CaseStar.ensures)
+
+pub add_bound-returns-in-Past : goal.add_bound-returns-in-Past
+add_bound-returns-in-Past t c = rw c.in-Past.is c.add_bound_in_expr.ensures
 
 abbrev bound_by : List Node → List ℕ
 bound_by terms = bound_in_terms (terms_from (map term_of terms))

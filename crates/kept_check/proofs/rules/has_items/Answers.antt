@@ -11,12 +11,11 @@ use Rattle.kept_check.specs.Judging.{funs_of}
 use Rattle.kept_check.proofs.StateForms.{fails, item_told}
 use Rattle.kept_check.proofs.rules.has_items.Goals as goal
 
-pub returns-then-not-is_of_form : goal.returns-then-not-is_of_form
-returns-then-not-is_of_form c =
+pub returns-in-None : goal.returns-in-None
+returns-in-None c =
     let d = context_in c.args.scope.now in
     let z = c.args.z.0 in
-    fails (HasForm d z (star (star_item (type_at d z)))) (IsGoodStar (funs_of c.args.judge.now) c.args.judge.now.depth d z (later_of c.args.l.now) c.args.y.0 c.args.ys.0 (later_of c.args.m.now) (type_of c.args.r.now)) (λ g. g.subject)
-    (iff_false c.is_of_form.ensures c.if-not-is_of_form.true)
+    fails (HasForm d z (star (star_item (type_at d z)))) (IsGoodStar (funs_of c.args.judge.now) c.args.judge.now.depth d z (later_of c.args.l.now) c.args.y.0 c.args.ys.0 (later_of c.args.m.now) (type_of c.args.r.now)) (λ g. g.subject) c.in-None.ensures.none
 
 pub returns-in-Ok-false : goal.returns-in-Ok-false
 returns-in-Ok-false c =
@@ -28,5 +27,5 @@ returns-in-Ok-false c =
 
 pub returns-in-Ok-true : goal.returns-in-Ok-true
 returns-in-Ok-true c =
-    item_told (funs_of c.args.judge.now) c.args.judge.now.depth (context_in c.args.scope.now) c.args.z.0 c.is_good-in-Ok-true.result (later_of c.args.l.now) c.args.y.0 c.args.ys.0 (later_of c.args.m.now) (type_of c.args.r.now)
-    (c.is_of_form.ensures.0 c.if-not-is_of_form.false) (c.in-Ok-true.ensures.0 c.in-Ok-true.field-0-test) (rw (c.star_types.ensures.item, c.star_types.ensures.items, c.type_or.ensures) at c.is_good-in-Ok-true.ensures)
+    item_told (funs_of c.args.judge.now) c.args.judge.now.depth (context_in c.args.scope.now) c.args.z.0 c.is_good_item.result (later_of c.args.l.now) c.args.y.0 c.args.ys.0 (later_of c.args.m.now) (type_of c.args.r.now)
+    c.in-Some.ensures.some.whole (c.in-Ok-true.ensures.0 c.in-Ok-true.field-0-test) (rw (c.in-Some.ensures.some.first, c.in-Some.ensures.some.second) at c.is_good_item.ensures)

@@ -2,7 +2,7 @@
 use Rattle.std.proofs.Common.{[]}
 use Rattle.filled_states.proofs.FilledStates.{filled_with_none}
 use Rattle.state_shapes.specs.Makes.{boxed_state}
-use Rattle.state_shapes.proofs.Making.{makes_same}
+use Rattle.template_state.proofs.Making.{makes_same}
 use Rattle.state_shapes.proofs.filling.copy.Goals as goal
 
 pub returns : goal.returns

@@ -5,7 +5,7 @@ use Rattle.stream_prefix.specs.Tree.{prefix_of, star_of, end_of}
 use Rattle.stream_prefix.proofs.Rows.{prefix_of-star}
 use Rattle.state_shapes.specs.From.{prefix_from}
 use Rattle.state_shapes.proofs.Rows.{exchanged-star_of}
-use Rattle.state_shapes.proofs.Growing.{goes_if, goes_first, goes_so, goes_then, goes_no_further, goes_further, goes_last, one_more, none_left}
+use Rattle.state_shapes.proofs.Growing.{stops, goes_if, goes_first, goes_so, goes_then, goes_no_further, goes_further, goes_last, one_more, none_left}
 use Rattle.state_shapes.proofs.matching_values.+prefix_goes.Goals as goal
 
 pub prefix_goes-returns-in-Par-Par : goal.prefix_goes-returns-in-Par-Par
@@ -63,3 +63,9 @@ end_goes-returns-in-First-First t c =
 
 pub prefixes_go-returns : goal.prefixes_go-returns
 prefixes_go-returns t c = goes_last _ c.loop-shape.invariant (λ e x f. f (none_left prefix_of (prefix_from x) c.args.shapes.now c.loop-shape.others.now c.loop-shape.shape-index c.is_empty.ensures c.loop-shape-test.false e))
+
+pub prefix_goes-returns-then-not-goes_on : goal.prefix_goes-returns-then-not-goes_on
+prefix_goes-returns-then-not-goes_on t c = stops c.if-not-goes_on.ensures.1
+
+pub end_goes-returns-then-not-goes_on : goal.end_goes-returns-then-not-goes_on
+end_goes-returns-then-not-goes_on t c = stops c.if-not-goes_on.ensures.1

@@ -1,9 +1,9 @@
 -- The template of each form.
 use Rattle.std.proofs.Common.{sym, ap, ◌∙◌}
-use Rattle.core_term.specs.CoreTerm.{term_in}
+use Rattle.core_term.specs.CoreTerm.{term_in, term_of}
 use Rattle.core_term.proofs.Rows.{term_in-call}
 use Rattle.template_state.specs.Readers.{shared_term}
-use Rattle.template_kept.proofs.Making.{makes_same}
+use Rattle.template_state.proofs.Making.{makes_same, makes_both, made_next, made_whole}
 use Rattle.template_kept.proofs.compiling.+op.Goals as goal
 
 pub op-returns-in-Var : goal.op-returns-in-Var
@@ -58,3 +58,13 @@ pub op-returns-in-Call : goal.op-returns-in-Call
 op-returns-in-Call t c =
     makes_same shared_term c.call_of.result _ _ (sym (ap term_in c.in-Call.is ∙ term_in-call c.in-Call.f c.in-Call.ms c.in-Call.es))
     (rw c.deref-in-Call.ensures.value at (c.call_of.ensures _ (rw c.deref-in-Call-2.ensures.value at c.ops.ensures)))
+
+pub both-returns : goal.both-returns
+both-returns t c = makes_both shared_term c.op.result c.op-2.result c.pair.result _ _ c.op.ensures c.op-2.ensures c.pair.ensures
+
+pub ops-loop-node-preserved : goal.ops-loop-node-preserved
+ops-loop-node-preserved t c =
+    made_next shared_term term_of c.loop-node.made.items _ c.args.nodes.now c.loop-node.node-index c.node-item.result c.op.result c.loop-node-test.true c.node-item.is c.op.ensures c.in_ok-made.ensures c.loop-node.invariant
+
+pub ops-returns : goal.ops-returns
+ops-returns t c = made_whole shared_term term_of c.loop-node.made.items c.args.nodes.now c.loop-node.node-index c.loop-node-test.false c.loop-node.invariant

@@ -1,8 +1,8 @@
--- Each form, kept.
+-- Each form, kept, and one argument before others.
 use Rattle.std.proofs.Common.{sym, ap}
 use Rattle.template_state.specs.Readers.{state_in}
 use Rattle.template_kept.specs.Makes.{kept_in}
-use Rattle.template_kept.proofs.Making.{makes_same}
+use Rattle.template_state.proofs.Making.{makes_same}
 use Rattle.template_kept.proofs.keeping.+keep.Goals as goal
 
 pub keep-returns-in-Sink : goal.keep-returns-in-Sink
@@ -37,3 +37,6 @@ keep-returns-in-Wait t c = makes_same kept_in c.waiting.result _ _ (sym (ap stat
 
 pub keep-returns-in-Frame : goal.keep-returns-in-Frame
 keep-returns-in-Frame t c = makes_same kept_in c.framed.result _ _ (sym (ap state_in c.in-Frame.is)) (c.framed.ensures _ _ (rw c.deref-in-Frame.ensures at c.keep_all.ensures) (rw c.deref-in-Frame-2.ensures at c.keep-in-Frame.ensures))
+
+pub keep_all-returns-in-Before : goal.keep_all-returns-in-Before
+keep_all-returns-in-Before t c = rw c.in-Before.is (c.before-in-Before.ensures _ _ (rw c.deref.ensures at c.keep.ensures) (rw c.deref-in-Before.ensures at c.keep_all.ensures))

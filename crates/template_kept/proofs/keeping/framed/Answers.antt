@@ -4,7 +4,7 @@ use Rattle.delta_state.specs.StateTree.{frame_state}
 use Rattle.delta_keep.specs.KeptView.{state_of}
 use Rattle.template_kept.specs.KeptArguments.{arguments_from}
 use Rattle.template_kept.specs.Makes.{kept_in}
-use Rattle.template_kept.proofs.Making.{makes_same}
+use Rattle.template_state.proofs.Making.{makes_same}
 use Rattle.template_kept.proofs.Rows.{arguments_of-hidden}
 use Rattle.template_kept.proofs.keeping.framed.Goals as goal
 

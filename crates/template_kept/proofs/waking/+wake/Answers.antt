@@ -1,9 +1,9 @@
--- Each form, woken.
+-- Each form, woken, and one argument before others.
 use Rattle.std.proofs.Common.{sym, ap, ◌∙◌}
 use Rattle.delta_state.specs.StateTree.{frame_state}
 use Rattle.delta_keep.specs.KeptView.{state_of}
 use Rattle.template_kept.specs.Makes.{live_in}
-use Rattle.template_kept.proofs.Making.{makes_same}
+use Rattle.template_state.proofs.Making.{makes_same}
 use Rattle.template_kept.proofs.Rows.{arguments_of-hidden}
 use Rattle.template_kept.proofs.waking.+wake.Goals as goal
 
@@ -41,3 +41,7 @@ pub wake-returns-in-Frame : goal.wake-returns-in-Frame
 wake-returns-in-Frame t c =
     makes_same live_in c.framed.result _ _ (sym (ap state_of c.in-Frame.is ∙ ap (λ args. frame_state args (state_of c.in-Frame.a.value)) (arguments_of-hidden c.in-Frame.args)))
     (c.framed.ensures _ _ (rw c.deref-in-Frame.ensures.value at c.wake_all.ensures) (rw c.deref-in-Frame-2.ensures at c.wake-in-Frame.ensures))
+
+pub wake_all-returns-in-Some : goal.wake_all-returns-in-Some
+wake_all-returns-in-Some t c =
+    rw c.in-Some.ensures.cases.0 (rw c.deref-in-Some.ensures at (c.before-in-Some.ensures _ _ (rw c.deref.ensures at c.wake-state.ensures) c.wake_all.ensures))

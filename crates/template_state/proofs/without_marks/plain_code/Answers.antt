@@ -2,5 +2,5 @@
 use Rattle.std.proofs.Common.{rules}
 use Rattle.template_state.proofs.without_marks.plain_code.Goals as goal
 
-pub returns : goal.returns
-returns c = search rules
+pub returns-in-Ok : goal.returns-in-Ok
+returns-in-Ok c = search rules

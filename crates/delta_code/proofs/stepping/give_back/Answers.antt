@@ -1,6 +1,0 @@
--- The mark moves on over what came.
-use Rattle.std.proofs.Common.{rules}
-use Rattle.delta_code.proofs.stepping.give_back.Goals as goal
-
-pub returns : goal.returns
-returns c = search rules

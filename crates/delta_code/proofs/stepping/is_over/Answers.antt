@@ -1,6 +1,0 @@
--- A wait asks whether its subject is whole.
-use Rattle.std.proofs.Common.{rules}
-use Rattle.delta_code.proofs.stepping.is_over.Goals as goal
-
-pub returns : goal.returns
-returns c = search rules
