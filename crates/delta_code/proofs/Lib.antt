@@ -8,3 +8,5 @@ pub mod Chain
 pub mod Lets
 pub mod Taking
 pub mod GoingOn
+pub mod FreeStateRests
+pub mod SideBySide

@@ -21,6 +21,7 @@ use Rattle.machine_kept.specs.Keeping.{KeepsTidy, KeepsSince}
 use Rattle.template_state.specs.declared.code.Code.{Code}
 use Rattle.template_state.specs.Readers.{state_in}
 use Rattle.template_state.specs.Templates.{bodies_in, body_in}
+use Rattle.delta_code.specs.Beside.{IsReady}
 use Rattle.delta_code.specs.Steps.{funs_of}
 use Rattle.delta_code.specs.declared.machine.Coded.{Coded}
 
@@ -101,6 +102,12 @@ run_by m x =
 abbrev pub state_by : Coded → StreamEvent → StateTree
 state_by m x =
     state_on (program_of m) (state_in m.state.value) (type_of m.output.value) (entries_on (awaited_in m.awaited.value) (one_of x (type_of m.input.value)))
+
+-- its state is typed and settled where the event comes
+abbrev pub IsReadyFor : Coded → StreamEvent → Type 0
+IsReadyFor m x =
+    IsReady (bodies_in m.code.value) (types_held (entries_on (awaited_in m.awaited.value) (one_of x (type_of m.input.value)))) (state_in m.state.value)
+    (type_of m.output.value)
 
 -- the machine takes the event, and answers this: it goes on by the run of its state, which it then puts into a
 -- simpler form

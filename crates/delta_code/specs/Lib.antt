@@ -9,3 +9,4 @@ pub mod Told
 pub mod Steps
 pub mod CodedView
 pub mod Way
+pub mod Beside

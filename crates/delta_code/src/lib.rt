@@ -4,6 +4,7 @@
 mod around;
 mod awaiting;
 mod begun;
+mod beside;
 mod compiling;
 mod entering;
 mod framing;
@@ -23,6 +24,7 @@ mod states_held;
 mod stepping;
 mod still;
 mod told;
+mod touched;
 mod way;
 
 pub use awaiting::step_awaiting;

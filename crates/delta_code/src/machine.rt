@@ -8,6 +8,7 @@ ghost use Rattle.core_term.specs.CoreTerm.{core_of};
 ghost use Rattle.delta_state.specs.PlainState.{state_of};
 ghost use Rattle.delta_state.specs.PlaceTree.{place_of};
 ghost use Rattle.delta_state.specs.Stands.{input_type};
+ghost use Rattle.delta_state.specs.StateMeaning.{types_held};
 ghost use Rattle.machine_parts.specs.AwaitedTree.{awaited_in, whole_of, entries_on, awaited_after};
 ghost use Rattle.main_steps.specs.Laws.{first_run_on, first_state_on};
 ghost use Rattle.state_rewriting.specs.Rewriting.{SimplerBy};
@@ -17,10 +18,11 @@ ghost use Rattle.delta_code.specs.Eased.{Eased};
 ghost use Rattle.delta_code.specs.Told.{told};
 ghost use Rattle.template_state.specs.Templates.{bodies_in, body_in};
 ghost use Rattle.event_word.specs.Admits.{Admits};
-ghost use Rattle.delta_code.specs.CodedView.{run_awaiting, rest_awaiting, program_of, view_of, run_by, TakesBy, CodedStands, coded_stands_after, coded_stays_below};
+ghost use Rattle.delta_code.specs.Beside.{IsReady};
+ghost use Rattle.delta_code.specs.CodedView.{run_awaiting, rest_awaiting, program_of, view_of, run_by, TakesBy, IsReadyFor, CodedStands, coded_stands_after, coded_stays_below};
 
-use crate::awaiting::step_awaiting;
 use crate::begun::Begun;
+use crate::beside::step_next;
 use crate::compiling::{compile, copy_texts};
 use crate::seeing::nothing_known;
 use crate::starting::start;
@@ -124,10 +126,12 @@ impl Bounded for Coded {
     ghost stays_below = { coded_stays_below };
 }
 
-/// Takes an event that is admitted: the state goes on by its run on it. After an error the machine is spent.
+/// Takes an event that is admitted, where its state is typed and settled: the state goes on by its run on it. After an
+/// error the machine is spent.
 pub(crate) fn take(alloc: Global, machine: &mut Coded, x: &Event) -> Result<Prefix, StepRefusal>
     requires admitted { Admits (type_of machine.old.input.value) x.now }
     requires room { machine.old.events < 2 ^ 42 }
+    requires ready { IsReadyFor machine.old x.now }
     ensures taken { IfOk result (λ p. TakesBy machine.old machine.new x.now (prefix_of p)) }
     ensures costly { (n : ℕ) → IsErrOf result (StepRefusal.Budget n) → (n ≡ machine.old.budget) × (n < (run_by machine.old x.now).calls) }
     ensures deep { (n : ℕ) → IsErrOf result (StepRefusal.Deep n) → (n ≡ 1001) × (1001 < (run_by machine.old x.now).level) }
@@ -138,7 +142,7 @@ pub(crate) fn take(alloc: Global, machine: &mut Coded, x: &Event) -> Result<Pref
         &machine.code,
         machine.budget,
         &machine.awaited,
-        &machine.output,
+        &mut machine.output,
         &mut machine.state,
         &next,
     )?;
@@ -200,47 +204,45 @@ fn settled(alloc: Global, state: Box<Live>, output: &Ty) -> Result<Box<Live>, Me
 }
 
 // The run of a state on what comes next, where so much is awaited and this type is left of its output; the state
-// is then what is left of it.
+// is then what is left of it in a simpler form, and so is the type.
 fn next_run(
     alloc: Global,
     code: &Code,
     budget: u64,
     awaited: &Awaited,
-    output: &Ty,
+    output: &mut Ty,
     state: &mut Live,
     next: &Prefix,
 ) -> Result<Told, StepRefusal>
-    ensures run { IfOk result (λ r. told r ≡ run_awaiting code.now (state_in state.old) (type_of output.now) (awaited_in awaited.now) (prefix_of next.now)) }
-    ensures rest { OnOk result (Eased (rest_awaiting code.now (state_in state.old) (type_of output.now) (awaited_in awaited.now) (prefix_of next.now)) (state_in state.new)) }
+    requires { IsReady (bodies_in code.now) (types_held (entries_on (awaited_in awaited.now) (prefix_of next.now))) (state_in state.old) (type_of output.old) }
+    ensures run { IfOk result (λ r. told r ≡ run_awaiting code.now (state_in state.old) (type_of output.old) (awaited_in awaited.now) (prefix_of next.now)) }
+    ensures rest { OnOk result (SimplerBy (type_of output.new) (rest_awaiting code.now (state_in state.old) (type_of output.old) (awaited_in awaited.now) (prefix_of next.now)) (state_in state.new)) }
+    ensures output { OnOk result (type_of output.new ≡ der (run_awaiting code.now (state_in state.old) (type_of output.old) (awaited_in awaited.now) (prefix_of next.now)).out (type_of output.old)) }
     ensures counted { IfOk result (λ r. r.calls ≤ budget) }
-    ensures shallow { IfOk result (λ r. r.level ≤ 1001) }
-    ensures costly { (n : ℕ) → IsErrOf result (StepRefusal.Budget n) → (n ≡ budget) × (n < (run_awaiting code.now (state_in state.old) (type_of output.now) (awaited_in awaited.now) (prefix_of next.now)).calls) }
-    ensures deep { (n : ℕ) → IsErrOf result (StepRefusal.Deep n) → (n ≡ 1001) × (1001 < (run_awaiting code.now (state_in state.old) (type_of output.now) (awaited_in awaited.now) (prefix_of next.now)).level) }
+    ensures costly { (n : ℕ) → IsErrOf result (StepRefusal.Budget n) → (n ≡ budget) × (n < (run_awaiting code.now (state_in state.old) (type_of output.old) (awaited_in awaited.now) (prefix_of next.now)).calls) }
+    ensures deep { (n : ℕ) → IsErrOf result (StepRefusal.Deep n) → (n ≡ 1001) × (1001 < (run_awaiting code.now (state_in state.old) (type_of output.old) (awaited_in awaited.now) (prefix_of next.now)).level) }
 {
-    match step_awaiting(alloc, code, awaited, next, state, output, budget) {
+    match step_next(alloc, code, awaited, next, state, output, budget) {
         Ok(told) => Ok(told),
         Err(stop) => Err(refusal(stop, budget)),
     }
 }
 
-// Goes on once this came and the state is what the run left, puts that into a simpler form, and answers what
-// the run gave. After an error the machine is spent.
+// Goes on once this came, and answers what the run gave. After an error the machine is spent.
 fn advance(alloc: Global, machine: &mut Coded, next: &Prefix, run: Told) -> Result<Prefix, Memory>
     requires { machine.old.events < 2 ^ 42 }
     ensures program { OnOk result (program_of machine.new ≡ program_of machine.old) }
     ensures budget { OnOk result (machine.new.budget ≡ machine.old.budget) }
-    ensures state { OnOk result (SimplerBy (type_of machine.new.output.value) (state_in machine.old.state.value) (state_in machine.new.state.value)) }
+    ensures state { OnOk result (state_in machine.new.state.value ≡ state_in machine.old.state.value) }
     ensures awaited { OnOk result (awaited_in machine.new.awaited.value ≡ awaited_after (awaited_in machine.old.awaited.value) (prefix_of next.now)) }
     ensures input { OnOk result (type_of machine.new.input.value ≡ der (prefix_of next.now) (type_of machine.old.input.value)) }
-    ensures output { OnOk result (type_of machine.new.output.value ≡ der (told run).out (type_of machine.old.output.value)) }
+    ensures output { OnOk result (type_of machine.new.output.value ≡ type_of machine.old.output.value) }
     ensures events { OnOk result (machine.new.events ≡ machine.old.events + 1) }
     ensures spent { OnOk result (machine.new.spent ≡ run.calls) }
     ensures answer { IfOk result (λ p. prefix_of p ≡ (told run).out) }
 {
-    go_behind(alloc, &mut machine.output, &run.output)?;
     go_behind(alloc, &mut machine.input, next)?;
     go_on(alloc, &mut machine.awaited, next)?;
-    settle(alloc, &mut machine.state, &machine.output)?;
     machine.events += 1;
     machine.spent = run.calls;
     Ok(Box::into_inner(run.output))

@@ -52,9 +52,9 @@ pub fn step<'a>(
     step_state(alloc, code, scope, s, r, left, levels)
 }
 
-// The same as one fact, form by form.
+/// The same as one fact, form by form.
 #[cycle(step)]
-fn step_state<'a>(
+pub(crate) fn step_state<'a>(
     alloc: Global,
     code: &Code,
     scope: &'a Scope<'a>,

@@ -1,5 +1,5 @@
 -- The parameters, with what comes on each, and the values are those of the body that stands there.
-use Rattle.std.proofs.Common.{◌≡◌, ◌++◌, List, map, ap, ◌∙◌}
+use Rattle.std.proofs.Common.{◌++◌, List, map, ap, ◌∙◌}
 use Rattle.stream_type.specs.declared.ty.Ty.{Ty}
 use Rattle.stream_prefix.specs.Tree.{prefix_of}
 use Rattle.bunch.specs.declared.name.Name.{Name}

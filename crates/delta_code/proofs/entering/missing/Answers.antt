@@ -1,5 +1,5 @@
 -- Where no function is, a call is that of an empty body.
-use Rattle.std.proofs.Common.{◌≡◌, sym, ap, ◌∙◌}
+use Rattle.std.proofs.Common.{sym, ap, ◌∙◌}
 use Rattle.core_term.specs.Run.{Run, one_call}
 use Rattle.template_state.specs.Templates.{bodies_in}
 use Rattle.delta_code.specs.Steps.{funs_of}

@@ -1,12 +1,11 @@
 -- A frame goes into what stands round it.
-use Rattle.std.proofs.Common.{◌≡◌, ◌&&◌, true, false, ap, sym, ◌∙◌, subst, rules}
+use Rattle.std.proofs.Common.{◌≡◌, ◌&&◌, true, false, ap, subst, rules}
 use Rattle.std.proofs.lemmas.Result.{IfOk-weaker}
 use Rattle.stream_type.specs.StreamType.{type_of}
 use Rattle.bunch.specs.Names.{holds}
 use Rattle.core_term.proofs.Sides.{and_first, and_second}
 use Rattle.delta_state.specs.StateTree.{ArgumentTrees, frame_state, free_in_arguments}
 use Rattle.state_rewriting.specs.Rewriting.{are_plain, composed}
-use Rattle.template_state.specs.declared.live.Arguments.{Arguments}
 use Rattle.template_state.specs.Readers.{state_in, arguments_in}
 use Rattle.delta_code.specs.declared.way.Layers.{Layers}
 use Rattle.delta_code.specs.Eased.{Eased}

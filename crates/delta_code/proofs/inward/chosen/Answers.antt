@@ -1,8 +1,7 @@
 -- A case on a sum is what its parts say.
-use Rattle.std.proofs.Common.{◌≡◌, ◌∙◌, ap, sym}
+use Rattle.std.proofs.Common.{◌∙◌, ap, sym}
 use Rattle.std.proofs.lemmas.Result.{IfOk-weaker}
 use Rattle.stream_type.specs.StreamType.{type_of}
-use Rattle.core_term.specs.CoreTerm.{case_sum_term}
 use Rattle.template_state.specs.Readers.{op_term}
 use Rattle.delta_code.proofs.inward.chosen.Goals as goal
 

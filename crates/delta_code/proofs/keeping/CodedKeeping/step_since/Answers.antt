@@ -8,11 +8,14 @@ use Rattle.machine_parts.specs.AwaitedTree.{awaited_in}
 use Rattle.machine_kept.proofs.SinceSteps.{is_costly_since, is_deep_since}
 use Rattle.template_state.specs.Readers.{state_in}
 use Rattle.delta_code.specs.CodedView.{program_of}
-use Rattle.delta_code.proofs.Taking.{admitted_since, stands_with_event_since, answers_event_since}
+use Rattle.delta_code.proofs.Taking.{admitted_since, ready_since, stands_with_event_since, answers_event_since}
 use Rattle.delta_code.proofs.keeping.CodedKeeping.step_since.Goals as goal
 
 pub take-requires-clause-admitted : goal.take-requires-clause-admitted
 take-requires-clause-admitted c = admitted_since c.args.self.now c.args.x.now c.requires.kept c.requires.word c.requires.awaits
+
+pub take-requires-clause-ready : goal.take-requires-clause-ready
+take-requires-clause-ready c = ready_since c.args.self.now c.args.x.now c.requires.kept c.requires.word c.requires.awaits
 
 pub returns-clause-program : goal.returns-clause-program
 returns-clause-program c = IfOk-weaker c.take.result _ _ (λ (p : Prefix) t. t.program) c.take.ensures.taken

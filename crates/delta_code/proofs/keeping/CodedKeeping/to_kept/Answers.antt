@@ -1,5 +1,5 @@
 -- What is kept of the machine has its place and its state, and goes on just as its program.
-use Rattle.std.proofs.Common.{◌≡◌, ◌∙◌, ap, refl}
+use Rattle.std.proofs.Common.{◌∙◌, ap, refl}
 use Rattle.stream_type.specs.declared.ty.Ty.{Ty}
 use Rattle.stream_type.specs.StreamType.{type_of}
 use Rattle.delta_state.specs.PlainState.{without_marks}

@@ -8,11 +8,14 @@ use Rattle.machine_parts.specs.AwaitedTree.{awaited_in}
 use Rattle.machine_parts.proofs.StandingTrees.{is_costly, is_deep}
 use Rattle.template_state.specs.Readers.{state_in}
 use Rattle.delta_code.specs.CodedView.{program_of}
-use Rattle.delta_code.proofs.Taking.{admitted, stands_with_event, answers_event}
+use Rattle.delta_code.proofs.Taking.{admitted, ready, stands_with_event, answers_event}
 use Rattle.delta_code.proofs.machine.CodedMachine.step.Goals as goal
 
 pub take-requires-clause-admitted : goal.take-requires-clause-admitted
 take-requires-clause-admitted c = admitted c.args.self.now c.args.x.now c.requires.word c.requires.awaits
+
+pub take-requires-clause-ready : goal.take-requires-clause-ready
+take-requires-clause-ready c = ready c.args.self.now c.args.x.now c.requires.word c.requires.awaits
 
 pub returns-clause-program : goal.returns-clause-program
 returns-clause-program c = IfOk-weaker c.take.result _ _ (λ (p : Prefix) t. t.program) c.take.ensures.taken
