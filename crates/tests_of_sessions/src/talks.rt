@@ -21,6 +21,12 @@ main(x : Int) : Int = wait x in down{x}(())";
 const CHOICE: &str =
     "main(z : 1 + 1, y : Int) : Int + Int = case z of { inl a => inl y | inr b => inr y }";
 
+// Three parts beside each other, one of which uses two names.
+const BESIDE: &str =
+    "fun twice(xs : Int*) : Int* = case xs of { nil => nil | y :: ys => wait y in ({y * 2} :: twice(ys)) }
+main(xs : Int*, (z : 1 + 1, y : Int), ys : Int*) : Int* || (Int + Int) || Int* =
+  (twice(xs), (case z of { inl a => inl y | inr b => inr y }, twice(ys)))";
+
 // The program of one number, before it came.
 const TALK: Talk = Talk {
     text: "main(x : Int) : Int = x",
@@ -95,6 +101,40 @@ const TALKS: &[Talk] = &[
         ],
         events: 3,
         is_whole: true,
+        ..TALK
+    },
+    // A part is left as it is until something comes on a name of its own, whichever part comes in between.
+    Talk {
+        text: BESIDE,
+        turns: &[
+            ("R L R int 5", Ok("")),
+            ("R R item", Ok("")),
+            ("R R F int 3", Ok("R R item\nR R F int 6\nR R cut\n")),
+            ("L item", Ok("")),
+            ("R R cut", Ok("")),
+            ("L F int 1", Ok("L item\nL F int 2\nL cut\n")),
+            ("R L L inl", Ok("R L inl\nR L int 5\n")),
+            ("R R item", Ok("")),
+            ("L cut", Ok("")),
+            ("R L L one", Ok("")),
+            ("R R F int 4", Ok("R R item\nR R F int 8\nR R cut\n")),
+            ("L end", Ok("L end\n")),
+            ("R R cut", Ok("")),
+            ("R R end", Ok("R R end\n")),
+        ],
+        events: 14,
+        is_whole: true,
+        ..TALK
+    },
+    Talk {
+        text: BESIDE,
+        turns: &[
+            ("L item", Ok("")),
+            ("R L R int 5", Ok("")),
+            ("R R item", Ok("")),
+        ],
+        events: 3,
+        held: 1,
         ..TALK
     },
 ];
