@@ -24,11 +24,11 @@ use stream_type::Memory;
 use template_state::held_events;
 
 /// The most stations of a book, the most steps, and the most steps of one station.
-const STATIONS: usize = 64;
+const STATIONS: usize = 256;
 
-const STEPS: usize = 512;
+const STEPS: usize = 2_048;
 
-const STEPS_OF_ONE: usize = 8;
+const STEPS_OF_ONE: usize = 16;
 
 /// The most events that a state may hold for it to be noted.
 const HELD: u64 = 16;
