@@ -37,7 +37,9 @@ pub type Answer<'a> = (&'a [u8], u8, &'a str);
 fn words(alloc: Global, line: &str) -> Result<Vec<String>, Fail> {
     let mut words = Vec::new(alloc);
     for word in line.split(' ') {
-        words.push(String::from_str(alloc, word)?)?;
+        if !word.is_empty() {
+            words.push(String::from_str(alloc, word)?)?;
+        }
     }
     Ok(words)
 }
@@ -120,4 +122,37 @@ pub fn changed(alloc: Global, bytes: &[u8], place: usize) -> Result<Vec<u8>, Fai
         bytes[place] = 0xff;
     }
     Ok(bytes)
+}
+
+// A shelf that holds a text as the file `program`, and no other.
+fn shelf_of_one(alloc: Global, text: &[u8]) -> Result<MemShelf, Fail> {
+    let mut files = Vec::new(alloc);
+    files.push((String::from_str(alloc, "program")?, text.to_vec(alloc)?))?;
+    Ok(MemShelf::new(alloc, files, Vec::new(alloc)))
+}
+
+/// Whether a command line, with this text as the one file `program` and this input, tells this note.
+pub fn tells(
+    alloc: Global,
+    line: &str,
+    text: &[u8],
+    input: &[u8],
+    note: &[u8],
+) -> Result<bool, Fail> {
+    let given = Given {
+        words: line,
+        text,
+        proof: b"",
+        input,
+        piece: input.len(),
+        most: 4096,
+        fail_calls: &[],
+        fail_reads: &[],
+        fail_writes: &[],
+        fail_notes: &[],
+    };
+    let mut shelf = shelf_of_one(alloc, text)?;
+    let mut link = link_of(alloc, &given)?;
+    let (_, notes) = outcome(alloc, &given, &mut shelf, &mut link)?;
+    Ok(notes.bytes() == note)
 }

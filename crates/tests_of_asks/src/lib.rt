@@ -1,5 +1,0 @@
-//! Tests of what a step asks, with ample memory.
-#![tactic(auto)]
-
-#[cfg(test)]
-mod asked;
