@@ -2,6 +2,9 @@
 //! load, on one long session and on many.
 #![tactic(auto)]
 
+#[cfg(test)]
 mod answers;
+#[cfg(test)]
 mod sessions;
+#[cfg(test)]
 mod sizes;
