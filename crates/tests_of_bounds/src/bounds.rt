@@ -1,20 +1,30 @@
 //! Which bounds programs have, and why others have none.
 
-use checked_program::accept;
+use checked_program::{accept, dismiss};
 use delta_bound::{BoundRefusal, bound};
 use std::alloc::Global;
 use std::test::Fail;
 
+// The bound of the program of the text, or why it has none.
+fn told(alloc: Global, text: &[u8]) -> Result<Result<u64, BoundRefusal>, Fail> {
+    match accept(alloc, text) {
+        Ok(accepted) => {
+            let found = bound(alloc, &accepted.checked);
+            dismiss(accepted);
+            Ok(found)
+        }
+        Err(fault) => Err(fault.into()),
+    }
+}
+
 // Whether the program of the text has this bound.
 fn has_bound(alloc: Global, text: &[u8], number: u64) -> Result<bool, Fail> {
-    let accepted = accept(alloc, text)?;
-    Ok(bound(alloc, &accepted.checked).ok() == Some(number))
+    Ok(told(alloc, text)?.ok() == Some(number))
 }
 
 // Whether a node at this place counts a name without a size first in the program of the text.
 fn is_unbounded(alloc: Global, text: &[u8], place: u32) -> Result<bool, Fail> {
-    let accepted = accept(alloc, text)?;
-    match bound(alloc, &accepted.checked) {
+    match told(alloc, text)? {
         Err(BoundRefusal::Unbounded { x: _, at }) => Ok(at == place),
         Ok(_) | Err(_) => Ok(false),
     }
@@ -22,8 +32,7 @@ fn is_unbounded(alloc: Global, text: &[u8], place: u32) -> Result<bool, Fail> {
 
 // Whether the number of the function whose body stands at this place still grows, and none before it.
 fn is_cycle(alloc: Global, text: &[u8], number: u32, place: u32) -> Result<bool, Fail> {
-    let accepted = accept(alloc, text)?;
-    match bound(alloc, &accepted.checked) {
+    match told(alloc, text)? {
         Err(BoundRefusal::Cycle { f, at }) => Ok(f == number && at == place),
         Ok(_) | Err(_) => Ok(false),
     }

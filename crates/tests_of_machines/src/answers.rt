@@ -4,8 +4,8 @@ ghost use Rattle.std.specs.Prelude.{◌≤◌};
 ghost use Rattle.delta_session.specs.Standing.{IsKept};
 
 use crate::sessions::{opened, said_to};
-use checked_program::accept;
-use core_term::fits;
+use checked_program::{accept, dismiss};
+use core_term::{Checked, fits};
 use delta_code::Coded;
 use delta_session::Session;
 use delta_state::Machine;
@@ -53,11 +53,30 @@ fn says<M: Machine>(
 ) -> Result<bool, Fail>
     requires { budget ≤ 1000000 }
 {
-    let accepted = accept(alloc, text)?;
-    if !fits(accepted.checked.core()) {
+    match accept(alloc, text) {
+        Ok(accepted) => {
+            let found = core_says::<M>(alloc, &accepted.checked, budget, lines, said);
+            dismiss(accepted);
+            found
+        }
+        Err(fault) => Err(fault.into()),
+    }
+}
+
+// The same of its core.
+fn core_says<M: Machine>(
+    alloc: Global,
+    checked: &Checked,
+    budget: u64,
+    lines: &[&[u8]],
+    said: &[&[u8]],
+) -> Result<bool, Fail>
+    requires { budget ≤ 1000000 }
+{
+    if !fits(checked.core()) {
         return Ok(false);
     }
-    let mut session = opened::<M>(alloc, &accepted.checked, budget)?;
+    let mut session = opened::<M>(alloc, checked, budget)?;
     match said_at_last(alloc, &mut session, lines) {
         Some(events) => Ok(are_lines(&events, said)),
         None => Ok(false),

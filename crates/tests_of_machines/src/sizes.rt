@@ -5,8 +5,8 @@ ghost use Rattle.delta_session.specs.Standing.{IsKept};
 
 use crate::answers::said_at_last;
 use crate::sessions::{opened, said_to};
-use checked_program::accept;
-use core_term::fits;
+use checked_program::{accept, dismiss};
+use core_term::{Checked, fits};
 use delta_code::Coded;
 use delta_feed::gen_event;
 use delta_session::Session;
@@ -62,14 +62,25 @@ fn stays_as_small<M: Machine>(alloc: Global, session: &mut Session<M>) -> Option
     Some(tenth.last == to_fortieth.last && to_twentieth.greatest == to_fortieth.greatest)
 }
 
-// The same of a session of the load's program.
-fn load_stays_small<M: Machine>(alloc: Global) -> Result<bool, Fail> {
-    let accepted = accept(alloc, LOAD_TEXT)?;
-    if !fits(accepted.checked.core()) {
+// The same of a session of the program with this core.
+fn core_stays_small<M: Machine>(alloc: Global, checked: &Checked) -> Result<bool, Fail> {
+    if !fits(checked.core()) {
         return Ok(false);
     }
-    let mut session = opened::<M>(alloc, &accepted.checked, 1_000_000)?;
+    let mut session = opened::<M>(alloc, checked, 1_000_000)?;
     Ok(stays_as_small(alloc, &mut session) == Some(true))
+}
+
+// The same of the load's program.
+fn load_stays_small<M: Machine>(alloc: Global) -> Result<bool, Fail> {
+    match accept(alloc, LOAD_TEXT) {
+        Ok(accepted) => {
+            let found = core_stays_small::<M>(alloc, &accepted.checked);
+            dismiss(accepted);
+            found
+        }
+        Err(fault) => Err(fault.into()),
+    }
 }
 
 #[test]
@@ -117,14 +128,29 @@ fn stays_level<M: Machine>(alloc: Global, session: &mut Session<M>, lines: &[&[u
     Some(hundredth == thousandth && hundredth > 0)
 }
 
-// The same of a run of the program that cuts its feed.
-fn cut_stays_small<M: Machine>(alloc: Global, lines: &[&[u8]]) -> Result<bool, Fail> {
-    let accepted = accept(alloc, SESSIONS)?;
-    if !fits(accepted.checked.core()) {
+// The same of a session of the program with this core.
+fn core_stays_level<M: Machine>(
+    alloc: Global,
+    checked: &Checked,
+    lines: &[&[u8]],
+) -> Result<bool, Fail> {
+    if !fits(checked.core()) {
         return Ok(false);
     }
-    let mut session = opened::<M>(alloc, &accepted.checked, 1_000_000)?;
+    let mut session = opened::<M>(alloc, checked, 1_000_000)?;
     Ok(stays_level(alloc, &mut session, lines) == Some(true))
+}
+
+// The same of a run of the program that cuts its feed.
+fn cut_stays_small<M: Machine>(alloc: Global, lines: &[&[u8]]) -> Result<bool, Fail> {
+    match accept(alloc, SESSIONS) {
+        Ok(accepted) => {
+            let found = core_stays_level::<M>(alloc, &accepted.checked, lines);
+            dismiss(accepted);
+            found
+        }
+        Err(fault) => Err(fault.into()),
+    }
 }
 
 #[test]

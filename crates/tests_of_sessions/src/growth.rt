@@ -5,7 +5,7 @@ ghost use Rattle.core_term.specs.CoreTerm.{core_of, fits_of};
 ghost use Rattle.delta_session.specs.Standing.{IsKept};
 
 use crate::talking::{ROOM, open};
-use checked_program::accept;
+use checked_program::{accept, dismiss};
 use core_term::{Checked, fits};
 use delta_code::Coded;
 use delta_feed::gen_event;
@@ -67,8 +67,18 @@ fn most<M: Machine>(alloc: Global, checked: &Checked) -> Result<(u64, u64), Fail
 
 // Whether the state is no greater after nine thousand items than after one thousand.
 fn stays_small(alloc: Global) -> Result<bool, Fail> {
-    let accepted = accept(alloc, LOAD_TEXT)?;
-    let checked = &accepted.checked;
+    match accept(alloc, LOAD_TEXT) {
+        Ok(accepted) => {
+            let found = core_stays_small(alloc, &accepted.checked);
+            dismiss(accepted);
+            found
+        }
+        Err(fault) => Err(fault.into()),
+    }
+}
+
+// The same of the load's core.
+fn core_stays_small(alloc: Global, checked: &Checked) -> Result<bool, Fail> {
     if !fits(checked.core()) {
         return Ok(false);
     }

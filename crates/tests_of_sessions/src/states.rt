@@ -3,7 +3,7 @@
 ghost use Rattle.std.specs.Prelude.{IsTrue};
 ghost use Rattle.core_term.specs.CoreTerm.{core_of, fits_of};
 
-use checked_program::accept;
+use checked_program::{accept, dismiss};
 use core_term::{Checked, fits};
 use delta_code::Coded;
 use delta_state::{Machine, Place, State};
@@ -32,20 +32,11 @@ fn says_awaited<M: Machine>(alloc: Global, checked: &Checked) -> Result<bool, Fa
     Ok(is_awaited(&first))
 }
 
-// Whether both machines say so of a pair in turn.
-fn pair_is_awaited(alloc: Global) -> Result<bool, Fail> {
-    let accepted = accept(alloc, IN_TURN)?;
-    let checked = &accepted.checked;
-    if !fits(checked.core()) {
-        return Ok(false);
-    }
+// Whether both machines say so.
+fn both_say_awaited(alloc: Global, checked: &Checked) -> Result<bool, Fail>
+    requires { IsTrue (fits_of (core_of checked.now)) }
+{
     Ok(says_awaited::<Coded>(alloc, checked)? && says_awaited::<Tree>(alloc, checked)?)
-}
-
-#[test]
-fn the_first_of_a_pair_is_awaited(rt: HostRuntime) -> Result<(), Fail> {
-    assert!(rt; pair_is_awaited(rt.alloc())?);
-    Ok(())
 }
 
 // The state and the place of a program before any event.
@@ -63,19 +54,29 @@ fn awaits_two(state: &State, place: &Place) -> bool {
     in_turn && numbers && place.cuts.as_slice() == [false].as_slice()
 }
 
-// Whether it is so for a pair in turn.
-fn begins_in_turn(alloc: Global) -> Result<bool, Fail> {
-    let accepted = accept(alloc, IN_TURN)?;
-    let checked = &accepted.checked;
+// Whether the state and the place of the program with this core are so, and both machines say that the first is awaited.
+fn begins_with_its_first(alloc: Global, checked: &Checked) -> Result<bool, Fail> {
     if !fits(checked.core()) {
         return Ok(false);
     }
     let (state, place) = first_state(alloc, checked)?;
-    Ok(awaits_two(&state, &place))
+    Ok(awaits_two(&state, &place) && both_say_awaited(alloc, checked)?)
+}
+
+// Whether it is so for a pair in turn.
+fn pair_begins_with_its_first(alloc: Global) -> Result<bool, Fail> {
+    match accept(alloc, IN_TURN) {
+        Ok(accepted) => {
+            let found = begins_with_its_first(alloc, &accepted.checked);
+            dismiss(accepted);
+            found
+        }
+        Err(fault) => Err(fault.into()),
+    }
 }
 
 #[test]
 fn a_pair_in_turn_begins_with_its_first(rt: HostRuntime) -> Result<(), Fail> {
-    assert!(rt; begins_in_turn(rt.alloc())?);
+    assert!(rt; pair_begins_with_its_first(rt.alloc())?);
     Ok(())
 }

@@ -1,11 +1,10 @@
 //! Rows of talks with sessions, on the machine that the command runs and on the plain one.
 
 use crate::talking::{Talk, goes};
-use checked_program::accept;
-use core_term::fits;
+use checked_program::{accept, dismiss};
+use core_term::{Checked, fits};
 use delta_code::Coded;
 use delta_session::{Cause, FeedRefusal, OpenRefusal};
-use delta_state::Machine;
 use delta_step::Tree;
 use event_word::EventFault;
 use std::alloc::Global;
@@ -185,19 +184,24 @@ main(x : Int) : Int = nest{1001}(x)",
     },
 ];
 
-// Whether a talk goes so on a machine.
-fn goes_on<M: Machine>(alloc: Global, talk: &Talk) -> Result<bool, Fail> {
-    let accepted = accept(alloc, talk.text.as_bytes())?;
-    let checked = &accepted.checked;
+// Whether a talk of the program with this core goes so on both machines.
+fn core_goes_on(alloc: Global, checked: &Checked, talk: &Talk) -> Result<bool, Fail> {
     if !fits(checked.core()) {
         return Ok(false);
     }
-    goes::<M>(alloc, checked, talk)
+    Ok(goes::<Coded>(alloc, checked, talk)? && goes::<Tree>(alloc, checked, talk)?)
 }
 
 // Whether it goes so on both machines.
 fn goes_on_both(alloc: Global, talk: &Talk) -> Result<bool, Fail> {
-    Ok(goes_on::<Coded>(alloc, talk)? && goes_on::<Tree>(alloc, talk)?)
+    match accept(alloc, talk.text.as_bytes()) {
+        Ok(accepted) => {
+            let found = core_goes_on(alloc, &accepted.checked, talk);
+            dismiss(accepted);
+            found
+        }
+        Err(fault) => Err(fault.into()),
+    }
 }
 
 // The number of talks before the first that goes otherwise, or none.

@@ -1,8 +1,8 @@
 //! Terms checked in a context.
 
-use crate::loads::accepted;
 use bunch::{Bunch, Name, Order};
-use core_term::{Node, Term};
+use checked_program::{accept, dismiss};
+use core_term::{Checked, Node, Term};
 use delta_check::{TypeCause, TypeFault, check_in};
 use std::alloc::Global;
 use std::test::Fail;
@@ -17,7 +17,18 @@ fn one_int(alloc: Global) -> Result<Vec<(Name, Ty)>, Memory> {
 
 // What is told of the name numbered 0 at the type, where it is a stream variable of type `Int`.
 fn told(alloc: Global, r: &Ty) -> Result<Result<(), TypeFault>, Fail> {
-    let accepted = accepted(alloc, b"main(x : Int) : Int = x")?;
+    match accept(alloc, b"main(x : Int) : Int = x") {
+        Ok(accepted) => {
+            let found = told_by(alloc, &accepted.checked, r);
+            dismiss(accepted);
+            found
+        }
+        Err(fault) => Err(fault.into()),
+    }
+}
+
+// The same over the functions of a core.
+fn told_by(alloc: Global, c: &Checked, r: &Ty) -> Result<Result<(), TypeFault>, Fail> {
     let vars = one_int(alloc)?;
     let order = Order::of_bunch(alloc, &Bunch::Leaf(Name(0), Ty::Int))?;
     let n = Box::new(
@@ -27,7 +38,7 @@ fn told(alloc: Global, r: &Ty) -> Result<Result<(), TypeFault>, Fail> {
             term: Term::Var(Name(0)),
         },
     )?;
-    Ok(check_in(alloc, &accepted.checked, &[], &vars, &order, &n, r))
+    Ok(check_in(alloc, c, &[], &vars, &order, &n, r))
 }
 
 // Whether it has the type.

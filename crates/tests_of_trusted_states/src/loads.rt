@@ -1,8 +1,8 @@
 //! Bytes that are read as kept states of a program, and others that are told apart from these.
 
-use checked_program::{Accepted, accept};
+use checked_program::{accept, dismiss};
 use core_term::Checked;
-use delta_keep::{Kept, KeptState};
+use delta_keep::{Kept, KeptState, dismiss as dismiss_kept};
 use kept_check::{KeepFault, load};
 use std::alloc::Global;
 use std::test::Fail;
@@ -46,18 +46,27 @@ fn is_first_name(k: &Kept) -> bool {
     matches!(&*k.state, KeptState::Var(x) if x.0 == 0)
 }
 
-/// A text that is accepted.
-pub fn accepted(alloc: Global, text: &[u8]) -> Result<Box<Accepted>, Fail> {
-    let accepted = accept(alloc, text)?;
-    Ok(Box::new(alloc, accepted)?)
+// Whether the bytes are read as a kept state of the program with this core, whose state is that name.
+fn core_loads_name(alloc: Global, c: &Checked, bytes: &[u8]) -> bool {
+    match load(alloc, c, bytes) {
+        Ok(k) => {
+            let found = is_first_name(&k);
+            dismiss_kept(k);
+            found
+        }
+        Err(_) => false,
+    }
 }
 
-// Whether the bytes are read as a kept state of the program whose state is that name.
+// The same of the program of a text.
 fn loads_name(alloc: Global, text: &[u8], bytes: &[u8]) -> Result<bool, Fail> {
-    let accepted = accepted(alloc, text)?;
-    match load(alloc, &accepted.checked, bytes) {
-        Ok(k) => Ok(is_first_name(&k)),
-        Err(_) => Ok(false),
+    match accept(alloc, text) {
+        Ok(accepted) => {
+            let found = core_loads_name(alloc, &accepted.checked, bytes);
+            dismiss(accepted);
+            Ok(found)
+        }
+        Err(fault) => Err(fault.into()),
     }
 }
 
@@ -67,15 +76,27 @@ fn a_name_is_read(rt: HostRuntime) -> Result<(), Fail> {
     Ok(())
 }
 
-// What is wrong with bytes for a program, if they aren't read.
+// What is wrong with bytes for the program with this core, if they aren't read.
 fn fault(alloc: Global, c: &Checked, bytes: &[u8]) -> Option<KeepFault> {
-    load(alloc, c, bytes).err()
+    match load(alloc, c, bytes) {
+        Ok(k) => {
+            dismiss_kept(k);
+            None
+        }
+        Err(fault) => Some(fault),
+    }
 }
 
 // The same of the program of a text.
 fn told(alloc: Global, text: &[u8], bytes: &[u8]) -> Result<Option<KeepFault>, Fail> {
-    let accepted = accepted(alloc, text)?;
-    Ok(fault(alloc, &accepted.checked, bytes))
+    match accept(alloc, text) {
+        Ok(accepted) => {
+            let found = fault(alloc, &accepted.checked, bytes);
+            dismiss(accepted);
+            Ok(found)
+        }
+        Err(fault) => Err(fault.into()),
+    }
 }
 
 #[test]
@@ -192,16 +213,27 @@ fn is_told_within(fault: Option<KeepFault>, count: usize) -> bool {
     }
 }
 
-// Whether it is so with each byte set to a value, one after the other.
-fn are_told(alloc: Global, text: &[u8], bytes: &[u8], value: u8) -> Result<bool, Fail> {
-    let accepted = accepted(alloc, text)?;
+// Whether it is so with each byte set to a value, one after the other, for the program with this core.
+fn core_tells(alloc: Global, c: &Checked, bytes: &[u8], value: u8) -> Result<bool, Fail> {
     for at in 0..bytes.len() {
         let next = changed(alloc, bytes, at, value)?;
-        if !is_told_within(fault(alloc, &accepted.checked, &next), bytes.len()) {
+        if !is_told_within(fault(alloc, c, &next), bytes.len()) {
             return Ok(false);
         }
     }
     Ok(true)
+}
+
+// The same for the program of a text.
+fn are_told(alloc: Global, text: &[u8], bytes: &[u8], value: u8) -> Result<bool, Fail> {
+    match accept(alloc, text) {
+        Ok(accepted) => {
+            let found = core_tells(alloc, &accepted.checked, bytes, value);
+            dismiss(accepted);
+            found
+        }
+        Err(fault) => Err(fault.into()),
+    }
 }
 
 #[test]
