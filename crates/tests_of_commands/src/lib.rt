@@ -4,8 +4,6 @@
 #[cfg(test)]
 mod bounds;
 #[cfg(test)]
-mod commands;
-#[cfg(test)]
 mod derivations;
 #[cfg(test)]
 mod evaluations;
@@ -23,5 +21,7 @@ mod saves;
 mod sources;
 #[cfg(test)]
 mod tour;
+#[cfg(test)]
+mod whole_runs;
 #[cfg(test)]
 mod words;
