@@ -5,8 +5,8 @@ use Rattle.std.proofs.lemmas.Fmt.{decimal_digit}
 use Rattle.stream_type.specs.StreamType.{int, star, one, sum}
 use Rattle.bunch.specs.BunchTree.{leaf, comma}
 use Rattle.core_term.specs.CoreTerm.{CoreBody, wait_term, case_sum_term, var_term, cat_term, unit_term}
-use Rattle.command_bound.specs.Unsized.{first_unsized_in}
-use Rattle.command_bound.specs.Bounding.{bound_line}
+use Rattle.commands.specs.Unsized.{first_unsized_in}
+use Rattle.commands.specs.Bounding.{bound_line}
 
 line_of_one : bound_line 1 ≡ codes "bound 1\n"
 line_of_one = ap (λ (digits : List ℕ). codes "bound " ++ (digits ++ 10 ∷ [])) (decimal_digit 1 (omega arith))

@@ -11,9 +11,9 @@ use Rattle.checked_program.specs.Acceptance.{IsAcceptedAs}
 use Rattle.delta_bound.specs.declared.refusal.BoundRefusal.TheVariants.{Unbounded, Cycle, Large}
 use Rattle.delta_bound.specs.Refusals.{HasBound, Refuses}
 use Rattle.delta_bound.specs.Unsized.{program_unsized}
-use Rattle.command_bound.specs.Unsized.{core_unsized, bodies_at}
-use Rattle.command_bound.specs.Bounding.{IsBounded, IsUnbounded}
-use Rattle.command_bound.proofs.ReadOff.{core_reads_off, places_read_off}
+use Rattle.commands.specs.Unsized.{core_unsized, bodies_at}
+use Rattle.commands.specs.Bounding.{IsBounded, IsUnbounded}
+use Rattle.commands.proofs.ReadOff.{core_reads_off, places_read_off}
 
 module _ (text : List ℕ) (p : ProgramTree) (c : Core) (accepted : IsAcceptedAs text p (core_of c)) (places : core_places c ≡ program_places p) where
   unsized : core_unsized (program_places p) (core_of c) ≡ program_unsized c

@@ -11,9 +11,9 @@ use Rattle.table_feed.specs.RowType.{HasShape}
 use Rattle.delta_end.specs.declared.end.End.{End}
 use Rattle.delta_end.specs.declared.end.End.TheVariants.{Done, Usage, Refused, Input, Budget, Deep, Open, FileFailed, ReadFailed, WriteFailed, Memory, Long, Objected}
 use Rattle.delta_end.specs.End.{FileCause}
-use Rattle.command_feed.specs.Tables.{IsWrong, told_as, tables_fault}
-use Rattle.command_feed.specs.Given.{EndsReading, EndsRunning, IsUnwritten}
-use Rattle.command_feed.proofs.WholeTables.{IsOfTable, of_tables}
+use Rattle.commands.specs.Tables.{IsWrong, told_as, tables_fault}
+use Rattle.commands.specs.Given.{EndsReading, EndsRunning, IsUnwritten}
+use Rattle.commands.proofs.WholeTables.{IsOfTable, of_tables}
 
 -- an end that isn't that of a failed file shows no failed call
 no_failed_file : (end : End) (before now : ℕ) → (end ≡ FileFailed → ⊥) → now ≡ before → FileCause end before now

@@ -16,9 +16,9 @@ use Rattle.delta_loop.specs.History.{IsUntouched}
 use Rattle.delta_loop.specs.Answer.{Adds, ReadsWell}
 use Rattle.delta_loop.proofs.Returning.{adds_none, ran_reads, unread}
 use Rattle.kept_runner.specs.KeptOneShot.{meaning_since}
-use Rattle.command_resume.specs.Resuming.{end_of, IsSmallFault, GoesOn, Resumes, OfState, ResumesFile}
-use Rattle.command_resume.specs.Texts.{ResumesIts, ResumesText}
-use Rattle.command_resume.proofs.Places.{form_within}
+use Rattle.commands.specs.Resuming.{end_of, IsSmallFault, GoesOn, Resumes, OfState, ResumesFile}
+use Rattle.commands.specs.Texts.{ResumesIts, ResumesText}
+use Rattle.commands.proofs.Places.{form_within}
 
 -- a fault that is told of bytes has a small place
 pub is_small : (c : CoreProgram) (bytes : List ℕ) (f : KeepFault) → TellsKeepFault c bytes (Err f) → IsSmallFault f

@@ -33,11 +33,11 @@ use Rattle.delta_loop.specs.Loop.{Ran, RanTo}
 use Rattle.delta_loop.proofs.Opening.{fresh}
 use Rattle.delta_loop.proofs.Lefts.{loses_nothing}
 use Rattle.delta_loop.proofs.Limits.{within_limit, within_other}
-use Rattle.command_eval.specs.Gathering.{gathering, Gathers}
-use Rattle.command_eval.specs.Evaluating.{input_of, meaning, calls_on, evaluation, left, ends_well, end_of, IsWhole, MayEnd, Evaluates}
-use Rattle.command_eval.specs.declared.gathering.Gathering.{Gathering}
+use Rattle.commands.specs.Gathering.{gathering, Gathers}
+use Rattle.commands.specs.Evaluating.{input_of, meaning, calls_on, evaluation, left, ends_well, end_of, IsWhole, MayEnd, Evaluates}
+use Rattle.commands.specs.declared.gathering.Gathering.{Gathering}
 use Rattle.delta_loop.proofs.Unstopped.{no_costly, no_deep}
-use Rattle.command_eval.proofs.Gathered.{due_none, is_word, accepts_all, makes_no_calls}
+use Rattle.commands.proofs.Gathered.{due_none, is_word, accepts_all, makes_no_calls}
 
 -- what an accepted program says is a prefix of its result's type
 pub says_prefix : (p : ProgramTree) (c : CoreProgram) → IsAccepted p c → (q : StreamPrefix) → IsPrefix (as_type c.main.params) q → IsPrefix c.main.result (mean p q)

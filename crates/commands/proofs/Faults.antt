@@ -4,7 +4,7 @@ use Rattle.core_term.specs.CoreTerm.{CoreProgram}
 use Rattle.delta_derive.specs.FirstFault.{IsValidText}
 use Rattle.delta_end.specs.declared.objection.DerivationName.{DerivationName}
 use Rattle.delta_end.specs.declared.objection.DerivationName.TheVariants as name
-use Rattle.command_derive.specs.Deriving.{longest, IsFirstFault, Refutes}
+use Rattle.commands.specs.Deriving.{longest, IsFirstFault, Refutes}
 
 -- a text that isn't valid, and this is what is wrong first
 pub refutes : (c : CoreProgram) (proof : List ℕ) (why : DerivationName) (at : ℕ) → (IsValidText c proof → ⊥) → IsFirstFault c proof why at → Refutes c proof why at

@@ -11,7 +11,7 @@ use Rattle.table_feed.specs.Mixing.{beside}
 use Rattle.delta_end.specs.declared.objection.TableName.TheVariants as table
 use Rattle.delta_end.specs.declared.objection.Objection.TheVariants.{Table}
 use Rattle.delta_end.specs.declared.end.End.TheVariants.{Objected}
-use Rattle.command_feed.specs.Tables.{whole_tables, tables_fault, told_as, tables_word}
+use Rattle.commands.specs.Tables.{whole_tables, tables_fault, told_as, tables_word}
 
 -- the whole of two tables, side by side
 side_by_side : beside (whole_tables (par (star int) (star int)) (codes "1\n" ∷ codes "2\n" ∷ []))

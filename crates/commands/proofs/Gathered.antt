@@ -15,8 +15,8 @@ use Rattle.delta_loop.specs.Meaning.{Meaning}
 use Rattle.delta_loop.proofs.Unstopped.{MakesNoCalls}
 use Rattle.delta_loop.specs.Finding.{fault_or, place_in, event_finding, finding}
 use Rattle.delta_loop.specs.Output.{answers_after, due, accepted, accepted_after, up_to_fault}
-use Rattle.command_eval.specs.Gathering.{gathering, Gathers}
-use Rattle.command_eval.specs.declared.gathering.Gathering.{Gathering}
+use Rattle.commands.specs.Gathering.{gathering, Gathers}
+use Rattle.commands.specs.declared.gathering.Gathering.{Gathering}
 
 -- no call is made
 pub makes_no_calls : (s : StreamType) → MakesNoCalls (gathering s)

@@ -24,7 +24,7 @@ use Rattle.delta_loop.specs.Loop.{IsWellEnded, RanTo}
 use Rattle.delta_loop.proofs.Counts.{events_whole}
 use Rattle.delta_runner.specs.declared.runner.Runner.{Runner}
 use Rattle.delta_runner.specs.Standing.{IsOf, StandsFor}
-use Rattle.command_save.specs.Leaving.{KeptAs, AreIts, AreTooMany, Way, Ended, EndedWell, Leaves, IsSaved, IsTooLarge, SavesSo}
+use Rattle.commands.specs.Leaving.{KeptAs, AreIts, AreTooMany, Way, Ended, EndedWell, Leaves, IsSaved, IsTooLarge, SavesSo}
 
 -- where nothing was written each name holds what it held
 pub changes_nothing : (files : Option (List ℕ → List ℕ)) (name : List ℕ) → ChangesOnly files files name

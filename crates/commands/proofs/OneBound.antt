@@ -7,7 +7,7 @@ use Rattle.delta_end.specs.declared.objection.BoundName.{BoundName}
 use Rattle.delta_end.specs.declared.objection.BoundName.TheVariants.{Unbounded, Cycle, Large}
 use Rattle.checked_program.specs.Acceptance.{IsAcceptedAs}
 use Rattle.checked_program.proofs.OneAnswer.{accepted_is_one}
-use Rattle.command_bound.specs.Bounding.{IsBound, HasNoBound, IsBounded, IsUnbounded}
+use Rattle.commands.specs.Bounding.{IsBound, HasNoBound, IsBounded, IsUnbounded}
 
 -- nothing isn't something
 not_none : {A : Type 0} {a : A} → None ≡ Some a → ⊥

@@ -19,10 +19,10 @@ use Rattle.delta_end.specs.declared.end.End.{End}
 use Rattle.delta_end.specs.declared.end.End.TheVariants.{Objected}
 use Rattle.checked_program.specs.Acceptance.{IsAcceptedAs}
 use Rattle.checked_program.proofs.OneAnswer.{accepted_is_one}
-use Rattle.command_feed.specs.Tables.{Takes, IsWrong, told_as, given_text, tables_fault, tables_word}
-use Rattle.command_feed.specs.Feeding.{input_of, IsFed, IsUnfed}
-use Rattle.command_feed.specs.Laws.{FedIsOne, RefusalIsOne, FedIsNotRefused, EachOrderGivesIt}
-use Rattle.command_feed.proofs.WholeTables.{are_prefixes, word_means}
+use Rattle.commands.specs.Tables.{Takes, IsWrong, told_as, given_text, tables_fault, tables_word}
+use Rattle.commands.specs.Feeding.{input_of, IsFed, IsUnfed}
+use Rattle.commands.specs.FeedLaws.{FedIsOne, UnfedIsOne, FedIsNotRefused, EachOrderGivesIt}
+use Rattle.commands.proofs.WholeTables.{are_prefixes, word_means}
 
 -- the program of a text is one
 same_program : (text : List ℕ) (p q : ProgramTree) (c d : CoreProgram) → IsAcceptedAs text p c → IsAcceptedAs text q d → p ≡ q
@@ -73,8 +73,8 @@ module _ (input output : StreamType) (tables : List (List ℕ)) where
 same_what : (one other : Objection) → Objected one ≡ Objected other → one ≡ other
 same_what one other e = cc
 
-pub refusal_is_one : RefusalIsOne
-refusal_is_one text tables one other h k =
+pub unfed_is_one : UnfedIsOne
+unfed_is_one text tables one other h k =
     let same = same_program text k.program h.program k.core h.core k.accepted h.accepted in
     let wrong = subst (λ (p : ProgramTree). IsWrong (input_of p) (main_of p).result tables k.why) same k.wrong in
     same_what one other (h.told ∙ ap told_as (one_wrong (input_of h.program) (main_of h.program).result tables h.why k.why h.wrong wrong) ∙ sym k.told)

@@ -19,9 +19,9 @@ use Rattle.delta_end.specs.declared.end.End.{End}
 use Rattle.delta_end.specs.declared.end.End.TheVariants.{Done, Usage, Refused, Input, Budget, Deep, Open, FileFailed, ReadFailed, WriteFailed, Memory, Long, Objected}
 use Rattle.delta_end.specs.End.{WriteCause}
 use Rattle.checked_program.specs.Acceptance.{IsAcceptedAs}
-use Rattle.command_feed.specs.Tables.{Takes, IsWrong, told_as, given_text, tables_word, IsCostlyAt, IsDeepAt, OfTables}
-use Rattle.command_feed.specs.Feeding.{input_of, IsFed, IsUnfed, IsStopped, Spends, Sinks, Tells, TellsFront, IsOfFeed}
-use Rattle.command_feed.specs.Given.{AreHeld, EndsRunning, EndsUnwritten, GivesText, IsUnwritten}
+use Rattle.commands.specs.Tables.{Takes, IsWrong, told_as, given_text, tables_word, IsCostlyAt, IsDeepAt, OfTables}
+use Rattle.commands.specs.Feeding.{input_of, IsFed, IsUnfed, IsStopped, Spends, Sinks, Tells, TellsFront, IsOfFeed}
+use Rattle.commands.specs.Given.{AreHeld, EndsRunning, EndsUnwritten, GivesText, IsUnwritten}
 
 -- what is said of a program: its types, what it gives, its calls and their levels
 record Way : Type 0 where

@@ -12,7 +12,7 @@ use Rattle.delta_output.specs.OneShot.{OneShot, meaning_of}
 use Rattle.delta_runner.specs.CoreOneShot.{one_shot}
 use Rattle.output_laws.specs.TreeOneShot.{one_shot_of}
 use Rattle.output_laws.proofs.Meant.{same_one_shot}
-use Rattle.command_run.specs.Running.{RanIts, RunsText}
+use Rattle.commands.specs.Running.{RanIts, RunsText}
 
 pub ran_its : (text : List ℕ) (budget : ℕ) (v : Version) (p : ProgramTree) (c : CoreProgram) → IsWritable text v p c → (old new : Option (List Move)) (left0 left1 : Option (List ℕ)) (end : End)
     → Ran (meaning_of v budget (one_shot c)) old new left0 left1 end → RanIts text budget v old new left0 left1 end

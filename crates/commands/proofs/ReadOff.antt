@@ -17,7 +17,7 @@ use Rattle.delta_check.proofs.NodePlaces.{length-places_in}
 use Rattle.state_bounds.specs.ProgramBound.{is_marked, reached_marks}
 use Rattle.delta_bound.specs.Refusals.{fun_places}
 use Rattle.delta_bound.specs.Unsized.{case_unsized, wait_unsized, placed, unsized_at, unsized_row, unsized_in, unsized_from, program_unsized}
-use Rattle.command_bound.specs.Unsized.{places_behind, first_unsized, first_unsized_among, first_unsized_in, first_unsized_from, main_places, core_unsized, bodies_at}
+use Rattle.commands.specs.Unsized.{places_behind, first_unsized, first_unsized_among, first_unsized_in, first_unsized_from, main_places, core_unsized, bodies_at}
 
 -- behind a term's places stand those of the next one
 behind : (a : Term) (i : ℕ) (next more : List ℕ) → places_behind (term_in a) (((i ∷ places_in a) ++ next) ++ more) ≡ next ++ more

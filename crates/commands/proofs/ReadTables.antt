@@ -8,8 +8,8 @@ use Rattle.core_term.specs.Parts.{par_left, par_right}
 use Rattle.table_feed.specs.declared.fault.FeedFault.{FeedFault}
 use Rattle.table_feed.specs.Tables.{or_else}
 use Rattle.delta_end.specs.declared.end.End.{End}
-use Rattle.command_feed.specs.Tables.{tables_fault, tables_in, whole_tables}
-use Rattle.command_feed.specs.Given.{AreHeld, AreRead, EndsReading}
+use Rattle.commands.specs.Tables.{tables_fault, tables_in, whole_tables}
+use Rattle.commands.specs.Given.{AreHeld, AreRead, EndsReading}
 
 -- what follows of an answer
 pub on_ok_too : (r : Result (Unit {0}) End) (P Q : Type 0) → (P → Q) → OnOk r P → OnOk r Q

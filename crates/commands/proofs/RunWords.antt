@@ -16,11 +16,11 @@ use Rattle.table_feed.specs.Rows.{text_of}
 use Rattle.table_feed.specs.Mixing.{AreWords, beside, mixed_word}
 use Rattle.table_feed.proofs.CanonicalWords.{canons_are_words}
 use Rattle.delta_end.specs.declared.end.End.{End}
-use Rattle.command_feed.specs.Tables.{Takes, told_as, tables_fault, tables_word, whole_tables, OfTables, tables_in}
-use Rattle.command_feed.specs.Given.{AreRead, EndsReading, EndsRunning, EndsUnwritten, GivesText}
-use Rattle.command_feed.proofs.WholeTables.{are_prefixes, are_whole, word_means}
-use Rattle.command_feed.proofs.WordSizes.{word_has_room}
-use Rattle.command_feed.proofs.Causes.{wrong_tables}
+use Rattle.commands.specs.Tables.{Takes, told_as, tables_fault, tables_word, whole_tables, OfTables, tables_in}
+use Rattle.commands.specs.Given.{AreRead, EndsReading, EndsRunning, EndsUnwritten, GivesText}
+use Rattle.commands.proofs.WholeTables.{are_prefixes, are_whole, word_means}
+use Rattle.commands.proofs.WordSizes.{word_has_room}
+use Rattle.commands.proofs.Causes.{wrong_tables}
 
 first_of : (a b : Bool) → (a && b) ≡ true → a ≡ true
 first_of true b e = refl

@@ -10,8 +10,8 @@ use Rattle.checked_program.specs.Acceptance.{IsWritable}
 use Rattle.delta_output.specs.OneShot.{OneShot, meaning_of}
 use Rattle.delta_runner.specs.CoreOneShot.{one_shot}
 use Rattle.output_laws.proofs.Meant.{same_one_shot}
-use Rattle.command_save.specs.Leaving.{Saves}
-use Rattle.command_save.specs.Saving.{SavesIts, SavesText}
+use Rattle.commands.specs.Leaving.{Saves}
+use Rattle.commands.specs.Saving.{SavesIts, SavesText}
 
 module _ (text : List ℕ) (budget : ℕ) (v : Version) (name : List ℕ) (old new : Option (List Move)) (left0 left1 : Option (List ℕ)) (files0 files1 : Option (List ℕ → List ℕ)) where
   pub saves_its : (p : ProgramTree) (c : CoreProgram) → IsWritable text v p c → (end : End)

@@ -1,6 +1,6 @@
 -- What was sent of a line tells what the line does.
 use Rattle.std.proofs.Common.{◌≡◌, ◌∙◌, ℕ, List, [], ◌∷◌, ◌++◌, ap, refl, subst, sym}
-use Rattle.command_bound.specs.Bounding.{TellsAll, TellsFront}
+use Rattle.commands.specs.Bounding.{TellsAll, TellsFront}
 
 -- a front of it
 pub front_told : (text line sent rest : List ℕ) → TellsAll text line → line ≡ sent ++ rest → TellsFront text sent

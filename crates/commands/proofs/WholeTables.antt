@@ -17,7 +17,7 @@ use Rattle.table_feed.specs.Mixing.{ArePrefixes, beside, mixed_word}
 use Rattle.table_feed.proofs.Values.{columns-item_type, table_is_value}
 use Rattle.table_feed.proofs.Faults.{first_none, second_none}
 use Rattle.table_feed.proofs.CanonicalWords.{canons_are_mixed}
-use Rattle.command_feed.specs.Tables.{whole_table, whole_tables, tables_fault, tables_word}
+use Rattle.commands.specs.Tables.{whole_table, whole_tables, tables_fault, tables_word}
 
 -- a good table is a value of the past of its type
 value_of_table : (s : StreamType) (file : ℕ) (bytes : List ℕ) → IsRowType s → table_fault (columns_of s) file bytes ≡ None → HasType (past s) (table_value (table_of bytes))

@@ -23,7 +23,7 @@ use Rattle.table_feed.specs.Mixing.{next_of, take_or_pass, take_at, rounds, in_o
 use Rattle.table_feed.proofs.CsvRecords.{length-strip_bom}
 use Rattle.table_feed.proofs.Faults.{first_none, second_none}
 use Rattle.table_feed.proofs.Values.{is_item_type}
-use Rattle.command_feed.specs.Tables.{whole_table, whole_tables, tables_fault, tables_word}
+use Rattle.commands.specs.Tables.{whole_table, whole_tables, tables_fault, tables_word}
 
 -- the events of all words
 abbrev total : List (List StreamEvent) → ℕ

@@ -12,7 +12,7 @@ use Rattle.delta_end.specs.declared.end.End.{End}
 use Rattle.delta_end.specs.declared.end.End.TheVariants.{Done, Usage, Refused, Input, Budget, Deep, Open, FileFailed, ReadFailed, WriteFailed, Memory, Long, Objected}
 use Rattle.checked_program.specs.Acceptance.{IsAcceptedAs, IsRefusedAs}
 use Rattle.delta_loop.specs.Return.{Begins}
-use Rattle.command_bound.specs.Unsized.{core_unsized, bodies_at}
+use Rattle.commands.specs.Unsized.{core_unsized, bodies_at}
 
 -- n is the bound of a program whose nodes have these places, and below the limit: no case and no wait that is
 -- reached counts a name without a size, and no function's number still grows

@@ -23,7 +23,7 @@ use Rattle.delta_loop.specs.Finding.{finding}
 use Rattle.delta_loop.specs.History.{History, IsUntouched}
 use Rattle.delta_loop.specs.Return.{Begins, IsWithinLimit}
 use Rattle.checked_program.specs.Acceptance.{IsWritable, IsRefusedToWrite}
-use Rattle.command_eval.specs.Gathering.{gathering}
+use Rattle.commands.specs.Gathering.{gathering}
 
 -- the type of a program's input
 abbrev pub input_of : ProgramTree → StreamType

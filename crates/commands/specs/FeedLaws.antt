@@ -8,16 +8,16 @@ use Rattle.delta_meaning.specs.SourceBody.{main_of}
 use Rattle.delta_meaning.specs.SourceMeaning.{mean}
 use Rattle.delta_end.specs.declared.objection.Objection.{Objection}
 use Rattle.table_feed.specs.Rows.{text_of}
-use Rattle.command_feed.specs.Tables.{Takes, tables_word}
-use Rattle.command_feed.specs.Feeding.{input_of, IsFed, IsUnfed}
+use Rattle.commands.specs.Tables.{Takes, tables_word}
+use Rattle.commands.specs.Feeding.{input_of, IsFed, IsUnfed}
 
 -- the text that is written for a text and for tables is one, whatever the order of their events
 abbrev pub FedIsOne : Type 0
 FedIsOne = (text : List ℕ) (tables : List (List ℕ)) (one other : List ℕ) → IsFed text tables one → IsFed text tables other → one ≡ other
 
 -- tables are refused for one cause at most, at one place
-abbrev pub RefusalIsOne : Type 0
-RefusalIsOne = (text : List ℕ) (tables : List (List ℕ)) (one other : Objection) → IsUnfed text tables one → IsUnfed text tables other → one ≡ other
+abbrev pub UnfedIsOne : Type 0
+UnfedIsOne = (text : List ℕ) (tables : List (List ℕ)) (one other : Objection) → IsUnfed text tables one → IsUnfed text tables other → one ≡ other
 
 -- tables that are fed aren't refused
 abbrev pub FedIsNotRefused : Type 0

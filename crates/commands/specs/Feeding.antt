@@ -14,7 +14,7 @@ use Rattle.delta_end.specs.declared.end.End.{End}
 use Rattle.delta_end.specs.declared.end.End.TheVariants.{Done, Usage, Refused, Input, Budget, Deep, Open, FileFailed, ReadFailed, WriteFailed, Memory, Long, Objected}
 use Rattle.checked_program.specs.Acceptance.{IsAcceptedAs, IsRefusedAs}
 use Rattle.delta_loop.specs.Return.{Begins}
-use Rattle.command_feed.specs.Tables.{Takes, IsWrong, told_as, given_text, tables_word, IsCostlyAt, IsDeepAt}
+use Rattle.commands.specs.Tables.{Takes, IsWrong, told_as, given_text, tables_word, IsCostlyAt, IsDeepAt}
 
 -- the type of a program's input
 abbrev pub input_of : ProgramTree → StreamType

@@ -5,7 +5,7 @@ use Rattle.event_word.specs.StreamEvent.{StreamEvent}
 use Rattle.event_word.specs.EventFault.{fault_of}
 use Rattle.event_word.specs.Word.{IsWord, after_word}
 use Rattle.delta_loop.specs.Meaning.{Meaning}
-use Rattle.command_eval.specs.declared.gathering.Gathering.{Gathering}
+use Rattle.commands.specs.declared.gathering.Gathering.{Gathering}
 
 -- an event may come where the type that is left admits it, the input may end where that type is null, and no call is made
 abbrev pub gathering : StreamType → Meaning

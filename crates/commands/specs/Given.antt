@@ -12,7 +12,7 @@ use Rattle.table_feed.specs.declared.fault.FeedFault.{FeedFault}
 use Rattle.delta_end.specs.declared.objection.Objection.TheVariants.{Table}
 use Rattle.delta_end.specs.declared.end.End.{End}
 use Rattle.delta_end.specs.declared.end.End.TheVariants.{Refused, Budget, Deep, FileFailed, Memory, Objected}
-use Rattle.command_feed.specs.Tables.{Takes, IsWrong, told_as, given_text, tables_fault, tables_word, whole_tables, IsCostlyAt, IsDeepAt, OfTables, tables_in}
+use Rattle.commands.specs.Tables.{Takes, IsWrong, told_as, given_text, tables_fault, tables_word, whole_tables, IsCostlyAt, IsDeepAt, OfTables, tables_in}
 
 -- the tables are those in the named files, where the shelf tells
 abbrev pub AreHeld : Option (List ℕ → List ℕ) → List (List ℕ) → List (List ℕ) → Type 0

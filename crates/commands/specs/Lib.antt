@@ -1,5 +1,20 @@
 -- What the contracts cite.
+pub mod Checking
+pub mod Printing
+pub mod PrintLaws
+pub mod Gathering
+pub mod Evaluating
+pub mod Running
+pub mod Leaving
+pub mod Saving
+pub mod Resuming
+pub mod Texts
+pub mod Generating
+pub mod Deriving
+pub mod Unsized
+pub mod Bounding
+pub mod BoundLaws
 pub mod Tables
 pub mod Feeding
 pub mod Given
-pub mod Laws
+pub mod FeedLaws

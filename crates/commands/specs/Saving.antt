@@ -10,7 +10,7 @@ use Rattle.checked_program.specs.Acceptance.{IsWritable, IsRefusedToWrite}
 use Rattle.delta_loop.specs.History.{IsUntouched}
 use Rattle.delta_output.specs.OneShot.{meaning_of}
 use Rattle.output_laws.specs.TreeOneShot.{one_shot_of}
-use Rattle.command_save.specs.Leaving.{Saves}
+use Rattle.commands.specs.Leaving.{Saves}
 
 -- the text is accepted, and its program ran, left its state and ended so: at each event it wrote the frames of the
 -- increment of its one-shot meaning

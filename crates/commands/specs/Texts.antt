@@ -8,7 +8,7 @@ use Rattle.delta_end.specs.declared.end.End.{End}
 use Rattle.delta_end.specs.declared.end.End.TheVariants.{Refused, Memory}
 use Rattle.checked_program.specs.Acceptance.{IsWritable, IsRefusedToWrite}
 use Rattle.delta_loop.specs.History.{IsUntouched}
-use Rattle.command_resume.specs.Resuming.{ResumesFile}
+use Rattle.commands.specs.Resuming.{ResumesFile}
 
 -- the text is accepted, and its program went on from the state in the file, or was told why not
 pub record ResumesIts (text : List ℕ) (budget : ℕ) (v : Version) (files : Option (List ℕ → List ℕ)) (name : List ℕ) (old new : Option (List Move))

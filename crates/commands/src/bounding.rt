@@ -10,7 +10,7 @@ ghost use Rattle.delta_end.specs.End.{WriteCause};
 ghost use Rattle.checked_program.specs.Acceptance.{IsAcceptedAs};
 ghost use Rattle.delta_bound.specs.Refusals.{Refuses};
 ghost use Rattle.delta_loop.specs.History.{Writes};
-ghost use Rattle.command_bound.specs.Bounding.{bound_line, Tells, TellsAll};
+ghost use Rattle.commands.specs.Bounding.{bound_line, Tells, TellsAll};
 
 use checked_program::{accept, dismiss};
 use core_term::Checked;

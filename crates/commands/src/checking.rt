@@ -1,6 +1,6 @@
 //! Checks the program of a text.
 
-ghost use Rattle.command_check.specs.Checking.{Checks};
+ghost use Rattle.commands.specs.Checking.{Checks};
 
 use checked_program::{accept, dismiss};
 use delta_end::End;

@@ -5,7 +5,7 @@ ghost use Rattle.core_term.specs.CoreTerm.{CoreProgram, core_of};
 ghost use Rattle.core_term.specs.FreeNames.{IsCore, HasFewNodes};
 ghost use Rattle.checked_program.specs.Acceptance.{IsElaboratedAs};
 ghost use Rattle.delta_derive.specs.FirstFault.{first_fault, IsValidText, TellsFirst, Denies};
-ghost use Rattle.command_derive.specs.Deriving.{longest, Derives, Refutes};
+ghost use Rattle.commands.specs.Deriving.{longest, Derives, Refutes};
 
 use checked_program::elaborate_text;
 use core_term::Core;

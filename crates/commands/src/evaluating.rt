@@ -12,7 +12,7 @@ ghost use Rattle.delta_tree.specs.Tree.{program_of as tree_of};
 ghost use Rattle.delta_elab.specs.Accepted.{IsAccepted};
 ghost use Rattle.delta_end.specs.End.{ReadCause, WriteCause};
 ghost use Rattle.delta_loop.specs.History.{Writes};
-ghost use Rattle.command_eval.specs.Evaluating.{input_of, meaning, evaluation, calls_on, ends_well, end_of, Evaluates, EvaluatesText};
+ghost use Rattle.commands.specs.Evaluating.{input_of, meaning, evaluation, calls_on, ends_well, end_of, Evaluates, EvaluatesText};
 
 use crate::gathering::Gathering;
 use checked_program::{Accepted, accept_to_write, dismiss};

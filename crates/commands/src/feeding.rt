@@ -3,11 +3,11 @@
 ghost use Rattle.std.specs.Prelude.{◌≡◌, ◌≤◌, List, ℕ, [], IfOk, IfErr, MatchResult, map, string_bytes};
 ghost use Rattle.delta_end.specs.End.{FileCause, WriteCause};
 ghost use Rattle.delta_loop.specs.History.{Writes};
-ghost use Rattle.command_feed.specs.Tables.{OfTables};
-ghost use Rattle.command_feed.specs.Feeding.{Tells, IsFed, IsOfFeed};
-ghost use Rattle.command_feed.specs.Given.{AreHeld, IsUnwritten};
+ghost use Rattle.commands.specs.Tables.{OfTables};
+ghost use Rattle.commands.specs.Feeding.{Tells, IsFed, IsOfFeed};
+ghost use Rattle.commands.specs.Given.{AreHeld, IsUnwritten};
 
-use crate::running::text_given;
+use crate::tables_run::text_given;
 use checked_program::{accept, dismiss};
 use delta_end::End;
 use delta_loop::send;

@@ -2,7 +2,7 @@
 
 ghost use Rattle.std.specs.Prelude.{◌≡◌, [], ⊤, IfOk};
 ghost use Rattle.stream_type.specs.StreamType.{type_of};
-ghost use Rattle.command_eval.specs.Gathering.{gathering, Gathers};
+ghost use Rattle.commands.specs.Gathering.{gathering, Gathers};
 
 use delta_loop::{StepFault, Stepper};
 use event_word::Event;

@@ -4,7 +4,7 @@ ghost use Rattle.std.specs.Prelude.{◌≡◌, ◌≢◌, ◌≤◌, List, ℕ};
 ghost use Rattle.delta_end.specs.declared.end.End.{End};
 ghost use Rattle.delta_end.specs.End.{WriteCause};
 ghost use Rattle.delta_loop.specs.History.{Writes};
-ghost use Rattle.command_gen.specs.Generating.{Generates};
+ghost use Rattle.commands.specs.Generating.{Generates};
 
 use delta_end::End;
 use delta_loop::send;

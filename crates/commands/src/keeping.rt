@@ -12,7 +12,7 @@ ghost use Rattle.delta_loop.specs.Meaning.{Meaning};
 ghost use Rattle.delta_output.specs.OneShot.{meaning_of};
 ghost use Rattle.delta_runner.specs.CoreOneShot.{one_shot};
 ghost use Rattle.delta_runner.specs.Standing.{IsOf, StandsFor};
-ghost use Rattle.command_save.specs.Leaving.{StandsForSome, KeptAs, AreIts, AreTooMany, Saves};
+ghost use Rattle.commands.specs.Leaving.{StandsForSome, KeptAs, AreIts, AreTooMany, Saves};
 
 use core_term::Checked;
 use delta_end::{End, Objection, StateName};

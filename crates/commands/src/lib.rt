@@ -1,10 +1,33 @@
-//! The command that feeds tables to the program of a text and writes the table that it gives.
+//! The commands, each one call: the text of a program is checked, printed, evaluated or run, its run is saved and
+//! resumed, its derivation is checked, its bound is told, tables are fed to it; and the load is run.
 #![tactic(auto)]
 
+mod bounding;
+mod checking;
+mod derivation;
+mod evaluating;
 mod feeding;
+mod gathering;
+mod generating;
+mod keeping;
 pub mod laws;
+mod printing;
 mod reading;
+mod refusing;
+mod resuming;
 mod running;
+mod saving;
+mod source;
+mod tables_run;
 mod telling;
 
+pub use bounding::bound_source;
+pub use checking::check_source;
+pub use derivation::{core_of_text, derive_core};
+pub use evaluating::eval_source;
 pub use feeding::feed_source;
+pub use generating::gen_load;
+pub use printing::print_source;
+pub use running::run_source;
+pub use saving::save_source;
+pub use source::resume_source;

@@ -3,7 +3,7 @@
 ghost use Rattle.std.specs.Prelude.{◌≡◌, List, ℕ, [], string_bytes, IfOk, IfErr};
 ghost use Rattle.delta_end.specs.End.{WriteCause};
 ghost use Rattle.delta_loop.specs.History.{Writes};
-ghost use Rattle.command_print.specs.Printing.{Prints, PrintsAll};
+ghost use Rattle.commands.specs.Printing.{Prints, PrintsAll};
 
 use delta_end::End;
 use delta_loop::send;

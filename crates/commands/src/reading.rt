@@ -9,8 +9,8 @@ ghost use Rattle.table_feed.specs.RowType.{IsRowType, AreTables, columns_of};
 ghost use Rattle.table_feed.specs.Tables.{table_fault};
 ghost use Rattle.delta_end.specs.declared.end.End.{End};
 ghost use Rattle.delta_end.specs.End.{FileCause};
-ghost use Rattle.command_feed.specs.Tables.{whole_table, tables_fault, told_as};
-ghost use Rattle.command_feed.specs.Given.{AreRead, EndsReading};
+ghost use Rattle.commands.specs.Tables.{whole_table, tables_fault, told_as};
+ghost use Rattle.commands.specs.Given.{AreRead, EndsReading};
 
 use crate::telling::end_of;
 use delta_end::End;

@@ -1,7 +1,7 @@
 //! Why a run doesn't go on from a state.
 
 ghost use Rattle.std.specs.Prelude.{◌≡◌};
-ghost use Rattle.command_resume.specs.Resuming.{IsSmallFault, end_of};
+ghost use Rattle.commands.specs.Resuming.{IsSmallFault, end_of};
 
 use delta_end::{End, Objection, StateName};
 use kept_check::KeepFault;

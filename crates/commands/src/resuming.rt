@@ -7,7 +7,7 @@ ghost use Rattle.core_term.specs.CoreTerm.{core_of, fits_of};
 ghost use Rattle.delta_end.specs.declared.end.End.{End};
 ghost use Rattle.delta_end.specs.End.{FileCause, ReadCause, WriteCause};
 ghost use Rattle.delta_loop.specs.Answer.{Adds, ReadsWell};
-ghost use Rattle.command_resume.specs.Resuming.{Resumes, ResumesFile};
+ghost use Rattle.commands.specs.Resuming.{Resumes, ResumesFile};
 
 use crate::refusing::fault_end;
 use core_term::Checked;

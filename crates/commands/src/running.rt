@@ -2,7 +2,7 @@
 
 ghost use Rattle.std.specs.Prelude.{◌≤◌};
 ghost use Rattle.delta_end.specs.End.{ReadCause, WriteCause};
-ghost use Rattle.command_run.specs.Running.{RunsText};
+ghost use Rattle.commands.specs.Running.{RunsText};
 
 use any_runner::{Begins, run_begun};
 use checked_program::{accept_to_write, dismiss};

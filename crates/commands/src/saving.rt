@@ -2,7 +2,7 @@
 
 ghost use Rattle.std.specs.Prelude.{◌≤◌};
 ghost use Rattle.delta_end.specs.End.{FileCause, ReadCause, WriteCause};
-ghost use Rattle.command_save.specs.Saving.{SavesText};
+ghost use Rattle.commands.specs.Saving.{SavesText};
 
 use crate::keeping::save_checked;
 use checked_program::{accept_to_write, dismiss};

@@ -4,7 +4,7 @@ ghost use Rattle.std.specs.Prelude.{◌≡◌, ◌≢◌, ◌≤◌};
 ghost use Rattle.delta_end.specs.declared.end.End.{End};
 ghost use Rattle.delta_end.specs.End.{FileCause, ReadCause, WriteCause};
 ghost use Rattle.delta_loop.specs.Answer.{Adds, ReadsWell};
-ghost use Rattle.command_resume.specs.Texts.{ResumesText};
+ghost use Rattle.commands.specs.Texts.{ResumesText};
 
 use crate::resuming::resume_checked;
 use checked_program::{accept_to_write, dismiss};

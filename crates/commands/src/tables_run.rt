@@ -10,8 +10,8 @@ ghost use Rattle.delta_state.specs.Stands.{input_type};
 ghost use Rattle.table_feed.specs.RowType.{IsRowType};
 ghost use Rattle.table_feed.specs.Rows.{text_of};
 ghost use Rattle.delta_end.specs.End.{FileCause};
-ghost use Rattle.command_feed.specs.Tables.{OfTables};
-ghost use Rattle.command_feed.specs.Given.{AreHeld, EndsRunning, EndsUnwritten, GivesText, IsUnwritten};
+ghost use Rattle.commands.specs.Tables.{OfTables};
+ghost use Rattle.commands.specs.Given.{AreHeld, EndsRunning, EndsUnwritten, GivesText, IsUnwritten};
 
 use crate::reading::read_words;
 use crate::telling::end_of;

@@ -3,7 +3,7 @@
 ghost use Rattle.std.specs.Prelude.{◌≡◌};
 ghost use Rattle.delta_end.specs.declared.end.End.TheVariants.{Objected};
 ghost use Rattle.delta_end.specs.declared.objection.Objection.TheVariants.{Table};
-ghost use Rattle.command_feed.specs.Tables.{told_as};
+ghost use Rattle.commands.specs.Tables.{told_as};
 
 use delta_end::{End, Objection, TableName};
 use table_feed::FeedFault;

@@ -13,8 +13,8 @@ use Rattle.delta_end.proofs.Statuses.{not_rose, answered, answered_eight, with_s
 use Rattle.checked_program.proofs.OneAnswer.{accepted_is_not_refused}
 use Rattle.delta_loop.specs.Answer.{Adds}
 use Rattle.delta_loop.proofs.Returning.{adds_none}
-use Rattle.command_bound.specs.Bounding.{IsBounded, bound_line, Tells}
-use Rattle.command_bound.proofs.OneAnswer.{bounds_are_one, bounded_is_not_unbounded}
+use Rattle.commands.specs.Bounding.{IsBounded, bound_line, Tells}
+use Rattle.commands.proofs.OneBound.{bounds_are_one, bounded_is_not_unbounded}
 use Rattle.delta_run.specs.Bounded.{BoundedText, TellsBound, BoundsWell, ObjectsWell, JudgesAccepted}
 use Rattle.delta_run.specs.Checked.{RefusesUnaccepted}
 use Rattle.delta_run.proofs.Told.{told_moves}

@@ -8,7 +8,7 @@ use Rattle.delta_end.specs.End.{FileCause, ReadCause, WriteCause}
 use Rattle.delta_end.specs.Status.{AnswerOf, IsStill}
 use Rattle.delta_end.proofs.Statuses.{not_rose, answered, answered_eight}
 use Rattle.checked_program.proofs.OneAnswer.{accepted_is_not_refused}
-use Rattle.command_check.specs.Checking.{Checks}
+use Rattle.commands.specs.Checking.{Checks}
 use Rattle.delta_run.specs.Checked.{ChecksText, PassesAccepted, RefusesUnaccepted}
 
 -- a check shows no failed call

@@ -11,7 +11,7 @@ use Rattle.delta_end.specs.Status.{AnswerOf, IsStill}
 use Rattle.delta_end.proofs.Statuses.{not_rose, answered, answered_eight}
 use Rattle.checked_program.specs.Acceptance.{IsElaboratedAs}
 use Rattle.checked_program.proofs.OneAnswer.{core_is_judged}
-use Rattle.command_derive.specs.Deriving.{IsDerivation, Derives}
+use Rattle.commands.specs.Deriving.{IsDerivation, Derives}
 use Rattle.delta_run.specs.Derived.{DerivesText, PassesDerived, RefusesUnderived, RefusesUnelaborated}
 
 -- a check shows no failed call

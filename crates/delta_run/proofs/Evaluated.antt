@@ -21,8 +21,8 @@ use Rattle.delta_loop.specs.Finding.{finding}
 use Rattle.delta_loop.specs.Prompt.{has_ended}
 use Rattle.delta_loop.proofs.Completeness.{whole_good, part_good}
 use Rattle.delta_loop.proofs.Returning.{adds_none, reads_well, unread}
-use Rattle.command_eval.specs.Gathering.{gathering}
-use Rattle.command_eval.specs.Evaluating.{input_of, calls_on, evaluation, MayEnd, Evaluates, EvaluatesIts, EvaluatesText}
+use Rattle.commands.specs.Gathering.{gathering}
+use Rattle.commands.specs.Evaluating.{input_of, calls_on, evaluation, MayEnd, Evaluates, EvaluatesIts, EvaluatesText}
 use Rattle.delta_run.specs.Evaluated.{EvaluatedText, EvaluatesMoves, EvalsText, RefusesUnwritable}
 
 module _ (text : List ℕ) (budget : ℕ) (v : Version) (old new : Option (List Move)) (left0 left1 : Option (List ℕ)) where

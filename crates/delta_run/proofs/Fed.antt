@@ -18,9 +18,9 @@ use Rattle.delta_end.proofs.Statuses.{not_rose, answered, answered_eight, with_s
 use Rattle.checked_program.specs.Acceptance.{IsAcceptedAs}
 use Rattle.checked_program.proofs.OneAnswer.{accepted_is_not_refused}
 use Rattle.delta_loop.specs.Answer.{Adds}
-use Rattle.command_feed.specs.Tables.{Takes, given_text, tables_in}
-use Rattle.command_feed.specs.Feeding.{input_of, IsFed, IsUnfed, Tells}
-use Rattle.command_feed.proofs.OneAnswer.{fed_is_one, fed_is_not_refused}
+use Rattle.commands.specs.Tables.{Takes, given_text, tables_in}
+use Rattle.commands.specs.Feeding.{input_of, IsFed, IsUnfed, Tells}
+use Rattle.commands.proofs.OneFeed.{fed_is_one, fed_is_not_refused}
 use Rattle.delta_run.specs.Told.{Told}
 use Rattle.delta_run.specs.Fed.{FedText, FeedsWell, RefusesTables}
 use Rattle.delta_run.specs.Checked.{RefusesUnaccepted}

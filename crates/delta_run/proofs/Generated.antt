@@ -10,7 +10,7 @@ use Rattle.delta_end.specs.End.{WriteCause}
 use Rattle.delta_end.specs.Status.{AnswerOf, IsStill}
 use Rattle.delta_end.proofs.Statuses.{not_rose, answered, answered_eight, with_status}
 use Rattle.delta_loop.specs.Answer.{Adds}
-use Rattle.command_gen.specs.Generating.{Generates, load_line}
+use Rattle.commands.specs.Generating.{Generates, load_line}
 use Rattle.delta_run.specs.Told.{Told}
 use Rattle.delta_run.specs.Generated.{GeneratedLine, GeneratesWell}
 use Rattle.delta_run.proofs.Told.{told_moves}

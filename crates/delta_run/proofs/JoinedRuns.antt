@@ -46,7 +46,7 @@ use Rattle.output_laws.specs.TreeOneShot.{one_shot_of}
 use Rattle.output_laws.proofs.Meant.{same_one_shot}
 use Rattle.kept_runner.specs.KeptOneShot.{meaning_since}
 use Rattle.kept_runner.proofs.JoinedRuns.{runs_joined}
-use Rattle.command_run.specs.Running.{IsMeant}
+use Rattle.commands.specs.Running.{IsMeant}
 use Rattle.delta_run.specs.Text.{RunsMoves}
 use Rattle.delta_run.specs.Saved.{SavesMoves, LeavesState, IsLeft}
 use Rattle.delta_run.specs.Resumed.{IsTypedAs, IsMeantSince, ResumesMoves}

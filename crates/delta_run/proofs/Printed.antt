@@ -18,7 +18,7 @@ use Rattle.delta_loop.proofs.Opening.{fresh}
 use Rattle.delta_loop.proofs.Limits.{within_limit}
 use Rattle.delta_loop.proofs.Returning.{adds_none, reads_well}
 use Rattle.delta_print.specs.Canonical.{canonical_text}
-use Rattle.command_print.specs.Printing.{Prints}
+use Rattle.commands.specs.Printing.{Prints}
 use Rattle.delta_run.specs.Printed.{PrintedText, WritesText, PrintsText, PrintsWell, RefusesWell}
 
 -- what is only written reads nothing

@@ -24,8 +24,8 @@ use Rattle.delta_loop.specs.Answer.{Adds}
 use Rattle.delta_loop.proofs.Returning.{adds_none, ran_prompt, returned}
 use Rattle.delta_loop.proofs.Completeness.{good_end, good_status}
 use Rattle.kept_runner.specs.KeptOneShot.{meaning_since}
-use Rattle.command_resume.specs.Resuming.{GoesOn, IsWrong, OfState}
-use Rattle.command_resume.specs.Texts.{ResumesIts, ResumesText}
+use Rattle.commands.specs.Resuming.{GoesOn, IsWrong, OfState}
+use Rattle.commands.specs.Texts.{ResumesIts, ResumesText}
 use Rattle.delta_run.specs.Settled.{IsOverInput}
 use Rattle.delta_run.specs.Evaluated.{RefusesUnwritable}
 use Rattle.delta_run.specs.Resumed.{ResumedText, IsTypedAs, IsMeantSince, IsNoState, ResumesPromptly, GoesOnSo, ResumesMoves, ResumesWell, RefusesState, ResumesSettled}

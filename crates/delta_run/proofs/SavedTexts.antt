@@ -30,9 +30,9 @@ use Rattle.delta_loop.specs.Answer.{Adds, ReadsWell, IsGood, IsCheap, WroteAll}
 use Rattle.delta_loop.proofs.Completeness.{wrote_all}
 use Rattle.delta_output.specs.OneShot.{meaning_of}
 use Rattle.output_laws.specs.TreeOneShot.{one_shot_of}
-use Rattle.command_run.specs.Running.{RanIts}
-use Rattle.command_save.specs.Leaving.{Way, IsSaved}
-use Rattle.command_save.specs.Saving.{SavesIts, SavesText}
+use Rattle.commands.specs.Running.{RanIts}
+use Rattle.commands.specs.Leaving.{Way, IsSaved}
+use Rattle.commands.specs.Saving.{SavesIts, SavesText}
 use Rattle.delta_run.specs.Text.{RanText, RunsPromptly}
 use Rattle.delta_run.specs.Settled.{IsOverInput, SettlesWell}
 use Rattle.delta_run.specs.Evaluated.{RefusesUnwritable}

@@ -12,7 +12,7 @@ use Rattle.delta_loop.specs.Meaning.{Meaning}
 use Rattle.delta_loop.specs.Loop.{Ran}
 use Rattle.delta_output.specs.OneShot.{meaning_of}
 use Rattle.output_laws.specs.TreeOneShot.{one_shot_of}
-use Rattle.command_run.specs.Running.{RanIts}
+use Rattle.commands.specs.Running.{RanIts}
 use Rattle.delta_run.specs.Text.{RanText}
 use Rattle.delta_run.specs.Settled.{IsOverInput, SettlesWell}
 use Rattle.delta_run.proofs.Settling.{none_other, run_settles, over_by_end, any_budget}

@@ -20,7 +20,7 @@ use Rattle.delta_loop.proofs.Returning.{adds_none, ran_prompt, ran_reads, return
 use Rattle.delta_loop.proofs.Completeness.{good_end, good_status}
 use Rattle.delta_output.specs.OneShot.{meaning_of}
 use Rattle.output_laws.specs.TreeOneShot.{one_shot_of}
-use Rattle.command_run.specs.Running.{RanIts, RunsText}
+use Rattle.commands.specs.Running.{RanIts, RunsText}
 use Rattle.delta_run.specs.Text.{RanText, RunsPromptly, RunsIts, RunsMoves, RunsWell}
 use Rattle.delta_run.specs.Evaluated.{RefusesUnwritable}
 

@@ -10,7 +10,7 @@ use Rattle.delta_end.specs.declared.objection.BoundName.{BoundName}
 use Rattle.checked_program.specs.Acceptance.{IsAcceptedAs}
 use Rattle.delta_loop.specs.Answer.{Adds}
 use Rattle.delta_loop.specs.History.{Writes}
-use Rattle.command_bound.specs.Bounding.{IsBounded, IsUnbounded, bound_line, Tells}
+use Rattle.commands.specs.Bounding.{IsBounded, IsUnbounded, bound_line, Tells}
 use Rattle.delta_run.specs.Told.{Told}
 
 -- to the log, where the file has this text

@@ -6,7 +6,7 @@ use Rattle.delta_end.specs.declared.end.End.{End}
 use Rattle.delta_end.specs.declared.end.End.TheVariants.{FileFailed}
 use Rattle.program_refusal.specs.declared.refusal.Refusal.{Refusal}
 use Rattle.checked_program.specs.Acceptance.{IsAcceptedAs, IsRefusedAs}
-use Rattle.command_check.specs.Checking.{Checks}
+use Rattle.commands.specs.Checking.{Checks}
 
 -- where the file has this text; nothing is said where the file failed
 abbrev pub ChecksText : List ℕ → End → Type 0

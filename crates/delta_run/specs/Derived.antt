@@ -5,7 +5,7 @@ use Rattle.delta_end.specs.declared.end.End.TheVariants.{FileFailed}
 use Rattle.delta_end.specs.declared.objection.DerivationName.{DerivationName}
 use Rattle.program_refusal.specs.declared.refusal.Refusal.{Refusal}
 use Rattle.checked_program.specs.Acceptance.{IsUnelaborated}
-use Rattle.command_derive.specs.Deriving.{IsDerived, IsUnderived, Derives}
+use Rattle.commands.specs.Deriving.{IsDerived, IsUnderived, Derives}
 
 -- where the files have these texts; nothing is said where one of them failed
 abbrev pub DerivesText : List ℕ → List ℕ → End → Type 0

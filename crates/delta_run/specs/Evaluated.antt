@@ -12,8 +12,8 @@ use Rattle.program_refusal.specs.declared.refusal.Refusal.{Refusal}
 use Rattle.delta_loop.specs.Answer.{Adds, IsGood}
 use Rattle.delta_loop.specs.Prompt.{IsPrompt, has_ended}
 use Rattle.checked_program.specs.Acceptance.{IsWritable, IsRefusedToWrite}
-use Rattle.command_eval.specs.Gathering.{gathering}
-use Rattle.command_eval.specs.Evaluating.{input_of, calls_on, evaluation, MayEnd, EvaluatesText}
+use Rattle.commands.specs.Gathering.{gathering}
+use Rattle.commands.specs.Evaluating.{input_of, calls_on, evaluation, MayEnd, EvaluatesText}
 use Rattle.delta_loop.specs.History.{IsUntouched}
 
 -- to the log, where the file has this text

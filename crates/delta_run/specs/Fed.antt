@@ -6,8 +6,8 @@ use Rattle.delta_end.specs.declared.objection.Objection.{Objection}
 use Rattle.delta_end.specs.declared.end.End.{End}
 use Rattle.delta_loop.specs.Answer.{Adds}
 use Rattle.delta_loop.specs.History.{Writes}
-use Rattle.command_feed.specs.Tables.{OfTables}
-use Rattle.command_feed.specs.Feeding.{IsFed, IsUnfed, NeverStops, Tells}
+use Rattle.commands.specs.Tables.{OfTables}
+use Rattle.commands.specs.Feeding.{IsFed, IsUnfed, NeverStops, Tells}
 
 -- to the log, where the files have these tables
 abbrev pub FedText : Option (List ℕ → List ℕ) → (text schedule : List ℕ) (names : List (List ℕ)) (budget : ℕ)

@@ -3,8 +3,8 @@ use Rattle.std.specs.Prelude.{◌≡◌, ℕ, List}
 use Rattle.delta_end.specs.declared.end.End.{End}
 use Rattle.delta_end.specs.Status.{IsStill}
 use Rattle.delta_loop.specs.Answer.{Adds}
-use Rattle.command_feed.specs.Tables.{OfTables}
-use Rattle.command_feed.specs.Feeding.{Tells}
+use Rattle.commands.specs.Tables.{OfTables}
+use Rattle.commands.specs.Feeding.{Tells}
 use Rattle.delta_run.specs.Outside.{Outside}
 use Rattle.delta_run.specs.Text.{OfFile}
 use Rattle.delta_run.specs.Checked.{RefusesUnaccepted}

@@ -5,7 +5,7 @@ use Rattle.port.specs.Moves.{bytes_written}
 use Rattle.delta_end.specs.declared.end.End.{End}
 use Rattle.delta_loop.specs.Answer.{Adds}
 use Rattle.delta_loop.specs.History.{Writes}
-use Rattle.command_gen.specs.Generating.{Generates, load_line}
+use Rattle.commands.specs.Generating.{Generates, load_line}
 
 -- to the log
 abbrev pub GeneratedLine : ℕ → ℕ → Option (List Move) → Option (List Move) → End → Type 0

@@ -3,7 +3,7 @@ use Rattle.std.specs.Prelude.{◌≡◌, ℕ}
 use Rattle.delta_end.specs.declared.end.End.{End}
 use Rattle.delta_end.specs.Status.{IsStill}
 use Rattle.delta_loop.specs.Answer.{Adds}
-use Rattle.command_gen.specs.Generating.{Generates}
+use Rattle.commands.specs.Generating.{Generates}
 use Rattle.delta_run.specs.Outside.{Outside}
 use Rattle.delta_run.specs.Told.{Told}
 use Rattle.delta_run.specs.Generated.{GeneratesWell}

@@ -20,7 +20,7 @@ use Rattle.checked_program.specs.Acceptance.{IsWritable}
 use Rattle.delta_loop.specs.Meaning.{Meaning}
 use Rattle.delta_loop.specs.Output.{accepted, due}
 use Rattle.delta_loop.specs.Loop.{IsWellEnded}
-use Rattle.command_run.specs.Running.{IsMeant}
+use Rattle.commands.specs.Running.{IsMeant}
 use Rattle.delta_run.specs.Saved.{IsLeft}
 use Rattle.delta_run.specs.Resumed.{IsTypedAs, IsMeantSince}
 use Rattle.delta_run.specs.Outside.{Outside}

@@ -11,7 +11,7 @@ use Rattle.delta_loop.specs.Answer.{Adds}
 use Rattle.delta_loop.specs.History.{Writes}
 use Rattle.delta_loop.specs.Prompt.{has_ended}
 use Rattle.delta_print.specs.Canonical.{canonical_text}
-use Rattle.command_print.specs.Printing.{Prints}
+use Rattle.commands.specs.Printing.{Prints}
 
 -- to the log, where the file has this text
 abbrev pub PrintedText : List ℕ → Option (List Move) → Option (List Move) → End → Type 0

@@ -24,8 +24,8 @@ use Rattle.delta_loop.specs.Output.{due}
 use Rattle.delta_loop.specs.Prompt.{IsPrompt}
 use Rattle.delta_loop.specs.Answer.{AtReturn, IsComplete}
 use Rattle.kept_runner.specs.KeptOneShot.{meaning_since}
-use Rattle.command_resume.specs.Resuming.{IsWrong}
-use Rattle.command_resume.specs.Texts.{ResumesText}
+use Rattle.commands.specs.Resuming.{IsWrong}
+use Rattle.commands.specs.Texts.{ResumesText}
 use Rattle.delta_run.specs.Settled.{IsOverInput, IsSettled}
 
 -- to the log, where the file has this text and the shelf holds these files

@@ -28,7 +28,7 @@ use Rattle.delta_loop.specs.Loop.{IsWellEnded}
 use Rattle.delta_loop.specs.Answer.{Adds, IsGood, IsCheap, WroteAll}
 use Rattle.delta_output.specs.OneShot.{meaning_of}
 use Rattle.output_laws.specs.TreeOneShot.{one_shot_of}
-use Rattle.command_save.specs.Saving.{SavesText}
+use Rattle.commands.specs.Saving.{SavesText}
 use Rattle.delta_run.specs.Text.{RunsMoves}
 
 -- to the log and to the shelf, where the file has this text

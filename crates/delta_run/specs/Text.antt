@@ -14,7 +14,7 @@ use Rattle.delta_loop.specs.Prompt.{IsPrompt}
 use Rattle.delta_loop.specs.Answer.{AtReturn, IsComplete}
 use Rattle.delta_output.specs.OneShot.{meaning_of}
 use Rattle.output_laws.specs.TreeOneShot.{one_shot_of}
-use Rattle.command_run.specs.Running.{IsMeant, RunsText}
+use Rattle.commands.specs.Running.{IsMeant, RunsText}
 
 -- where the shelf tells, this holds of the text in the named file: of its first 1,048,577 bytes, more than a text may have
 abbrev pub OfFile : Option (List ℕ → List ℕ) → List ℕ → (List ℕ → Type 0) → Type 0

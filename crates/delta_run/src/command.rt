@@ -24,15 +24,11 @@ ghost use Rattle.delta_run.specs.Text.{OfFile, RanText};
 
 use crate::kept::{resume_file, save_file};
 use any_runner::Begins;
-use command_bound::bound_source;
-use command_check::check_source;
-use command_derive::{core_of_text, derive_core};
-use command_eval::eval_source;
-use command_feed::feed_source;
-use command_gen::gen_load;
-use command_print::print_source;
-use command_run::run_source;
 use command_text::{write_frames, write_lines};
+use commands::{
+    bound_source, check_source, core_of_text, derive_core, eval_source, feed_source, gen_load,
+    print_source, run_source,
+};
 use delta_end::End;
 use delta_state::Machine;
 use delta_words::{Task, WordsFault, read_words};

@@ -8,8 +8,7 @@ ghost use Rattle.delta_run.specs.Text.{OfFile};
 ghost use Rattle.delta_run.specs.Saved.{SavedText, ChangesState};
 ghost use Rattle.delta_run.specs.Resumed.{ResumedText};
 
-use command_resume::resume_source;
-use command_save::save_source;
+use commands::{resume_source, save_source};
 use delta_end::End;
 use event_frame::Version;
 use machine_kept::Keeping;

@@ -1,7 +1,7 @@
 //! Programs evaluated over a link in memory.
 
 use crate::outside::{link, written};
-use command_eval::eval_source;
+use commands::eval_source;
 use delta_end::{End, InputFault};
 use event_frame::{FrameFault, Version};
 use program_refusal::{Refusal, RefusalName};

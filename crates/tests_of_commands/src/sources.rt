@@ -1,8 +1,7 @@
 //! A program is checked, and printed to a link in memory.
 
 use crate::outside::{are_written, link};
-use command_check::check_source;
-use command_print::print_source;
+use commands::{check_source, print_source};
 use delta_end::End;
 use program_refusal::{Refusal, RefusalName};
 use std::alloc::Global;

@@ -1,7 +1,7 @@
 //! Runs that go on from what is on the shelf.
 
 use crate::saves::{FRESH, HEADER, SAME, SEVEN, end_of, shelf_failing};
-use command_resume::resume_source;
+use commands::resume_source;
 use delta_code::Coded;
 use delta_end::{End, Objection, StateName};
 use event_frame::Version;

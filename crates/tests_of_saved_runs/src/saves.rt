@@ -1,6 +1,6 @@
 //! What is left on the shelf, by how a run ends.
 
-use command_save::save_source;
+use commands::save_source;
 use delta_code::Coded;
 use delta_end::End;
 use event_frame::Version;

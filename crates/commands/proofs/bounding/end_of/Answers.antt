@@ -2,8 +2,8 @@
 use Rattle.std.proofs.Common.{refl, subst}
 use Rattle.delta_bound.specs.declared.refusal.BoundRefusal.{BoundRefusal}
 use Rattle.delta_bound.specs.Refusals.{Refuses}
-use Rattle.command_bound.proofs.Texts.{unbounded, cyclic, large}
-use Rattle.command_bound.proofs.bounding.end_of.Goals as goal
+use Rattle.commands.proofs.BoundTexts.{unbounded, cyclic, large}
+use Rattle.commands.proofs.bounding.end_of.Goals as goal
 
 pub returns-in-Unbounded-clause-ended : goal.returns-in-Unbounded-clause-ended
 returns-in-Unbounded-clause-ended c text p core accepted places refuses =

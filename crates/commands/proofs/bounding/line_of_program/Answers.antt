@@ -3,9 +3,9 @@ use Rattle.std.proofs.Common.{ℕ, [], inl, refl, sym, subst}
 use Rattle.std.proofs.lemmas.Result.{IfOk-weaker, IfErr-weaker}
 use Rattle.delta_end.specs.declared.end.End.{End}
 use Rattle.delta_end.specs.End.{WriteCause}
-use Rattle.command_bound.specs.Bounding.{Tells}
-use Rattle.command_bound.proofs.Texts.{bounded}
-use Rattle.command_bound.proofs.bounding.line_of_program.Goals as goal
+use Rattle.commands.specs.Bounding.{Tells}
+use Rattle.commands.proofs.BoundTexts.{bounded}
+use Rattle.commands.proofs.bounding.line_of_program.Goals as goal
 
 pub returns-in-Ok-clause-told : goal.returns-in-Ok-clause-told
 returns-in-Ok-clause-told c text p accepted places =

@@ -1,8 +1,8 @@
 -- What was written of the line tells what the line does.
 use Rattle.std.proofs.Common.{rules, ap, inr}
 use Rattle.std.specs.Prelude.{is_ok}
-use Rattle.command_bound.proofs.SentLines.{front_told, all_told}
-use Rattle.command_bound.proofs.bounding.send_line.Goals as goal
+use Rattle.commands.proofs.SentLines.{front_told, all_told}
+use Rattle.commands.proofs.bounding.send_line.Goals as goal
 
 pub returns-in-Ok-clause-told : goal.returns-in-Ok-clause-told
 returns-in-Ok-clause-told g c text told =

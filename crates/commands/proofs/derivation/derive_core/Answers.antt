@@ -1,8 +1,8 @@
 -- What is said of each text with this core.
 use borrow.Author.Tests.{ltb-true, ltb-false}
 use Rattle.std.proofs.Common.{arith}
-use Rattle.command_derive.proofs.Faults.{too_long}
-use Rattle.command_derive.proofs.derivation.derive_core.Goals as goal
+use Rattle.commands.proofs.Faults.{too_long}
+use Rattle.commands.proofs.derivation.derive_core.Goals as goal
 
 pub returns-then-is_long : goal.returns-then-is_long
 returns-then-is_long c text elaborated = c.too_long.ensures _ _ (too_long _ c.args.proof.now (omega (arith, ltb-true))) text elaborated

@@ -3,8 +3,8 @@ use Rattle.std.proofs.Common.{rules, subst}
 use Rattle.delta_derive.specs.declared.fault.DeriveFault.{DeriveFault}
 use Rattle.delta_derive.specs.FirstFault.{first_fault, IsValidText, TellsFirst, Denies}
 use Rattle.delta_end.specs.declared.objection.DerivationName.TheVariants as name
-use Rattle.command_derive.proofs.Faults.{refutes}
-use Rattle.command_derive.proofs.derivation.end_of.Goals as goal
+use Rattle.commands.proofs.Faults.{refutes}
+use Rattle.commands.proofs.derivation.end_of.Goals as goal
 
 pub returns-in-Memory : goal.returns-in-Memory
 returns-in-Memory c = search rules

@@ -6,10 +6,10 @@ use Rattle.event_word.specs.Word.{IsWord}
 use Rattle.delta_tree.specs.Tree.{program_of}
 use Rattle.delta_meaning.specs.declared.refusal.EvalRefusal.TheVariants.{Budget}
 use Rattle.core_term.specs.CoreTerm.{core_of}
-use Rattle.command_eval.specs.Gathering.{gathering, Gathers}
-use Rattle.command_eval.specs.Evaluating.{input_of, calls_on, evaluation, ends_well, Evaluates}
-use Rattle.command_eval.proofs.Evaluated.{input_is, wanting_first, ends_unwell, gathered_word, refuses, says}
-use Rattle.command_eval.proofs.evaluating.eval_program.Goals as goal
+use Rattle.commands.specs.Gathering.{gathering, Gathers}
+use Rattle.commands.specs.Evaluating.{input_of, calls_on, evaluation, ends_well, Evaluates}
+use Rattle.commands.proofs.Evaluated.{input_is, wanting_first, ends_unwell, gathered_word, refuses, says}
+use Rattle.commands.proofs.evaluating.eval_program.Goals as goal
 
 pub returns-in-Err-clause-evaluated : goal.returns-in-Err-clause-evaluated
 returns-in-Err-clause-evaluated g c = wanting_first (program_of c.args.accepted.now.program) c.args.budget c.args.version _ _

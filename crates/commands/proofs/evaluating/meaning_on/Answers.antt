@@ -7,8 +7,8 @@ use Rattle.event_word.specs.Word.{IsWord, pre}
 use Rattle.delta_tree.specs.Tree.{program_of}
 use Rattle.core_term.specs.CoreTerm.{core_of}
 use Rattle.delta_meaning.specs.SourceMeaning.{mean, calls_of}
-use Rattle.command_eval.proofs.Evaluated.{input_is, spent_on}
-use Rattle.command_eval.proofs.evaluating.meaning_on.Goals as goal
+use Rattle.commands.proofs.Evaluated.{input_is, spent_on}
+use Rattle.commands.proofs.evaluating.meaning_on.Goals as goal
 
 pub prefix_of-requires : goal.prefix_of-requires
 prefix_of-requires c =

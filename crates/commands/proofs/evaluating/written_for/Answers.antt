@@ -8,9 +8,9 @@ use Rattle.stream_prefix.proofs.Derivations.{is_prefix}
 use Rattle.event_word.proofs.Words.{word_derives}
 use Rattle.delta_tree.specs.Tree.{program_of}
 use Rattle.core_term.specs.CoreTerm.{core_of}
-use Rattle.command_eval.specs.Evaluating.{input_of}
-use Rattle.command_eval.proofs.Evaluated.{input_is, says_prefix}
-use Rattle.command_eval.proofs.evaluating.written_for.Goals as goal
+use Rattle.commands.specs.Evaluating.{input_of}
+use Rattle.commands.proofs.Evaluated.{input_is, says_prefix}
+use Rattle.commands.proofs.evaluating.written_for.Goals as goal
 
 pub written-bytes-requires-clause-typed : goal.written-bytes-requires-clause-typed
 written-bytes-requires-clause-typed c =

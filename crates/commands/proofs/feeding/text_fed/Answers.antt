@@ -5,11 +5,11 @@ use Rattle.core_term.specs.CoreTerm.{core_of}
 use Rattle.delta_tree.specs.Tree.{program_of}
 use Rattle.delta_elab.proofs.Whole.{elaborate-fits}
 use Rattle.delta_end.specs.declared.end.End.{End}
-use Rattle.command_feed.specs.Tables.{tables_in}
-use Rattle.command_feed.proofs.ReadTables.{if_err_too}
-use Rattle.command_feed.proofs.RunWords.{if_ok_too}
-use Rattle.command_feed.proofs.Programs.{is_fed, is_told}
-use Rattle.command_feed.proofs.feeding.text_fed.Goals as goal
+use Rattle.commands.specs.Tables.{tables_in}
+use Rattle.commands.proofs.ReadTables.{if_err_too}
+use Rattle.commands.proofs.RunWords.{if_ok_too}
+use Rattle.commands.proofs.Programs.{is_fed, is_told}
+use Rattle.commands.proofs.feeding.text_fed.Goals as goal
 
 pub returns-in-Ok-clause-fed : goal.returns-in-Ok-clause-fed
 returns-in-Ok-clause-fed g c =

@@ -1,9 +1,9 @@
 -- The bytes are those of what the machine keeps.
 use Rattle.std.proofs.lemmas.Result.{IfOk-weaker}
 use Rattle.delta_keep.specs.KeptView.{kept_of, places_kept}
-use Rattle.command_save.specs.Leaving.{AreIts}
-use Rattle.command_save.proofs.Leaving.{kept_as, are_its}
-use Rattle.command_save.proofs.keeping.bytes_of.Goals as goal
+use Rattle.commands.specs.Leaving.{AreIts}
+use Rattle.commands.proofs.Leaving.{kept_as, are_its}
+use Rattle.commands.proofs.keeping.bytes_of.Goals as goal
 
 pub returns-in-Ok-clause-bytes : goal.returns-in-Ok-clause-bytes
 returns-in-Ok-clause-bytes g c =

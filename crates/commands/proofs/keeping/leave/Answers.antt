@@ -1,8 +1,8 @@
 -- The run ended well, and its state was written, or was too large.
 use Rattle.std.proofs.Common.{Err, ◌∙◌, ap, refl}
-use Rattle.command_save.specs.Leaving.{Way}
-use Rattle.command_save.proofs.Leaving.{is_saved, is_too_large, is_well, saves_well}
-use Rattle.command_save.proofs.keeping.leave.Goals as goal
+use Rattle.commands.specs.Leaving.{Way}
+use Rattle.commands.proofs.Leaving.{is_saved, is_too_large, is_well, saves_well}
+use Rattle.commands.proofs.keeping.leave.Goals as goal
 
 pub returns-in-Ok-write-clause-left : goal.returns-in-Ok-write-clause-left
 returns-in-Ok-write-clause-left g c P d old new left0 left1 of to =

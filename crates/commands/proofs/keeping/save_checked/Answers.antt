@@ -5,9 +5,9 @@ use Rattle.delta_loop.specs.Stopping.{StopsFor}
 use Rattle.delta_output.specs.OneShot.{meaning_of}
 use Rattle.delta_runner.specs.CoreOneShot.{one_shot}
 use Rattle.delta_runner.proofs.Stepping.{ran_not}
-use Rattle.command_save.specs.Leaving.{Way}
-use Rattle.command_save.proofs.Leaving.{changes_nothing, saves_nothing}
-use Rattle.command_save.proofs.keeping.save_checked.Goals as goal
+use Rattle.commands.specs.Leaving.{Way}
+use Rattle.commands.proofs.Leaving.{changes_nothing, saves_nothing}
+use Rattle.commands.proofs.keeping.save_checked.Goals as goal
 
 pub returns-in-Ok-clause-saved : goal.returns-in-Ok-clause-saved
 returns-in-Ok-clause-saved g c =

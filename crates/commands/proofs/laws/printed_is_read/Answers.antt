@@ -2,7 +2,7 @@
 use Rattle.std.specs.Str.{chars}
 use Rattle.delta_lex.proofs.Divisions.{read_divides}
 use Rattle.delta_print.proofs.ParsedTrees.{parsed_is_read}
-use Rattle.command_print.proofs.laws.printed_is_read.Goals as goal
+use Rattle.commands.proofs.laws.printed_is_read.Goals as goal
 
 pub returns : goal.returns
 returns c text p is =

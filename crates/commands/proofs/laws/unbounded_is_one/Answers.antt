@@ -1,5 +1,5 @@
-use Rattle.command_bound.proofs.OneAnswer.{refusals_are_one}
-use Rattle.command_bound.proofs.laws.refusal_is_one.Goals as goal
+use Rattle.commands.proofs.OneBound.{refusals_are_one}
+use Rattle.commands.proofs.laws.unbounded_is_one.Goals as goal
 
 pub returns : goal.returns
 returns c = refusals_are_one

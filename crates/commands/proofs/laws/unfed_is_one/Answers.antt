@@ -1,5 +1,5 @@
-use Rattle.command_feed.proofs.OneAnswer.{refusal_is_one}
-use Rattle.command_feed.proofs.laws.refusal_is_one.Goals as goal
+use Rattle.commands.proofs.OneFeed.{unfed_is_one}
+use Rattle.commands.proofs.laws.unfed_is_one.Goals as goal
 
 pub returns : goal.returns
-returns c = refusal_is_one
+returns c = unfed_is_one

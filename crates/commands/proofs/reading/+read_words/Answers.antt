@@ -5,10 +5,10 @@ use Rattle.std.proofs.lemmas.Result.{err_from_is_err_and}
 use Rattle.stream_type.specs.StreamType.{type_of, par}
 use Rattle.event_word.specs.StreamEvent.{StreamEvent}
 use Rattle.delta_end.specs.declared.end.End.{End}
-use Rattle.command_feed.specs.Tables.{tables_fault}
-use Rattle.command_feed.specs.Given.{AreRead, EndsReading}
-use Rattle.command_feed.proofs.ReadTables.{on_ok_too, if_err_too, some_left, reads_behind, first_wrong, later_wrong}
-use Rattle.command_feed.proofs.reading.+read_words.Goals as goal
+use Rattle.commands.specs.Tables.{tables_fault}
+use Rattle.commands.specs.Given.{AreRead, EndsReading}
+use Rattle.commands.proofs.ReadTables.{on_ok_too, if_err_too, some_left, reads_behind, first_wrong, later_wrong}
+use Rattle.commands.proofs.reading.+read_words.Goals as goal
 
 pub returns-in_err-read_behind-in-Par-clause-ended : goal.returns-in_err-read_behind-in-Par-clause-ended
 returns-in_err-read_behind-in-Par-clause-ended g t c =

@@ -2,7 +2,7 @@
 use Rattle.std.proofs.Common.{List, ℕ, [], ◌∷◌, ◌∙◌, ap, refl}
 use Rattle.event_word.specs.StreamEvent.{StreamEvent}
 use Rattle.table_feed.proofs.Values.{if_ok_both}
-use Rattle.command_feed.proofs.reading.read_word.Goals as goal
+use Rattle.commands.proofs.reading.read_word.Goals as goal
 
 pub returns-in-Ok-clause-word : goal.returns-in-Ok-clause-word
 returns-in-Ok-clause-word g c =

@@ -1,8 +1,8 @@
 -- The run is that of the state that was read, and what is told has a small place.
 use Rattle.core_term.specs.CoreTerm.{core_of}
 use Rattle.delta_keep.specs.KeptView.{kept_of, places_kept}
-use Rattle.command_resume.proofs.Ends.{is_small, goes_on, refuses, resumes_reads, resumes_usage}
-use Rattle.command_resume.proofs.resuming.resume_bytes.Goals as goal
+use Rattle.commands.proofs.Ends.{is_small, goes_on, refuses, resumes_reads, resumes_usage}
+use Rattle.commands.proofs.resuming.resume_bytes.Goals as goal
 
 pub fault_end-requires : goal.fault_end-requires
 fault_end-requires g c = is_small (core_of c.args.c.now) c.args.bytes.now c.in-Err.fault c.in-Err.ensures.fault

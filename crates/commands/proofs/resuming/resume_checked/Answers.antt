@@ -4,8 +4,8 @@ use Rattle.delta_end.specs.declared.end.End.TheVariants.{Memory, FileFailed}
 use Rattle.delta_loop.specs.Answer.{ReadsWell}
 use Rattle.delta_loop.proofs.Returning.{adds_none, unread}
 use Rattle.core_term.specs.CoreTerm.{core_of}
-use Rattle.command_resume.proofs.Ends.{of_file}
-use Rattle.command_resume.proofs.resuming.resume_checked.Goals as goal
+use Rattle.commands.proofs.Ends.{of_file}
+use Rattle.commands.proofs.resuming.resume_checked.Goals as goal
 
 pub returns-in-Ok-clause-resumed : goal.returns-in-Ok-clause-resumed
 returns-in-Ok-clause-resumed g c =

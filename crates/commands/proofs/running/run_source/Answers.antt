@@ -1,7 +1,7 @@
 use Rattle.delta_tree.specs.Tree.{program_of}
 use Rattle.delta_elab.proofs.Whole.{elaborate-fits}
-use Rattle.command_run.proofs.Ran.{ran_its, runs_text}
-use Rattle.command_run.proofs.running.run_source.Goals as goal
+use Rattle.commands.proofs.Ran.{ran_its, runs_text}
+use Rattle.commands.proofs.running.run_source.Goals as goal
 
 pub run_begun-end-requires-clause-fits : goal.run_begun-end-requires-clause-fits
 run_begun-end-requires-clause-fits g c = elaborate-fits (program_of c.in-Ok.accepted.program) _ c.in-Ok.ensures.accepted.accepted.accepted.elaborated

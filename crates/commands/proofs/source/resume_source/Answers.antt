@@ -1,7 +1,7 @@
 use Rattle.delta_tree.specs.Tree.{program_of}
 use Rattle.delta_elab.proofs.Whole.{elaborate-fits}
-use Rattle.command_resume.proofs.Ends.{resumes_text}
-use Rattle.command_resume.proofs.source.resume_source.Goals as goal
+use Rattle.commands.proofs.Ends.{resumes_text}
+use Rattle.commands.proofs.source.resume_source.Goals as goal
 
 pub resume_checked-end-requires-clause-fits : goal.resume_checked-end-requires-clause-fits
 resume_checked-end-requires-clause-fits g c = elaborate-fits (program_of c.in-Ok.accepted.program) _ c.in-Ok.ensures.accepted.accepted.accepted.elaborated

@@ -10,12 +10,12 @@ use Rattle.delta_state.specs.Stands.{input_type}
 use Rattle.table_feed.specs.RowType.{HasShape}
 use Rattle.table_feed.specs.Mixing.{mixed_word}
 use Rattle.delta_end.specs.declared.end.End.{End}
-use Rattle.command_feed.specs.Tables.{tables_fault}
-use Rattle.command_feed.specs.Given.{AreRead, EndsReading}
-use Rattle.command_feed.proofs.Causes.{low_reach, reading_unwritten, running_unwritten, run_is_no_file, stands}
-use Rattle.command_feed.proofs.ReadTables.{if_err_too}
-use Rattle.command_feed.proofs.RunWords.{input_is_low, if_ok_too, shape_of, not_shape, read_as, shape_is_told, reading_is_told, words_are_words, word_is_whole, word_is_short, gives, stop_is_told}
-use Rattle.command_feed.proofs.running.text_given.Goals as goal
+use Rattle.commands.specs.Tables.{tables_fault}
+use Rattle.commands.specs.Given.{AreRead, EndsReading}
+use Rattle.commands.proofs.Causes.{low_reach, reading_unwritten, running_unwritten, run_is_no_file, stands}
+use Rattle.commands.proofs.ReadTables.{if_err_too}
+use Rattle.commands.proofs.RunWords.{input_is_low, if_ok_too, shape_of, not_shape, read_as, shape_is_told, reading_is_told, words_are_words, word_is_whole, word_is_short, gives, stop_is_told}
+use Rattle.commands.proofs.tables_run.text_given.Goals as goal
 
 pub read_words-requires-clause-reach : goal.read_words-requires-clause-reach
 read_words-requires-clause-reach g c =

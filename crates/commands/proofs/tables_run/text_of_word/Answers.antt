@@ -1,6 +1,6 @@
 -- A run that was stopped tells the event.
 use Rattle.std.proofs.Common.{inl, inr, rules}
-use Rattle.command_feed.proofs.running.text_of_word.Goals as goal
+use Rattle.commands.proofs.tables_run.text_of_word.Goals as goal
 
 pub returns-in-Err-Budget-clause-ended : goal.returns-in-Err-Budget-clause-ended
 returns-in-Err-Budget-clause-ended g c = inr (inl (c.in-Err-Budget.at, search rules, c.in-Err-Budget.ensures.costly c.in-Err-Budget.at (search rules)))

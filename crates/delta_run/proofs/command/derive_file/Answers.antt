@@ -1,7 +1,7 @@
 -- Where the first text has no core, the second file isn't read.
 use Rattle.std.proofs.Common.{◌∙◌, ℕ, List, [], take, subst, sym}
 use Rattle.delta_end.specs.End.{FileCause}
-use Rattle.command_derive.specs.Deriving.{Derives}
+use Rattle.commands.specs.Deriving.{Derives}
 use Rattle.delta_run.proofs.Derived.{derives_read, derives_write, derives_file, derives_usage, derives_text}
 use Rattle.delta_run.proofs.command.derive_file.Goals as goal
 

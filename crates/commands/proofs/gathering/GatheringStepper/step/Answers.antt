@@ -2,8 +2,8 @@
 use Rattle.std.proofs.Common.{◌≡◌, Some, ◌∙◌, ap, sym, refl}
 use Rattle.stream_type.specs.StreamType.{type_of}
 use Rattle.event_word.proofs.Walks.{no_fault_is_admitted}
-use Rattle.command_eval.proofs.Gathered.{gathers_next, gathers_same, faults_here, answers_nothing}
-use Rattle.command_eval.proofs.gathering.GatheringStepper.step.Goals as goal
+use Rattle.commands.proofs.Gathered.{gathers_next, gathers_same, faults_here, answers_nothing}
+use Rattle.commands.proofs.gathering.GatheringStepper.step.Goals as goal
 
 pub returns-in-Ok-push-clause-ok : goal.returns-in-Ok-push-clause-ok
 returns-in-Ok-push-clause-ok c P word now =

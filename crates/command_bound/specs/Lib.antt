@@ -1,4 +1,0 @@
--- What the contracts cite.
-pub mod Unsized
-pub mod Bounding
-pub mod Laws

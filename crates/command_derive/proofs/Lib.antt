@@ -1,2 +1,0 @@
--- Lemmas, each file named for what it is about.
-pub mod Faults

@@ -1,1 +1,0 @@
--- Lemmas: none are needed so far.

@@ -1,3 +1,0 @@
--- Lemmas.
-pub mod Places
-pub mod Ends

@@ -1,3 +1,0 @@
--- Lemmas.
-pub mod Leaving
-pub mod Texts

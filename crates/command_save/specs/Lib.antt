@@ -1,3 +1,0 @@
--- What the contracts cite.
-pub mod Leaving
-pub mod Saving
