@@ -4,9 +4,9 @@ ghost use Rattle.std.specs.Prelude.{◌≤◌};
 ghost use Rattle.delta_end.specs.End.{ReadCause, WriteCause};
 ghost use Rattle.commands.specs.Running.{RunsText};
 
-use any_runner::{Begins, run_begun};
 use checked_program::{accept_to_write, dismiss};
 use delta_end::End;
+use delta_runner::{Begins, run_begun};
 use event_frame::Version;
 use port::Link;
 use program_text::TextFault;

@@ -23,13 +23,13 @@ ghost use Rattle.delta_loop.specs.History.{IsUntouched};
 ghost use Rattle.delta_run.specs.Text.{OfFile, RanText};
 
 use crate::kept::{resume_file, save_file};
-use any_runner::Begins;
 use command_text::{write_frames, write_lines};
 use commands::{
     bound_source, check_source, core_of_text, derive_core, eval_source, feed_source, gen_load,
     print_source, run_source,
 };
 use delta_end::End;
+use delta_runner::Begins;
 use delta_state::Machine;
 use delta_words::{Task, WordsFault, read_words};
 use event_frame::Version;

@@ -13,8 +13,8 @@ ghost use Rattle.delta_run.specs.Ends.{Ends};
 ghost use Rattle.delta_run.specs.Owes.{Owes};
 
 use crate::command::run_command;
-use any_runner::Begins;
 use delta_end::{answer, note};
+use delta_runner::Begins;
 use delta_state::Machine;
 use machine_kept::Keeping;
 use port::{Link, Shelf, Sink};

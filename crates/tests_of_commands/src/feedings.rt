@@ -2,9 +2,8 @@
 //! written was worked out by hand.
 
 use crate::outside::{are_written, link, outcome_on, words, written};
-use any_runner::Begins;
 use delta_code::Coded;
-use delta_runner::Runner;
+use delta_runner::{Begins, Runner};
 use delta_state::Machine;
 use delta_step::Tree;
 use learned_runner::Learner;

@@ -1,8 +1,8 @@
 //! What a command is given, and what it writes.
 
-use any_runner::Begins;
 use delta_code::Coded;
 use delta_run::delta;
+use delta_runner::Begins;
 use delta_state::Machine;
 use learned_runner::Learner;
 use port::{Link, MemLink, MemShelf, MemSink, Move};

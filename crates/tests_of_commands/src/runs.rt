@@ -1,9 +1,8 @@
 //! Programs run event by event. Inputs and outputs are event lines; each output was worked out by hand.
 
 use crate::outside::{frames_of, link, outcome_on, shelf_of, words, written};
-use any_runner::Begins;
 use delta_code::Coded;
-use delta_runner::Runner;
+use delta_runner::{Begins, Runner};
 use delta_state::Machine;
 use delta_step::Tree;
 use learned_runner::Learner;

@@ -1,9 +1,8 @@
 //! Whole runs over a shelf, a link and a sink in memory.
 
 use crate::outside::{are_written, outcome_on, pieces, shelf_of, words};
-use any_runner::Begins;
 use delta_code::Coded;
-use delta_runner::Runner;
+use delta_runner::{Begins, Runner};
 use delta_state::Machine;
 use delta_step::Tree;
 use learned_runner::Learner;

@@ -1,5 +1,5 @@
 -- A session's runner begins as it did.
-use Rattle.any_runner.proofs.begins.RunnerBegins.begin.Goals as goal
+use Rattle.delta_runner.proofs.begins.RunnerBegins.begin.Goals as goal
 
 pub returns-clause-begun : goal.returns-clause-begun
 returns-clause-begun g c = c.begin.ensures.begun

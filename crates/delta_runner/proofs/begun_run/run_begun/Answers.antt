@@ -5,7 +5,7 @@ use Rattle.delta_loop.specs.Meaning.{HasBegun}
 use Rattle.delta_output.specs.OneShot.{meaning_of}
 use Rattle.delta_runner.specs.CoreOneShot.{one_shot}
 use Rattle.delta_runner.proofs.Stepping.{ran_not}
-use Rattle.any_runner.proofs.running.run_begun.Goals as goal
+use Rattle.delta_runner.proofs.begun_run.run_begun.Goals as goal
 
 pub returns-in-Ok-clause-ran : goal.returns-in-Ok-clause-ran
 returns-in-Ok-clause-ran g c =

@@ -10,9 +10,9 @@ ghost use Rattle.delta_loop.specs.Meaning.{HasBegun};
 ghost use Rattle.delta_output.specs.OneShot.{meaning_of};
 ghost use Rattle.delta_runner.specs.CoreOneShot.{one_shot};
 
+use crate::runner::{self, BeginFault, Runner};
 use core_term::Checked;
 use delta_loop::Stepper;
-use delta_runner::{BeginFault, Runner};
 use delta_state::Machine;
 use event_frame::Version;
 use std::alloc::Global;
@@ -43,6 +43,6 @@ impl<M: Machine> Begins for Runner<M> {
         budget: u64,
         version: Version,
     ) -> Result<(Runner<M>, Vec<u8>), BeginFault> {
-        delta_runner::begin::<M>(alloc, c, budget, version)
+        runner::begin::<M>(alloc, c, budget, version)
     }
 }

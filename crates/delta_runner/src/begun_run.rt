@@ -1,4 +1,4 @@
-//! Runs a checked program over a link.
+//! Runs a checked program over a link by whatever can be begun for it.
 
 ghost use Rattle.std.specs.Prelude.{◌≤◌, IsTrue};
 ghost use Rattle.stream_type.specs.StreamType.{reach_of};
@@ -10,10 +10,10 @@ ghost use Rattle.delta_output.specs.OneShot.{meaning_of};
 ghost use Rattle.delta_runner.specs.CoreOneShot.{one_shot};
 
 use crate::begins::Begins;
+use crate::runner::BeginFault;
 use core_term::Checked;
 use delta_end::End;
 use delta_loop::{run_machine, stop_first};
-use delta_runner::BeginFault;
 use event_frame::Version;
 use port::Link;
 use std::alloc::Global;
