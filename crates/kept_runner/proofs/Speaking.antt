@@ -13,13 +13,13 @@ use Rattle.kept_state.specs.KeptTree.{KeptTree}
 use Rattle.kept_state.specs.KeptTyping.{IsTypedKept}
 use Rattle.kept_state.specs.KeptMeaning.{input_kept, mean_kept}
 use Rattle.kept_state.proofs.KeptSteps.{kept_derives}
-use Rattle.kept_session.proofs.KeptGrowth.{runnable, kept_grows}
+use Rattle.kept_runner.proofs.KeptGrowth.{runnable, kept_grows}
 use Rattle.delta_loop.specs.Output.{answers_after}
 use Rattle.delta_output.specs.OneShot.{Grows, said, said_to, frames_of}
 use Rattle.delta_output.specs.Spoken.{spoken_after}
 use Rattle.delta_output.proofs.Speaking as speaking
 use Rattle.kept_runner.specs.KeptOneShot.{one_shot_kept, meaning_since}
-use Rattle.kept_runner.specs.Laws.{OutputIsSpoken, SpokenIsMeant, OrderDoesNotMatter, NothingIsRevised}
+use Rattle.kept_runner.specs.OutputLaws.{OutputIsSpoken, SpokenIsMeant, OrderDoesNotMatter, NothingIsRevised}
 
 module _ (c : CoreProgram) (k : KeptTree) where
   -- a typed kept state gives a prefix of what is left of the output's type, and on more input no less

@@ -27,15 +27,15 @@ use Rattle.kept_state.specs.KeptMeaning.{input_kept, split_kept, output_since}
 use Rattle.kept_state.specs.Laws.{input_since}
 use Rattle.kept_state.proofs.RestSplits.{rest_empty}
 use Rattle.machine_kept.specs.SinceView.{answer_since, IsCostlySince, IsDeepSince}
-use Rattle.kept_session.specs.declared.session.Resumed.{Resumed}
-use Rattle.kept_session.specs.declared.session.Life.TheVariants.{Open, Closed}
-use Rattle.kept_session.specs.Standing.{Stands, IsClosed, IsLive}
-use Rattle.kept_session.proofs.KeptGrowth.{answer_is_prefix, left_falls}
+use Rattle.kept_runner.specs.declared.session.Resumed.{Resumed}
+use Rattle.kept_runner.specs.declared.session.Life.TheVariants.{Open, Closed}
+use Rattle.kept_runner.specs.SessionStanding.{Stands, IsClosed, IsLive}
+use Rattle.kept_runner.proofs.KeptGrowth.{answer_is_prefix, left_falls}
 use Rattle.delta_loop.specs.Meaning.{Meaning, IsCostly, IsDeep, Stands as LoopStands}
 use Rattle.delta_loop.specs.Loop.{Ran}
 use Rattle.delta_loop.proofs.Opening.{ran_nothing}
 use Rattle.kept_runner.specs.KeptOneShot.{meaning_since}
-use Rattle.kept_runner.specs.Standing.{IsOf, StandsFor}
+use Rattle.kept_runner.specs.RunnerStanding.{IsOf, StandsFor}
 use Rattle.kept_runner.specs.declared.runner.ResumedRunner.{ResumedRunner}
 
 -- the answer to an event has no longer paths than the output

@@ -1,4 +1,6 @@
 -- Definitions that the contracts cite.
+pub mod SessionStanding
+pub mod SessionLaws
 pub mod KeptOneShot
-pub mod Standing
-pub mod Laws
+pub mod RunnerStanding
+pub mod OutputLaws

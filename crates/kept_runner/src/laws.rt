@@ -1,7 +1,15 @@
-//! The laws of what is put out where a run goes on from a kept state, each the contract of a function with nothing in
-//! it. What they say stands in `specs/Laws.antt`.
+//! The laws of sessions that go on from what was kept of a program, and of what is put out where a run goes on from a
+//! kept state, each the contract of a function with nothing in it. What they say stands in `specs/SessionLaws.antt` and
+//! `specs/OutputLaws.antt`.
 
-ghost use Rattle.kept_runner.specs.Laws.{OutputIsSpoken, SpokenIsMeant, OrderDoesNotMatter, NothingIsRevised, RunsJoin};
+ghost use Rattle.kept_runner.specs.SessionLaws.{GoesOnAsProgram};
+ghost use Rattle.kept_runner.specs.OutputLaws.{OutputIsSpoken, SpokenIsMeant, OrderDoesNotMatter, NothingIsRevised, RunsJoin};
+
+/// Where the state was kept of a program after a word, each event is awaited, answered and refused for its calls as in
+/// the program after that word and the one that came since.
+pub fn goes_on_as_program()
+    ensures { GoesOnAsProgram }
+{}
 
 /// What is written is the frames of the canonical words of the successive increments, without a header.
 pub fn output_is_spoken()

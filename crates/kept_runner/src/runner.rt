@@ -8,8 +8,9 @@ ghost use Rattle.kept_state.specs.KeptTyping.{IsTypedKept};
 ghost use Rattle.delta_keep.specs.KeptView.{kept_of};
 ghost use Rattle.delta_loop.specs.Meaning.{HasBegun};
 ghost use Rattle.kept_runner.specs.KeptOneShot.{meaning_since};
-ghost use Rattle.kept_runner.specs.Standing.{IsOfSame, StandsFor};
+ghost use Rattle.kept_runner.specs.RunnerStanding.{IsOfSame, StandsFor};
 
+use crate::session::Resumed;
 use core_term::Checked;
 use delta_keep::Kept;
 use delta_loop::{StepFault, Stepper};
@@ -17,7 +18,6 @@ use delta_runner::word_frames;
 use delta_session::FeedRefusal;
 use event_frame::Version;
 use event_word::Event;
-use kept_session::Resumed;
 use machine_kept::Keeping;
 use std::alloc::Global;
 use stream_type::Memory;
@@ -26,7 +26,7 @@ use stream_type::Memory;
 const MOST: u64 = 1 << 42;
 
 /// A session that goes on from a kept state, and the version of the frames that are answered. `StandsFor` of
-/// `specs/Standing.antt` says for which kept states and words it stands.
+/// `specs/RunnerStanding.antt` says for which kept states and words it stands.
 #[derive(Drop)]
 pub struct ResumedRunner<M> {
     /// The session.

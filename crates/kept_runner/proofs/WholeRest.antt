@@ -29,8 +29,8 @@ use Rattle.kept_state.specs.Laws.{input_since, StandsForKeptAfter}
 use Rattle.kept_state.proofs.RestBunches.{left_or_over}
 use Rattle.kept_state.proofs.RestSplits.{rest_derives}
 use Rattle.machine_kept.specs.SinceView.{StandsSince}
-use Rattle.kept_session.specs.Standing.{IsAt}
-use Rattle.kept_session.proofs.KeptGrowth.{since_derives, said_is_prefix}
+use Rattle.kept_runner.specs.SessionStanding.{IsAt}
+use Rattle.kept_runner.proofs.KeptGrowth.{since_derives, said_is_prefix}
 
 module _ (c : CoreProgram) (k : KeptTree) (typed : IsTypedKept c k) {p : StreamPrefix} (h : Derives (input_kept c k) p) (whole : is_maximal p ≡ true) where
   -- all has come on each parameter: on one that was left, since all came, and on each other before

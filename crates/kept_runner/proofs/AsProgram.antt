@@ -22,8 +22,8 @@ use Rattle.kept_state.specs.KeptMeaning.{input_kept, mean_kept, calls_kept}
 use Rattle.kept_state.specs.Laws.{IsKept, input_since, event_since}
 use Rattle.kept_state.proofs.KeptSteps.{kept_derives}
 use Rattle.machine_kept.specs.SinceView.{answer_since, IsCostlySince, IsDeepSince}
-use Rattle.kept_session.specs.Laws.{IsAsProgram, GoesOnAsProgram}
-use Rattle.kept_session.proofs.KeptGrowth.{runnable, said_grows}
+use Rattle.kept_runner.specs.SessionLaws.{IsAsProgram, GoesOnAsProgram}
+use Rattle.kept_runner.proofs.KeptGrowth.{runnable, said_grows}
 
 -- what is left after two words, one after the other
 after_word-append : (v w : List StreamEvent) (s : StreamType) → after_word (v ++ w) s ≡ after_word w (after_word v s)

@@ -24,8 +24,8 @@ use Rattle.kept_state.specs.KeptTree.{KeptTree}
 use Rattle.kept_state.specs.KeptTyping.{IsTypedKept}
 use Rattle.kept_state.specs.KeptMeaning.{input_kept, output_since}
 use Rattle.kept_state.specs.Laws.{input_since}
-use Rattle.kept_session.specs.declared.session.Life.TheVariants.{Open, Closed}
-use Rattle.kept_session.specs.declared.session.Resumed.{Resumed}
+use Rattle.kept_runner.specs.declared.session.Life.TheVariants.{Open, Closed}
+use Rattle.kept_runner.specs.declared.session.Resumed.{Resumed}
 
 -- a session is open, and runs this machine
 abbrev pub Runs : {M : Type 0} → Resumed M → M → Type 0

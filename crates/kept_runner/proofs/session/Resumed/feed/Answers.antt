@@ -3,10 +3,10 @@ use Rattle.std.proofs.Common.{◌≡◌, inl, Some, None, Err, ◌∙◌, ap, sy
 use Rattle.stream_type.specs.StreamType.{type_of}
 use Rattle.event_word.proofs.Walks.{no_fault_is_admitted}
 use Rattle.delta_session.specs.declared.refusal.Cause.TheVariants.{Budget, Deep}
-use Rattle.kept_session.specs.declared.session.Life.TheVariants.{Closed}
+use Rattle.kept_runner.specs.declared.session.Life.TheVariants.{Closed}
 use Rattle.delta_session.proofs.Feeding.{closed_by}
-use Rattle.kept_session.proofs.Feeding.{at_here, room_here, stands_next, open_next, takes_next, same_session, still_open, not_closed}
-use Rattle.kept_session.proofs.session.Resumed.feed.Goals as goal
+use Rattle.kept_runner.proofs.Feeding.{at_here, room_here, stands_next, open_next, takes_next, same_session, still_open, not_closed}
+use Rattle.kept_runner.proofs.session.Resumed.feed.Goals as goal
 
 pub returns-in-Err-clause-refused : goal.returns-in-Err-clause-refused
 returns-in-Err-clause-refused g c fault is =

@@ -21,7 +21,7 @@ ghost use Rattle.kept_state.specs.KeptMeaning.{input_kept, mean_kept};
 ghost use Rattle.kept_state.specs.Laws.{input_since};
 ghost use Rattle.delta_keep.specs.KeptView.{kept_of};
 ghost use Rattle.machine_kept.specs.SinceView.{answer_since, IsCostlySince, IsDeepSince};
-ghost use Rattle.kept_session.specs.Standing.{IsAt, WhereItIs, HasRoom, Stands, WhereItStands, Runs, HasTaken, Takes, TakesNothing, IsOpen, IsClosed, IsLive, IsUnchanged, Closes};
+ghost use Rattle.kept_runner.specs.SessionStanding.{IsAt, WhereItIs, HasRoom, Stands, WhereItStands, Runs, HasTaken, Takes, TakesNothing, IsOpen, IsClosed, IsLive, IsUnchanged, Closes};
 
 use core_term::{Checked, Core};
 use delta_keep::Kept;
@@ -41,8 +41,8 @@ enum Life<M> {
     Closed(Cause),
 }
 
-/// A program that goes on from a kept state, to which events are fed one by one. `Stands` of `specs/Standing.antt`
-/// says for which kept states and words it stands.
+/// A program that goes on from a kept state, to which events are fed one by one. `Stands` of
+/// `specs/SessionStanding.antt` says for which kept states and words it stands.
 #[derive(Drop)]
 pub struct Resumed<M> {
     life: Life<M>,

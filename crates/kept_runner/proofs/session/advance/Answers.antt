@@ -2,8 +2,8 @@
 use Rattle.std.proofs.Common.{◌∙◌, ap}
 use Rattle.event_word.specs.Canon.{canon}
 use Rattle.machine_kept.specs.SinceView.{answer_since}
-use Rattle.kept_session.proofs.KeptGrowth.{awaits, may_take, fits_output, output_narrow, at_next}
-use Rattle.kept_session.proofs.session.advance.Goals as goal
+use Rattle.kept_runner.proofs.KeptGrowth.{awaits, may_take, fits_output, output_narrow, at_next}
+use Rattle.kept_runner.proofs.session.advance.Goals as goal
 
 pub step_since-requires : goal.step_since-requires
 step_since-requires g c =

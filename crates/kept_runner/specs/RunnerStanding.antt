@@ -7,8 +7,8 @@ use Rattle.core_term.specs.CoreTerm.{CoreProgram}
 use Rattle.delta_state.specs.MachineView.{MachineView}
 use Rattle.kept_state.specs.KeptTree.{KeptTree}
 use Rattle.delta_loop.specs.Meaning.{Meaning}
-use Rattle.kept_session.specs.declared.session.Resumed.{Resumed}
-use Rattle.kept_session.specs.Standing.{Runs, Stands}
+use Rattle.kept_runner.specs.declared.session.Resumed.{Resumed}
+use Rattle.kept_runner.specs.SessionStanding.{Runs, Stands}
 use Rattle.kept_runner.specs.KeptOneShot.{meaning_since}
 use Rattle.kept_runner.specs.declared.runner.ResumedRunner.{ResumedRunner}
 

@@ -9,8 +9,8 @@ use Rattle.core_term.specs.Typing.{IsTypedCore}
 use Rattle.kept_state.specs.KeptMeaning.{input_kept}
 use Rattle.delta_keep.specs.KeptView.{kept_of}
 use Rattle.delta_session.proofs.Growth.{fits_narrow}
-use Rattle.kept_session.proofs.KeptGrowth.{at_start}
-use Rattle.kept_session.proofs.session.Resumed.resume.Goals as goal
+use Rattle.kept_runner.proofs.KeptGrowth.{at_start}
+use Rattle.kept_runner.proofs.session.Resumed.resume.Goals as goal
 
 pub returns-clause-stands : goal.returns-clause-stands
 returns-clause-stands g c =

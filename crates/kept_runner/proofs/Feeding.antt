@@ -10,10 +10,10 @@ use Rattle.delta_state.specs.MachineView.{MachineView}
 use Rattle.delta_session.specs.declared.refusal.Cause.{Cause}
 use Rattle.kept_state.specs.KeptTree.{KeptTree}
 use Rattle.kept_state.specs.KeptMeaning.{input_kept}
-use Rattle.kept_session.specs.declared.session.Life.{Life}
-use Rattle.kept_session.specs.declared.session.Life.TheVariants.{Open, Closed}
-use Rattle.kept_session.specs.declared.session.Resumed.{Resumed}
-use Rattle.kept_session.specs.Standing.{IsAt, WhereItIs, HasRoom, Stands, WhereItStands, HasTaken, Runs, IsOpen, IsClosed, IsLive}
+use Rattle.kept_runner.specs.declared.session.Life.{Life}
+use Rattle.kept_runner.specs.declared.session.Life.TheVariants.{Open, Closed}
+use Rattle.kept_runner.specs.declared.session.Resumed.{Resumed}
+use Rattle.kept_runner.specs.SessionStanding.{IsAt, WhereItIs, HasRoom, Stands, WhereItStands, HasTaken, Runs, IsOpen, IsClosed, IsLive}
 
 module _ {M : Type 0} (seen : M → MachineView) (since : M → KeptTree → List StreamEvent → Type 0) (session : Resumed M) (machine : M) (is : Runs session machine) where
   -- an open session isn't closed

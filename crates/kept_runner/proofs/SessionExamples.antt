@@ -20,9 +20,9 @@ use Rattle.kept_state.specs.KeptTree.{KeptTree}
 use Rattle.kept_state.specs.KeptTyping.{IsTypedKept}
 use Rattle.kept_state.specs.KeptMeaning.{input_kept}
 use Rattle.machine_kept.specs.SinceView.{answer_since}
-use Rattle.kept_session.specs.declared.session.Life.TheVariants.{Closed}
-use Rattle.kept_session.specs.declared.session.Resumed.{Resumed}
-use Rattle.kept_session.specs.Standing.{HasTaken}
+use Rattle.kept_runner.specs.declared.session.Life.TheVariants.{Closed}
+use Rattle.kept_runner.specs.declared.session.Resumed.{Resumed}
+use Rattle.kept_runner.specs.SessionStanding.{HasTaken}
 
 -- `main(x : Int . Int) : Int . Int = x`
 abbrev two_numbers : CoreProgram

@@ -1,7 +1,7 @@
 -- What was said is whole where the whole of the input has come.
 use Rattle.stream_type.specs.StreamType.{type_of}
-use Rattle.kept_session.proofs.WholeRest.{whole_at_end}
-use Rattle.kept_session.proofs.session.Resumed.rest.Goals as goal
+use Rattle.kept_runner.proofs.WholeRest.{whole_at_end}
+use Rattle.kept_runner.proofs.session.Resumed.rest.Goals as goal
 
 pub returns-clause-whole : goal.returns-clause-whole
 returns-clause-whole g c program kept budget word stands ended =

@@ -24,7 +24,7 @@ use Rattle.kept_state.proofs.RestSplits.{rest_derives, rest_after_derives, rest_
 use Rattle.kept_state.proofs.KeptSteps.{kept_derives}
 use Rattle.machine_kept.specs.SinceView.{StandsSince, AwaitsSince, MayTakeSince, answer_since}
 use Rattle.machine_kept.proofs.SinceSteps.{output_first}
-use Rattle.kept_session.specs.Standing.{IsAt}
+use Rattle.kept_runner.specs.SessionStanding.{IsAt}
 
 module _ (c : CoreProgram) (can : CanRun c) (k : KeptTree) (typed : IsTypedKept c k) where
   -- it runs

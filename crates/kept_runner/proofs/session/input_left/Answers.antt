@@ -10,7 +10,7 @@ use Rattle.kept_state.specs.KeptTyping.{types_kept}
 use Rattle.delta_keep.specs.KeptView.{kept_of}
 use Rattle.machine_kept.specs.KeptAwaiting.{awaited_left, awaited_type}
 use Rattle.machine_kept.proofs.KeptAwaited.{type_awaited}
-use Rattle.kept_session.proofs.session.input_left.Goals as goal
+use Rattle.kept_runner.proofs.session.input_left.Goals as goal
 
 pub returns : goal.returns
 returns c =

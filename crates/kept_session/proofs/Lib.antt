@@ -1,6 +1,0 @@
--- Lemmas.
-pub mod KeptGrowth
-pub mod WholeRest
-pub mod Feeding
-pub mod AsProgram
-pub mod Examples
