@@ -2,13 +2,13 @@
 use Rattle.std.specs.Prelude.{◌≡◌, ℕ, List}
 use Rattle.delta_end.specs.declared.end.End.{End}
 use Rattle.delta_end.specs.declared.end.End.TheVariants.{Done, Usage, Refused, Input, Budget, Deep, Open, FileFailed, ReadFailed, WriteFailed, Memory, Long, Objected}
-use Rattle.delta_feed.specs.Load.{load}
+use Rattle.delta_load.specs.Load.{load}
 use Rattle.delta_load.specs.Counting.{totals_of}
 use Rattle.delta_load.specs.Summary.{summary_of}
 use Rattle.delta_loop.specs.Return.{Begins}
 use Rattle.delta_output.specs.Spoken.{spoken}
 use Rattle.delta_runner.specs.CoreOneShot.{one_shot}
-use Rattle.load_program.specs.LoadCore.{load_core}
+use Rattle.delta_load.specs.LoadCore.{load_core}
 
 -- the line of a load: its items, its events and bytes, those of what the load's program puts out on it, and the last
 -- key among these

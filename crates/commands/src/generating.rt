@@ -7,9 +7,9 @@ ghost use Rattle.delta_loop.specs.History.{Writes};
 ghost use Rattle.commands.specs.Generating.{Generates};
 
 use delta_end::End;
+use delta_load::generate;
 use delta_loop::send;
 use delta_state::Machine;
-use load_program::generate;
 use port::{IoFault, Link};
 use std::alloc::Global;
 

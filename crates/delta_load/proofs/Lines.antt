@@ -1,8 +1,8 @@
 -- The line, with the counts of the load worked out.
 use Rattle.std.proofs.Common.{◌≡◌, ℕ, ◌+◌, ◌*◌, List, length, Result, Ok, Err, IfOk, ap, sym, ◌∙◌}
-use Rattle.delta_feed.specs.Load.{load}
-use Rattle.delta_feed.proofs.Places.{length-load}
-use Rattle.delta_feed.proofs.Words.{length-stream}
+use Rattle.delta_load.specs.Load.{load}
+use Rattle.delta_load.proofs.Places.{length-load}
+use Rattle.delta_load.proofs.Words.{length-stream}
 use Rattle.delta_load.specs.declared.totals.Totals.{Totals}
 use Rattle.delta_load.specs.Counting.{stream_bytes}
 use Rattle.delta_load.specs.Summary.{counts_told, last_told, totals_line, summary_of}

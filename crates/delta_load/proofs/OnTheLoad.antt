@@ -17,9 +17,9 @@ use Rattle.delta_session.specs.Standing.{Stands, IsOpen}
 use Rattle.delta_output.specs.OneShot.{OneShot, said, said_to}
 use Rattle.delta_output.specs.Spoken.{spoken, spoken_after}
 use Rattle.delta_runner.specs.CoreOneShot.{one_shot}
-use Rattle.delta_feed.specs.Load.{load_type, load}
-use Rattle.delta_feed.proofs.Words.{is_word}
-use Rattle.delta_feed.proofs.Places.{length-load}
+use Rattle.delta_load.specs.Load.{load_type, load}
+use Rattle.delta_load.proofs.Words.{is_word}
+use Rattle.delta_load.proofs.Places.{length-load}
 use Rattle.delta_load.specs.declared.totals.Totals.{Totals}
 use Rattle.delta_load.specs.Counting.{totals_of, IsLong}
 use Rattle.delta_load.specs.Standing.{IsOnLoad}

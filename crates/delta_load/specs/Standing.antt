@@ -6,7 +6,7 @@ use Rattle.delta_state.specs.MachineView.{MachineView}
 use Rattle.delta_state.specs.Stands.{input_type}
 use Rattle.delta_session.specs.declared.session.Session.{Session}
 use Rattle.delta_session.specs.Standing.{Stands}
-use Rattle.delta_feed.specs.Load.{load_type}
+use Rattle.delta_load.specs.Load.{load_type}
 
 -- an open session of some program whose input has the load's type, with a million calls at each event, stands after this word
 pub record IsOnLoad {M : Type 0} (seen : M → MachineView) (stands : M → List StreamEvent → Type 0) (session : Session M) (word : List StreamEvent) :

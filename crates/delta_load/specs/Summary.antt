@@ -2,7 +2,7 @@
 use Rattle.std.specs.Prelude.{ℕ, ℤ, List, [], ◌∷◌, ◌++◌, length, Option, Some, None, codes, decimal}
 use Rattle.std.specs.List.{concat}
 use Rattle.std.specs.Fmt.{signed_decimal}
-use Rattle.delta_feed.specs.Load.{load}
+use Rattle.delta_load.specs.Load.{load}
 use Rattle.delta_load.specs.declared.totals.Totals.{Totals}
 use Rattle.delta_load.specs.Counting.{stream_bytes}
 

@@ -11,14 +11,14 @@ ghost use Rattle.delta_state.specs.Stands.{input_type};
 ghost use Rattle.delta_session.specs.Standing.{Stands, WhereItStands, IsOpen};
 ghost use Rattle.delta_output.specs.Spoken.{spoken};
 ghost use Rattle.delta_runner.specs.CoreOneShot.{one_shot};
-ghost use Rattle.delta_feed.specs.Load.{load_type, load};
+ghost use Rattle.delta_load.specs.Load.{load_type, load};
 ghost use Rattle.delta_load.specs.Counting.{totals_of, IsLong};
 ghost use Rattle.delta_load.specs.Standing.{IsOnLoad};
 ghost use Rattle.delta_load.specs.Stopping.{IsMet, StopsForCalls, StopsForLevel};
 
+use crate::generator::gen_event;
 use crate::totals::Totals;
 use core_term::Checked;
-use delta_feed::gen_event;
 use delta_session::{FeedRefusal, OpenRefusal, Session};
 use delta_state::Machine;
 use event_word::Event;

@@ -8,10 +8,9 @@ use crate::sessions::{opened, said_to};
 use checked_program::{accept, dismiss};
 use core_term::{Checked, fits};
 use delta_code::Coded;
-use delta_feed::gen_event;
+use delta_load::{LOAD_TEXT, gen_event};
 use delta_session::Session;
 use delta_state::Machine;
-use load_program::LOAD_TEXT;
 use std::alloc::Global;
 use std::test::Fail;
 

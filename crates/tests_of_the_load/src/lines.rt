@@ -1,7 +1,7 @@
 //! The line of a start and a number of items.
 
 use delta_code::Coded;
-use load_program::generate;
+use delta_load::generate;
 use std::alloc::Global;
 use std::test::Fail;
 

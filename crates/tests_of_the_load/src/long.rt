@@ -2,9 +2,9 @@
 
 use crate::lines::is_line;
 use delta_code::Coded;
+use delta_load::LOAD_TEXT;
 use delta_run::delta;
 use learned_runner::Learner;
-use load_program::LOAD_TEXT;
 use port::{MemLink, MemShelf, MemSink, Move};
 use std::alloc::Global;
 use std::test::Fail;

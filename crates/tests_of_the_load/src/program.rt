@@ -1,8 +1,8 @@
 //! The text of the load's program.
 
 use checked_program::{Accepted, accept, dismiss};
+use delta_load::LOAD_TEXT;
 use delta_print::print;
-use load_program::LOAD_TEXT;
 use std::alloc::Global;
 use std::test::Fail;
 

@@ -4,7 +4,7 @@ use Rattle.event_word.specs.StreamEvent.{StreamEvent}
 use Rattle.delta_state.specs.MachineView.{IsCostly, IsDeep}
 use Rattle.delta_output.specs.Spoken.{spoken}
 use Rattle.delta_runner.specs.CoreOneShot.{one_shot}
-use Rattle.delta_feed.specs.Load.{load}
+use Rattle.delta_load.specs.Load.{load}
 use Rattle.delta_load.specs.Counting.{totals_of}
 use Rattle.delta_load.proofs.OnTheLoad.{goes_on, long_here, meets, open_here, admitted_here, room_here, load_whole}
 use Rattle.delta_load.proofs.running.feed_load.Goals as goal

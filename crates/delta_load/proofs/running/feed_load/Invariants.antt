@@ -1,5 +1,5 @@
 use Rattle.std.proofs.Common.{take}
-use Rattle.delta_feed.specs.Load.{load}
+use Rattle.delta_load.specs.Load.{load}
 use Rattle.delta_load.proofs.OnTheLoad.{Goes}
 use Rattle.delta_load.proofs.running.feed_load.Given as goal
 

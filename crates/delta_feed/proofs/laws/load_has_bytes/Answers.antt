@@ -1,5 +1,0 @@
-use Rattle.delta_feed.proofs.Words.{length-stream}
-use Rattle.delta_feed.proofs.laws.load_has_bytes.Goals as goal
-
-pub returns : goal.returns
-returns c = λ start items. length-stream start 0 items

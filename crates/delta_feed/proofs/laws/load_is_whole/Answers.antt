@@ -1,5 +1,0 @@
-use Rattle.delta_feed.proofs.Words.{is_whole}
-use Rattle.delta_feed.proofs.laws.load_is_whole.Goals as goal
-
-pub returns : goal.returns
-returns c = λ start items. is_whole start 0 items

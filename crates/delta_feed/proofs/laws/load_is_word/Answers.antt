@@ -1,5 +1,0 @@
-use Rattle.delta_feed.proofs.Words.{is_word}
-use Rattle.delta_feed.proofs.laws.load_is_word.Goals as goal
-
-pub returns : goal.returns
-returns c = λ start items. is_word start 0 items
