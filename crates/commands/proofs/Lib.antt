@@ -12,6 +12,8 @@ pub mod BoundTexts
 pub mod SentLines
 pub mod OneBound
 mod BoundExamples
+pub mod OnTheWord
+mod WordExamples
 pub mod ReadTables
 pub mod WholeTables
 pub mod WordSizes

@@ -14,6 +14,7 @@ pub mod Deriving
 pub mod Unsized
 pub mod Bounding
 pub mod BoundLaws
+pub mod Stopping
 pub mod Tables
 pub mod Feeding
 pub mod Given

@@ -15,7 +15,7 @@ use Rattle.table_feed.specs.RowType.{HasShape, columns_of}
 use Rattle.table_feed.specs.Tables.{table_of, table_value, table_fault, or_else}
 use Rattle.table_feed.specs.Rows.{text_of}
 use Rattle.table_feed.specs.Mixing.{beside, mixed_word}
-use Rattle.word_run.specs.Stopping.{IsMetAt}
+use Rattle.commands.specs.Stopping.{IsMetAt}
 use Rattle.delta_end.specs.declared.objection.TableName.TheVariants as table
 use Rattle.delta_end.specs.declared.objection.Objection.TheVariants.{Table}
 use Rattle.delta_end.specs.declared.end.End.{End}

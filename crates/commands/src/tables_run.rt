@@ -13,8 +13,10 @@ ghost use Rattle.delta_end.specs.End.{FileCause};
 ghost use Rattle.commands.specs.Tables.{OfTables};
 ghost use Rattle.commands.specs.Given.{AreHeld, EndsRunning, EndsUnwritten, GivesText, IsUnwritten};
 
+use crate::fault::WordFault;
 use crate::reading::read_words;
 use crate::telling::end_of;
+use crate::word_run::run_word;
 use core_term::Checked;
 use delta_end::End;
 use delta_state::Machine;
@@ -22,7 +24,6 @@ use event_word::Event;
 use port::Shelf;
 use std::alloc::Global;
 use table_feed::{FeedFault, has_shape, mixed, rows_text};
-use word_run::{WordFault, run_word};
 
 // The text of the table that a program gives on a whole word of its input's type, event by event.
 fn text_of_word<M: Machine>(

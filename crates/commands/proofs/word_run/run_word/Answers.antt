@@ -9,9 +9,9 @@ use Rattle.core_term.specs.CoreTerm.{core_of}
 use Rattle.core_term.specs.Meaning.{mean}
 use Rattle.delta_state.specs.MachineView.{input_of, IsCostly, IsDeep}
 use Rattle.delta_session.specs.Standing.{Stands}
-use Rattle.word_run.specs.Stopping.{StopsForCallsAt, StopsForLevelAt}
-use Rattle.word_run.proofs.OnTheWord.{Says, says_first, admitted_here, says_on, stands_on, met_at, said_whole}
-use Rattle.word_run.proofs.running.run_word.Goals as goal
+use Rattle.commands.specs.Stopping.{StopsForCallsAt, StopsForLevelAt}
+use Rattle.commands.proofs.OnTheWord.{Says, says_first, admitted_here, says_on, stands_on, met_at, said_whole}
+use Rattle.commands.proofs.word_run.run_word.Goals as goal
 
 -- the fault of an event is that of the run
 still_stopped : {A B E : Type 0} (fault told : E) → IsErrOf {T = A} (Err fault) told → IsErrOf {T = B} (Err fault) told

@@ -12,7 +12,7 @@ ghost use Rattle.core_term.specs.Meaning.{mean};
 ghost use Rattle.delta_state.specs.MachineView.{input_of, answer_to, IsCostly, IsDeep};
 ghost use Rattle.delta_state.specs.Stands.{input_type};
 ghost use Rattle.delta_session.specs.Standing.{Stands, WhereItStands, IsOpen};
-ghost use Rattle.word_run.specs.Stopping.{StopsForCallsAt, StopsForLevelAt};
+ghost use Rattle.commands.specs.Stopping.{StopsForCallsAt, StopsForLevelAt};
 
 use crate::fault::WordFault;
 use core_term::Checked;

@@ -2,7 +2,7 @@
 use Rattle.std.proofs.Common.{◌≡◌, ℕ, List, ◌++◌, Err, ap, subst, ◌∙◌}
 use Rattle.event_word.specs.StreamEvent.{StreamEvent}
 use Rattle.delta_state.specs.MachineView.{IsCostly}
-use Rattle.word_run.proofs.running.feed_one.Goals as goal
+use Rattle.commands.proofs.word_run.feed_one.Goals as goal
 
 pub returns-in_ok-append-in-Ok-clause-said : goal.returns-in_ok-append-in-Ok-clause-said
 returns-in_ok-append-in-Ok-clause-said g c p budget word s =

@@ -11,7 +11,7 @@ use Rattle.core_term.specs.CoreTerm.{CoreBody, CoreTerm, CoreProgram, var_term, 
 use Rattle.core_term.specs.Meaning.{call_at, horizon, calls_of, level_of}
 use Rattle.delta_state.specs.MachineView.{input_of, IsCostly}
 use Rattle.delta_state.specs.Stands.{input_type}
-use Rattle.word_run.specs.Stopping.{StopsForCallsAt, StopsForLevelAt}
+use Rattle.commands.specs.Stopping.{StopsForCallsAt, StopsForLevelAt}
 
 -- `fun same(u : 1) : 1 = u`, and a call of it
 abbrev same : CoreBody

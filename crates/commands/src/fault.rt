@@ -1,7 +1,7 @@
 //! Why a run on a word didn't come to its end.
 
 ghost use Rattle.std.specs.Prelude.{◌≡◌};
-ghost use Rattle.word_run.specs.declared.fault.WordFault.TheVariants.{Memory as NoMemory};
+ghost use Rattle.commands.specs.declared.fault.WordFault.TheVariants.{Memory as NoMemory};
 
 use stream_type::Memory;
 use thiserror::Error;

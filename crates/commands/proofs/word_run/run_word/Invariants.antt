@@ -2,8 +2,8 @@
 use Rattle.std.proofs.Common.{take}
 use Rattle.core_term.specs.CoreTerm.{core_of}
 use Rattle.delta_session.specs.Standing.{Stands}
-use Rattle.word_run.proofs.OnTheWord.{Says}
-use Rattle.word_run.proofs.running.run_word.Given as goal
+use Rattle.commands.proofs.OnTheWord.{Says}
+use Rattle.commands.proofs.word_run.run_word.Given as goal
 
 abbrev pub invariant-loop-at : goal.invariant-loop-at
 invariant-loop-at g l = record {

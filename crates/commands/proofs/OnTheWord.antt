@@ -23,7 +23,7 @@ use Rattle.delta_session.specs.declared.session.Session.{Session}
 use Rattle.delta_session.specs.Standing.{CanRun, Stands}
 use Rattle.delta_session.proofs.Growth.{said_is_prefix, answer_is_prefix}
 use Rattle.delta_session.proofs.WholeOutput.{whole_at_end}
-use Rattle.word_run.specs.Stopping.{IsMetAt}
+use Rattle.commands.specs.Stopping.{IsMetAt}
 
 -- events of the output's type that stand for what a program says of a word
 pub record Says (c : CoreProgram) (word said : List StreamEvent) : Type 0 where

@@ -1,2 +1,0 @@
-pub mod OnTheWord
-mod Examples
