@@ -5,6 +5,7 @@ pub mod Trees
 pub mod PlacedBytes
 pub mod Walks
 pub mod Pieces
+pub mod Placing
 pub mod ReadLists
 pub mod PutSizes
 pub mod Sizes

@@ -70,6 +70,12 @@ list_stops {A} {B} item {f} {g} {Fits} {many} {n} {bytes} {start} {rest} {xs} (A
     ∙ (ap (λ m. walk (settle (items m item ∷ [])) rest) (let k : many - n ≡ suc (many - (n + 1)) = omega (arith, l) in k)
     ∙ (next_item item (many - (n + 1)) rest ∙ ap (λ v. v >>= λ s. walk (settle (items (many - (n + 1)) item ∷ [])) s) (item_walk item rest (stuck left) w))))
 
+-- what was pushed, told of what holds it
+pub pushes_as : {V U W A : Type 0} (value : V → A) (behind : V → List ℕ) (of : U → A) (left : U → List ℕ) (end : W → List ℕ) (old new : List A) (v : V) (u : U) (r : Result W Halt) → of u ≡ value v → left u ≡ behind v → Pushes of left end old new (Ok u) r → Pushes value behind end old new (Ok v) r
+pushes_as value behind of left end old new v u (Ok w) q k (p, e) = (p ∙ ap (λ a. old ++ a ∷ []) q, e ∙ k)
+pushes_as value behind of left end old new v u (Err Memory) q k p = tt
+pushes_as value behind of left end old new v u (Err (At n)) q k p = absurd p
+
 -- with one that was put behind them,
 pub list_pushed : {V W A B : Type 0} {item : Item} {f : B → List ℕ} {g : A → B} {Fits : B → Type 0} {many n : ℕ} {start rest : List ℕ} {xs next : List A} (r : Result V Halt) (w : W) (value : V → A) (behind : V → List ℕ) (end : W → List ℕ) → ReadSome item f g Fits many start n xs rest → n < many
     → Pushes value behind end xs next r (Ok w) → Reads (item_parts item) rest (λ v. f (g (value v))) behind (λ v. Fits (g (value v))) r → ReadSome item f g Fits many start (n + 1) next (end w)

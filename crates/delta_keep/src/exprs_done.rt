@@ -2,7 +2,7 @@
 //!
 //! Nothing here calls back, so the reader that goes through an expression has little more than its calls.
 
-ghost use Rattle.std.specs.Prelude.{◌≡◌, ◌≤◌, ◌⊎◌, ℕ, List, [], ◌∷◌, ◌++◌, Some};
+ghost use Rattle.std.specs.Prelude.{◌≡◌, ◌≤◌, ◌⊎◌, ℕ, List, [], ◌∷◌, ◌++◌, Some, drop};
 ghost use Rattle.hist_value.specs.HistExpr.{expr_of};
 ghost use Rattle.kept_state.specs.KeptBytes.{expr_bytes};
 ghost use Rattle.kept_state.specs.KeptForm.{expr_kind, form, after_byte};
@@ -16,44 +16,46 @@ use std::alloc::Global;
 
 /// A name, behind its form.
 #[inline(never)]
-pub(crate) fn read_variable<'a>(
+pub(crate) fn read_variable(
     alloc: Global,
-    bytes: &'a [u8],
-) -> Result<(Box<Expr>, &'a [u8]), Halt>
-    ensures { Reads (form expr_kind ∷ []) (0 ∷ bytes.now) (λ x. expr_bytes (expr_of x.0.value)) (λ x. x.1.now) (λ x. FitsExpr (expr_of x.0.value)) result }
+    bytes: &[u8],
+    start: usize,
+) -> Result<(Box<Expr>, usize), Halt>
+    ensures { Reads (form expr_kind ∷ []) (0 ∷ drop start bytes.now) (λ x. expr_bytes (expr_of x.0.value)) (λ x. drop x.1 bytes.now) (λ x. FitsExpr (expr_of x.0.value)) result }
 {
-    match read_name(bytes) {
-        Ok((x, rest)) => boxed(alloc, Expr::Var(x), rest),
+    match read_name(bytes, start) {
+        Ok((x, next)) => boxed(alloc, Expr::Var(x), next),
         Err(halt) => Err(halt),
     }
 }
 
 /// A number, behind its form.
 #[inline(never)]
-pub(crate) fn read_literal<'a>(
+pub(crate) fn read_literal(
     alloc: Global,
-    bytes: &'a [u8],
-) -> Result<(Box<Expr>, &'a [u8]), Halt>
-    ensures { Reads (form expr_kind ∷ []) (1 ∷ bytes.now) (λ x. expr_bytes (expr_of x.0.value)) (λ x. x.1.now) (λ x. FitsExpr (expr_of x.0.value)) result }
+    bytes: &[u8],
+    start: usize,
+) -> Result<(Box<Expr>, usize), Halt>
+    ensures { Reads (form expr_kind ∷ []) (1 ∷ drop start bytes.now) (λ x. expr_bytes (expr_of x.0.value)) (λ x. drop x.1 bytes.now) (λ x. FitsExpr (expr_of x.0.value)) result }
 {
-    match read_int(bytes) {
-        Ok((n, rest)) => boxed(alloc, Expr::Lit(n), rest),
+    match read_int(bytes, start) {
+        Ok((n, next)) => boxed(alloc, Expr::Lit(n), next),
         Err(halt) => Err(halt),
     }
 }
 
 /// What has one part: this form, behind which the part was read.
 #[inline(never)]
-pub(crate) fn one_done<'a>(
+pub(crate) fn one_done(
     alloc: Global,
     n: u8,
-    inside: Result<(Box<Expr>, &'a [u8]), Halt>,
-) -> Result<(Box<Expr>, &'a [u8]), Halt>
+    inside: Result<(Box<Expr>, usize), Halt>,
+) -> Result<(Box<Expr>, usize), Halt>
     requires { (5 ≤ n) × (n ≤ 8) }
-    ensures { (bytes : List ℕ) → after_byte (form expr_kind ∷ []) n ≡ Some (form expr_kind ∷ []) → Reads (form expr_kind ∷ []) bytes (λ x. expr_bytes (expr_of x.0.value)) (λ x. x.1.now) (λ x. FitsExpr (expr_of x.0.value)) inside.entry → Reads (form expr_kind ∷ []) (n ∷ bytes) (λ x. expr_bytes (expr_of x.0.value)) (λ x. x.1.now) (λ x. FitsExpr (expr_of x.0.value)) result }
+    ensures { (bytes : List ℕ) → (behind : ℕ → List ℕ) → after_byte (form expr_kind ∷ []) n ≡ Some (form expr_kind ∷ []) → Reads (form expr_kind ∷ []) bytes (λ x. expr_bytes (expr_of x.0.value)) (λ x. behind x.1) (λ x. FitsExpr (expr_of x.0.value)) inside → Reads (form expr_kind ∷ []) (n ∷ bytes) (λ x. expr_bytes (expr_of x.0.value)) (λ x. behind x.1) (λ x. FitsExpr (expr_of x.0.value)) result }
 {
     match inside {
-        Ok((a, rest)) => boxed(alloc, one_of(n, a), rest),
+        Ok((a, next)) => boxed(alloc, one_of(n, a), next),
         Err(halt) => Err(halt),
     }
 }
@@ -74,16 +76,16 @@ fn one_of(n: u8, a: Box<Expr>) -> Expr
 
 /// What has two parts: this form, behind which both were read.
 #[inline(never)]
-pub(crate) fn two_done<'a>(
+pub(crate) fn two_done(
     alloc: Global,
     n: u8,
-    inside: Result<(Box<Expr>, Box<Expr>, &'a [u8]), Halt>,
-) -> Result<(Box<Expr>, &'a [u8]), Halt>
+    inside: Result<(Box<Expr>, Box<Expr>, usize), Halt>,
+) -> Result<(Box<Expr>, usize), Halt>
     requires { (n ≡ 4) ⊎ (n ≡ 11) }
-    ensures { (bytes : List ℕ) → after_byte (form expr_kind ∷ []) n ≡ Some (form expr_kind ∷ form expr_kind ∷ []) → Reads (form expr_kind ∷ form expr_kind ∷ []) bytes (λ x. expr_bytes (expr_of x.0.value) ++ expr_bytes (expr_of x.1.value)) (λ x. x.2.now) (λ x. FitsExpr (expr_of x.0.value) × FitsExpr (expr_of x.1.value)) inside.entry → Reads (form expr_kind ∷ []) (n ∷ bytes) (λ x. expr_bytes (expr_of x.0.value)) (λ x. x.1.now) (λ x. FitsExpr (expr_of x.0.value)) result }
+    ensures { (bytes : List ℕ) → (behind : ℕ → List ℕ) → after_byte (form expr_kind ∷ []) n ≡ Some (form expr_kind ∷ form expr_kind ∷ []) → Reads (form expr_kind ∷ form expr_kind ∷ []) bytes (λ x. expr_bytes (expr_of x.0.value) ++ expr_bytes (expr_of x.1.value)) (λ x. behind x.2) (λ x. FitsExpr (expr_of x.0.value) × FitsExpr (expr_of x.1.value)) inside → Reads (form expr_kind ∷ []) (n ∷ bytes) (λ x. expr_bytes (expr_of x.0.value)) (λ x. behind x.1) (λ x. FitsExpr (expr_of x.0.value)) result }
 {
     match inside {
-        Ok((a, b, rest)) => boxed(alloc, two_of(n, a, b), rest),
+        Ok((a, b, next)) => boxed(alloc, two_of(n, a, b), next),
         Err(halt) => Err(halt),
     }
 }

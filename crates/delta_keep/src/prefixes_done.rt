@@ -2,7 +2,7 @@
 //!
 //! Nothing here calls back, so the reader that goes through a prefix has little more than its calls.
 
-ghost use Rattle.std.specs.Prelude.{◌≡◌, ◌⊎◌, ℕ, List, [], ◌∷◌, ◌++◌, Some};
+ghost use Rattle.std.specs.Prelude.{◌≡◌, ◌⊎◌, ℕ, List, [], ◌∷◌, ◌++◌, Some, drop};
 ghost use Rattle.stream_prefix.specs.Tree.{prefix_of};
 ghost use Rattle.kept_state.specs.KeptBytes.{prefix_bytes};
 ghost use Rattle.kept_state.specs.KeptForm.{prefix_kind, form, after_byte};
@@ -16,30 +16,31 @@ use stream_prefix::Prefix;
 
 /// A number, behind its form.
 #[inline(never)]
-pub(crate) fn read_number<'a>(
+pub(crate) fn read_number(
     alloc: Global,
-    bytes: &'a [u8],
-) -> Result<(Box<Prefix>, &'a [u8]), Halt>
-    ensures { Reads (form prefix_kind ∷ []) (4 ∷ bytes.now) (λ x. prefix_bytes (prefix_of x.0.value)) (λ x. x.1.now) (λ x. FitsPrefix (prefix_of x.0.value)) result }
+    bytes: &[u8],
+    start: usize,
+) -> Result<(Box<Prefix>, usize), Halt>
+    ensures { Reads (form prefix_kind ∷ []) (4 ∷ drop start bytes.now) (λ x. prefix_bytes (prefix_of x.0.value)) (λ x. drop x.1 bytes.now) (λ x. FitsPrefix (prefix_of x.0.value)) result }
 {
-    match read_int(bytes) {
-        Ok((n, rest)) => boxed(alloc, Prefix::IntFull(n), rest),
+    match read_int(bytes, start) {
+        Ok((n, next)) => boxed(alloc, Prefix::IntFull(n), next),
         Err(halt) => Err(halt),
     }
 }
 
 /// What has one part: this form, behind which the part was read.
 #[inline(never)]
-pub(crate) fn one_done<'a>(
+pub(crate) fn one_done(
     alloc: Global,
     n: u8,
-    inside: Result<(Box<Prefix>, &'a [u8]), Halt>,
-) -> Result<(Box<Prefix>, &'a [u8]), Halt>
+    inside: Result<(Box<Prefix>, usize), Halt>,
+) -> Result<(Box<Prefix>, usize), Halt>
     requires { (n ≡ 6) ⊎ ((n ≡ 9) ⊎ (n ≡ 10)) }
-    ensures { (bytes : List ℕ) → after_byte (form prefix_kind ∷ []) n ≡ Some (form prefix_kind ∷ []) → Reads (form prefix_kind ∷ []) bytes (λ x. prefix_bytes (prefix_of x.0.value)) (λ x. x.1.now) (λ x. FitsPrefix (prefix_of x.0.value)) inside.entry → Reads (form prefix_kind ∷ []) (n ∷ bytes) (λ x. prefix_bytes (prefix_of x.0.value)) (λ x. x.1.now) (λ x. FitsPrefix (prefix_of x.0.value)) result }
+    ensures { (bytes : List ℕ) → (behind : ℕ → List ℕ) → after_byte (form prefix_kind ∷ []) n ≡ Some (form prefix_kind ∷ []) → Reads (form prefix_kind ∷ []) bytes (λ x. prefix_bytes (prefix_of x.0.value)) (λ x. behind x.1) (λ x. FitsPrefix (prefix_of x.0.value)) inside → Reads (form prefix_kind ∷ []) (n ∷ bytes) (λ x. prefix_bytes (prefix_of x.0.value)) (λ x. behind x.1) (λ x. FitsPrefix (prefix_of x.0.value)) result }
 {
     match inside {
-        Ok((a, rest)) => boxed(alloc, one_of(n, a), rest),
+        Ok((a, next)) => boxed(alloc, one_of(n, a), next),
         Err(halt) => Err(halt),
     }
 }
@@ -59,16 +60,16 @@ fn one_of(n: u8, a: Box<Prefix>) -> Prefix
 
 /// What has two parts: this form, behind which both were read.
 #[inline(never)]
-pub(crate) fn two_done<'a>(
+pub(crate) fn two_done(
     alloc: Global,
     n: u8,
-    inside: Result<(Box<Prefix>, Box<Prefix>, &'a [u8]), Halt>,
-) -> Result<(Box<Prefix>, &'a [u8]), Halt>
+    inside: Result<(Box<Prefix>, Box<Prefix>, usize), Halt>,
+) -> Result<(Box<Prefix>, usize), Halt>
     requires { (n ≡ 5) ⊎ (n ≡ 7) }
-    ensures { (bytes : List ℕ) → after_byte (form prefix_kind ∷ []) n ≡ Some (form prefix_kind ∷ form prefix_kind ∷ []) → Reads (form prefix_kind ∷ form prefix_kind ∷ []) bytes (λ x. prefix_bytes (prefix_of x.0.value) ++ prefix_bytes (prefix_of x.1.value)) (λ x. x.2.now) (λ x. FitsPrefix (prefix_of x.0.value) × FitsPrefix (prefix_of x.1.value)) inside.entry → Reads (form prefix_kind ∷ []) (n ∷ bytes) (λ x. prefix_bytes (prefix_of x.0.value)) (λ x. x.1.now) (λ x. FitsPrefix (prefix_of x.0.value)) result }
+    ensures { (bytes : List ℕ) → (behind : ℕ → List ℕ) → after_byte (form prefix_kind ∷ []) n ≡ Some (form prefix_kind ∷ form prefix_kind ∷ []) → Reads (form prefix_kind ∷ form prefix_kind ∷ []) bytes (λ x. prefix_bytes (prefix_of x.0.value) ++ prefix_bytes (prefix_of x.1.value)) (λ x. behind x.2) (λ x. FitsPrefix (prefix_of x.0.value) × FitsPrefix (prefix_of x.1.value)) inside → Reads (form prefix_kind ∷ []) (n ∷ bytes) (λ x. prefix_bytes (prefix_of x.0.value)) (λ x. behind x.1) (λ x. FitsPrefix (prefix_of x.0.value)) result }
 {
     match inside {
-        Ok((a, b, rest)) => boxed(alloc, two_of(n, a, b), rest),
+        Ok((a, b, next)) => boxed(alloc, two_of(n, a, b), next),
         Err(halt) => Err(halt),
     }
 }

@@ -1,6 +1,6 @@
 //! A kept state read from bytes.
 
-ghost use Rattle.std.specs.Prelude.{◌≡◌, [], ◌∷◌, ⊤, Some, None, IfOk, IfSome, IfNone};
+ghost use Rattle.std.specs.Prelude.{◌≡◌, [], ◌∷◌, ⊤, Some, None, IfOk, IfSome, IfNone, drop};
 ghost use Rattle.kept_state.specs.KeptBytes.{kept_bytes};
 ghost use Rattle.kept_state.specs.KeptForm.{exactly, kept_parts, fault_from, version_fault, form_fault, bad_version};
 ghost use Rattle.kept_state.specs.KeptSizes.{HasSizes};
@@ -12,7 +12,7 @@ ghost use Rattle.delta_keep.specs.Written.{written_kept};
 use crate::fault::ReadFault;
 use crate::halt::Halt;
 use crate::kept::Kept;
-use crate::read_numbers::{read_exactly, read_long};
+use crate::read_numbers::{read_exactly, read_long, unread};
 use crate::read_states::read_state;
 use crate::read_types::{read_marks, read_type, read_types};
 use crate::saving::MOST_BYTES;
@@ -62,8 +62,8 @@ fn read_whole(alloc: Global, bytes: &[u8]) -> Result<Kept, Halt>
     ensures sizes { IfOk result (λ k. HasSizes (kept_of k)) }
     ensures ended { Ends bytes.now result (fault_from kept_parts 0 bytes.now) }
 {
-    let (k, rest) = read_parts(alloc, bytes)?;
-    match rest.len() {
+    let (k, next) = read_parts(alloc, bytes)?;
+    match unread(bytes, next).len() {
         0 => Ok(k),
         left => Err(Halt::At(left)),
     }
@@ -79,16 +79,26 @@ fn read_head(bytes: &[u8]) -> Result<&[u8], Halt>
     read_exactly(0x01, behind_t)
 }
 
-// A kept state, and the bytes behind it.
-fn read_parts<'a>(alloc: Global, bytes: &'a [u8]) -> Result<(Kept, &'a [u8]), Halt>
-    ensures reads { Reads kept_parts bytes.now (λ x. written_kept x.0) (λ x. x.1.now) (λ x. HasSizes (kept_of x.0)) result }
+// Where the letters and the version end.
+fn behind_head(bytes: &[u8]) -> Result<usize, Halt>
+    ensures reads { Reads (exactly 0x44 ∷ exactly 0x53 ∷ exactly 0x54 ∷ exactly 0x01 ∷ []) bytes.now (λ n. 0x44 ∷ 0x53 ∷ 0x54 ∷ 0x01 ∷ []) (λ n. drop n bytes.now) (λ n. ⊤) result }
 {
-    let body = read_head(bytes)?;
-    let (events, rest) = read_long(body)?;
-    let (ins, rest) = read_types(alloc, rest, MOST_LEVELS)?;
-    let (cuts, rest) = read_marks(alloc, rest)?;
-    let (out, rest) = read_type(alloc, rest, MOST_LEVELS)?;
-    let (state, rest) = read_state(alloc, rest, MOST_LEVELS)?;
+    match read_head(bytes) {
+        Ok(_) => Ok(4),
+        Err(halt) => Err(halt),
+    }
+}
+
+// A kept state, and where what is behind it starts.
+fn read_parts(alloc: Global, bytes: &[u8]) -> Result<(Kept, usize), Halt>
+    ensures reads { Reads kept_parts bytes.now (λ x. written_kept x.0) (λ x. drop x.1 bytes.now) (λ x. HasSizes (kept_of x.0)) result }
+{
+    let body = behind_head(bytes)?;
+    let (events, next) = read_long(bytes, body)?;
+    let (ins, next) = read_types(alloc, bytes, next, MOST_LEVELS)?;
+    let (cuts, next) = read_marks(alloc, bytes, next)?;
+    let (out, next) = read_type(alloc, bytes, next, MOST_LEVELS)?;
+    let (state, next) = read_state(alloc, bytes, next, MOST_LEVELS)?;
     Ok((
         Kept {
             events,
@@ -97,6 +107,6 @@ fn read_parts<'a>(alloc: Global, bytes: &'a [u8]) -> Result<(Kept, &'a [u8]), Ha
             out,
             state,
         },
-        rest,
+        next,
     ))
 }

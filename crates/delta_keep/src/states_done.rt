@@ -2,7 +2,7 @@
 //!
 //! Nothing here calls back, so the reader that goes through a state has little more than its calls.
 
-ghost use Rattle.std.specs.Prelude.{◌≡◌, ◌⊎◌, ℕ, List, [], ◌∷◌, ◌++◌, Some};
+ghost use Rattle.std.specs.Prelude.{◌≡◌, ◌⊎◌, ℕ, List, [], ◌∷◌, ◌++◌, Some, drop};
 ghost use Rattle.kept_state.specs.KeptBytes.{short_bytes};
 ghost use Rattle.kept_state.specs.KeptForm.{state_kind, any, form, after_byte};
 ghost use Rattle.kept_state.specs.KeptSizes.{FitsShort, FitsState};
@@ -19,59 +19,61 @@ use std::alloc::Global;
 
 /// What is finished, behind its form.
 #[inline(never)]
-pub(crate) fn read_sink<'a>(
+pub(crate) fn read_sink(
     alloc: Global,
-    bytes: &'a [u8],
+    bytes: &[u8],
+    start: usize,
     left: u32,
-) -> Result<(Box<KeptState>, &'a [u8]), Halt>
-    ensures { Reads (form state_kind ∷ []) (0 ∷ bytes.now) (λ x. written_state x.0.value) (λ x. x.1.now) (λ x. FitsState (state_of x.0.value)) result }
+) -> Result<(Box<KeptState>, usize), Halt>
+    ensures { Reads (form state_kind ∷ []) (0 ∷ drop start bytes.now) (λ x. written_state x.0.value) (λ x. drop x.1 bytes.now) (λ x. FitsState (state_of x.0.value)) result }
 {
-    match read_type(alloc, bytes, left) {
-        Ok((t, rest)) => boxed(alloc, KeptState::Sink(t), rest),
+    match read_type(alloc, bytes, start, left) {
+        Ok((t, next)) => boxed(alloc, KeptState::Sink(t), next),
         Err(halt) => Err(halt),
     }
 }
 
 /// A name, behind its form.
 #[inline(never)]
-pub(crate) fn read_variable<'a>(
+pub(crate) fn read_variable(
     alloc: Global,
-    bytes: &'a [u8],
-) -> Result<(Box<KeptState>, &'a [u8]), Halt>
-    ensures { Reads (form state_kind ∷ []) (1 ∷ bytes.now) (λ x. written_state x.0.value) (λ x. x.1.now) (λ x. FitsState (state_of x.0.value)) result }
+    bytes: &[u8],
+    start: usize,
+) -> Result<(Box<KeptState>, usize), Halt>
+    ensures { Reads (form state_kind ∷ []) (1 ∷ drop start bytes.now) (λ x. written_state x.0.value) (λ x. drop x.1 bytes.now) (λ x. FitsState (state_of x.0.value)) result }
 {
-    match read_name(bytes) {
-        Ok((x, rest)) => boxed(alloc, KeptState::Var(x), rest),
+    match read_name(bytes, start) {
+        Ok((x, next)) => boxed(alloc, KeptState::Var(x), next),
         Err(halt) => Err(halt),
     }
 }
 
 /// Both at once, which were read behind the form.
 #[inline(never)]
-pub(crate) fn par_done<'a>(
+pub(crate) fn par_done(
     alloc: Global,
-    inside: Result<(Box<KeptState>, Box<KeptState>, &'a [u8]), Halt>,
-) -> Result<(Box<KeptState>, &'a [u8]), Halt>
-    ensures { (bytes : List ℕ) → Reads (form state_kind ∷ form state_kind ∷ []) bytes (λ x. written_state x.0.value ++ written_state x.1.value) (λ x. x.2.now) (λ x. FitsState (state_of x.0.value) × FitsState (state_of x.1.value)) inside.entry → Reads (form state_kind ∷ []) (2 ∷ bytes) (λ x. written_state x.0.value) (λ x. x.1.now) (λ x. FitsState (state_of x.0.value)) result }
+    inside: Result<(Box<KeptState>, Box<KeptState>, usize), Halt>,
+) -> Result<(Box<KeptState>, usize), Halt>
+    ensures { (bytes : List ℕ) → (behind : ℕ → List ℕ) → Reads (form state_kind ∷ form state_kind ∷ []) bytes (λ x. written_state x.0.value ++ written_state x.1.value) (λ x. behind x.2) (λ x. FitsState (state_of x.0.value) × FitsState (state_of x.1.value)) inside → Reads (form state_kind ∷ []) (2 ∷ bytes) (λ x. written_state x.0.value) (λ x. behind x.1) (λ x. FitsState (state_of x.0.value)) result }
 {
     match inside {
-        Ok((a, b, rest)) => boxed(alloc, KeptState::Par(a, b), rest),
+        Ok((a, b, next)) => boxed(alloc, KeptState::Par(a, b), next),
         Err(halt) => Err(halt),
     }
 }
 
 /// A destructuring: this form, behind which its names and what follows it were read.
 #[inline(never)]
-pub(crate) fn names_done<'a>(
+pub(crate) fn names_done(
     alloc: Global,
     n: u8,
-    inside: Result<(Name, Name, Name, Box<KeptState>, &'a [u8]), Halt>,
-) -> Result<(Box<KeptState>, &'a [u8]), Halt>
+    inside: Result<(Name, Name, Name, Box<KeptState>, usize), Halt>,
+) -> Result<(Box<KeptState>, usize), Halt>
     requires { (n ≡ 5) ⊎ (n ≡ 6) }
-    ensures { (bytes : List ℕ) → after_byte (form state_kind ∷ []) n ≡ Some (any 4 ∷ any 4 ∷ any 4 ∷ form state_kind ∷ []) → Reads (any 4 ∷ any 4 ∷ any 4 ∷ form state_kind ∷ []) bytes (λ x. short_bytes x.0.0 ++ (short_bytes x.1.0 ++ (short_bytes x.2.0 ++ written_state x.3.value))) (λ x. x.4.now) (λ x. (FitsShort x.0.0 × FitsShort x.1.0 × FitsShort x.2.0) × FitsState (state_of x.3.value)) inside.entry → Reads (form state_kind ∷ []) (n ∷ bytes) (λ x. written_state x.0.value) (λ x. x.1.now) (λ x. FitsState (state_of x.0.value)) result }
+    ensures { (bytes : List ℕ) → (behind : ℕ → List ℕ) → after_byte (form state_kind ∷ []) n ≡ Some (any 4 ∷ any 4 ∷ any 4 ∷ form state_kind ∷ []) → Reads (any 4 ∷ any 4 ∷ any 4 ∷ form state_kind ∷ []) bytes (λ x. short_bytes x.0.0 ++ (short_bytes x.1.0 ++ (short_bytes x.2.0 ++ written_state x.3.value))) (λ x. behind x.4) (λ x. (FitsShort x.0.0 × FitsShort x.1.0 × FitsShort x.2.0) × FitsState (state_of x.3.value)) inside → Reads (form state_kind ∷ []) (n ∷ bytes) (λ x. written_state x.0.value) (λ x. behind x.1) (λ x. FitsState (state_of x.0.value)) result }
 {
     match inside {
-        Ok((x, y, z, a, rest)) => boxed(alloc, names_of(n, x, y, z, a), rest),
+        Ok((x, y, z, a, next)) => boxed(alloc, names_of(n, x, y, z, a), next),
         Err(halt) => Err(halt),
     }
 }

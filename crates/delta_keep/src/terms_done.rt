@@ -2,7 +2,7 @@
 //!
 //! Nothing here calls back, so the reader that goes through a term has little more than its calls.
 
-ghost use Rattle.std.specs.Prelude.{◌≡◌, ◌⊎◌, ℕ, List, [], ◌∷◌, ◌++◌, Some};
+ghost use Rattle.std.specs.Prelude.{◌≡◌, ◌⊎◌, ℕ, List, [], ◌∷◌, ◌++◌, Some, drop};
 ghost use Rattle.core_term.specs.CoreTerm.{term_in};
 ghost use Rattle.kept_state.specs.KeptBytes.{short_bytes};
 ghost use Rattle.kept_state.specs.KeptForm.{term_kind, any, form, node_parts, after_byte};
@@ -18,17 +18,18 @@ use std::alloc::Global;
 
 /// A name, behind its form.
 #[inline(never)]
-pub(crate) fn read_variable<'a>(
+pub(crate) fn read_variable(
     alloc: Global,
     at: u32,
-    bytes: &'a [u8],
-) -> Result<(Box<Node>, &'a [u8]), Halt>
-    ensures { Reads node_parts (short_bytes at ++ (0 ∷ bytes.now)) (λ x. written_node x.0.value) (λ x. x.1.now) (λ x. FitsNode x.0.value) result }
+    bytes: &[u8],
+    start: usize,
+) -> Result<(Box<Node>, usize), Halt>
+    ensures { Reads node_parts (short_bytes at ++ (0 ∷ drop start bytes.now)) (λ x. written_node x.0.value) (λ x. drop x.1 bytes.now) (λ x. FitsNode x.0.value) result }
 {
-    match read_name(bytes) {
-        Ok((x, rest)) => {
+    match read_name(bytes, start) {
+        Ok((x, next)) => {
             let term = Term::Var(x);
-            boxed(alloc, Node { at, term }, rest)
+            boxed(alloc, Node { at, term }, next)
         }
         Err(halt) => Err(halt),
     }
@@ -36,19 +37,19 @@ pub(crate) fn read_variable<'a>(
 
 /// What has one part: this form, behind which the part was read.
 #[inline(never)]
-pub(crate) fn one_done<'a>(
+pub(crate) fn one_done(
     alloc: Global,
     at: u32,
     n: u8,
-    inside: Result<(Box<Node>, &'a [u8]), Halt>,
-) -> Result<(Box<Node>, &'a [u8]), Halt>
+    inside: Result<(Box<Node>, usize), Halt>,
+) -> Result<(Box<Node>, usize), Halt>
     requires { (n ≡ 6) ⊎ (n ≡ 7) }
-    ensures { (bytes : List ℕ) → after_byte (form term_kind ∷ []) n ≡ Some (node_parts) → Reads (node_parts) bytes (λ x. written_node x.0.value) (λ x. x.1.now) (λ x. FitsNode x.0.value) inside.entry → Reads node_parts (short_bytes at ++ (n ∷ bytes)) (λ x. written_node x.0.value) (λ x. x.1.now) (λ x. FitsNode x.0.value) result }
+    ensures { (bytes : List ℕ) → (behind : ℕ → List ℕ) → after_byte (form term_kind ∷ []) n ≡ Some (node_parts) → Reads (node_parts) bytes (λ x. written_node x.0.value) (λ x. behind x.1) (λ x. FitsNode x.0.value) inside → Reads node_parts (short_bytes at ++ (n ∷ bytes)) (λ x. written_node x.0.value) (λ x. behind x.1) (λ x. FitsNode x.0.value) result }
 {
     match inside {
-        Ok((a, rest)) => {
+        Ok((a, next)) => {
             let term = one_of(n, a);
-            boxed(alloc, Node { at, term }, rest)
+            boxed(alloc, Node { at, term }, next)
         }
         Err(halt) => Err(halt),
     }
@@ -68,19 +69,19 @@ fn one_of(n: u8, a: Box<Node>) -> Term
 
 /// What has two parts: this form, behind which both were read.
 #[inline(never)]
-pub(crate) fn two_done<'a>(
+pub(crate) fn two_done(
     alloc: Global,
     at: u32,
     n: u8,
-    inside: Result<(Box<Node>, Box<Node>, &'a [u8]), Halt>,
-) -> Result<(Box<Node>, &'a [u8]), Halt>
+    inside: Result<(Box<Node>, Box<Node>, usize), Halt>,
+) -> Result<(Box<Node>, usize), Halt>
     requires { (n ≡ 4) ⊎ ((n ≡ 5) ⊎ (n ≡ 9)) }
-    ensures { (bytes : List ℕ) → after_byte (form term_kind ∷ []) n ≡ Some (node_parts ++ node_parts) → Reads (node_parts ++ node_parts) bytes (λ x. written_node x.0.value ++ written_node x.1.value) (λ x. x.2.now) (λ x. FitsNode x.0.value × FitsNode x.1.value) inside.entry → Reads node_parts (short_bytes at ++ (n ∷ bytes)) (λ x. written_node x.0.value) (λ x. x.1.now) (λ x. FitsNode x.0.value) result }
+    ensures { (bytes : List ℕ) → (behind : ℕ → List ℕ) → after_byte (form term_kind ∷ []) n ≡ Some (node_parts ++ node_parts) → Reads (node_parts ++ node_parts) bytes (λ x. written_node x.0.value ++ written_node x.1.value) (λ x. behind x.2) (λ x. FitsNode x.0.value × FitsNode x.1.value) inside → Reads node_parts (short_bytes at ++ (n ∷ bytes)) (λ x. written_node x.0.value) (λ x. behind x.1) (λ x. FitsNode x.0.value) result }
 {
     match inside {
-        Ok((a, b, rest)) => {
+        Ok((a, b, next)) => {
             let term = two_of(n, a, b);
-            boxed(alloc, Node { at, term }, rest)
+            boxed(alloc, Node { at, term }, next)
         }
         Err(halt) => Err(halt),
     }
@@ -101,19 +102,19 @@ fn two_of(n: u8, a: Box<Node>, b: Box<Node>) -> Term
 
 /// A destructuring: this form, behind which its names and what follows it were read.
 #[inline(never)]
-pub(crate) fn names_done<'a>(
+pub(crate) fn names_done(
     alloc: Global,
     at: u32,
     n: u8,
-    inside: Result<(Name, Name, Name, Box<Node>, &'a [u8]), Halt>,
-) -> Result<(Box<Node>, &'a [u8]), Halt>
+    inside: Result<(Name, Name, Name, Box<Node>, usize), Halt>,
+) -> Result<(Box<Node>, usize), Halt>
     requires { (n ≡ 11) ⊎ (n ≡ 12) }
-    ensures { (bytes : List ℕ) → after_byte (form term_kind ∷ []) n ≡ Some (any 4 ∷ any 4 ∷ any 4 ∷ node_parts) → Reads (any 4 ∷ any 4 ∷ any 4 ∷ node_parts) bytes (λ x. short_bytes x.0.0 ++ (short_bytes x.1.0 ++ (short_bytes x.2.0 ++ written_node x.3.value))) (λ x. x.4.now) (λ x. (FitsShort x.0.0 × FitsShort x.1.0 × FitsShort x.2.0) × FitsNode x.3.value) inside.entry → Reads node_parts (short_bytes at ++ (n ∷ bytes)) (λ x. written_node x.0.value) (λ x. x.1.now) (λ x. FitsNode x.0.value) result }
+    ensures { (bytes : List ℕ) → (behind : ℕ → List ℕ) → after_byte (form term_kind ∷ []) n ≡ Some (any 4 ∷ any 4 ∷ any 4 ∷ node_parts) → Reads (any 4 ∷ any 4 ∷ any 4 ∷ node_parts) bytes (λ x. short_bytes x.0.0 ++ (short_bytes x.1.0 ++ (short_bytes x.2.0 ++ written_node x.3.value))) (λ x. behind x.4) (λ x. (FitsShort x.0.0 × FitsShort x.1.0 × FitsShort x.2.0) × FitsNode x.3.value) inside → Reads node_parts (short_bytes at ++ (n ∷ bytes)) (λ x. written_node x.0.value) (λ x. behind x.1) (λ x. FitsNode x.0.value) result }
 {
     match inside {
-        Ok((x, y, z, a, rest)) => {
+        Ok((x, y, z, a, next)) => {
             let term = names_of(n, x, y, z, a);
-            boxed(alloc, Node { at, term }, rest)
+            boxed(alloc, Node { at, term }, next)
         }
         Err(halt) => Err(halt),
     }

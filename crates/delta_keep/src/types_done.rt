@@ -15,30 +15,30 @@ use stream_type::Ty;
 
 /// What has one part: this form, behind which the part was read.
 #[inline(never)]
-pub(crate) fn one_done<'a>(
+pub(crate) fn one_done(
     alloc: Global,
-    inside: Result<(Box<Ty>, &'a [u8]), Halt>,
-) -> Result<(Box<Ty>, &'a [u8]), Halt>
-    ensures { (bytes : List ℕ) → Reads (form type_kind ∷ []) bytes (λ x. type_bytes (type_of x.0.value)) (λ x. x.1.now) (λ x. ⊤) inside.entry → Reads (form type_kind ∷ []) (6 ∷ bytes) (λ x. type_bytes (type_of x.0.value)) (λ x. x.1.now) (λ x. ⊤) result }
+    inside: Result<(Box<Ty>, usize), Halt>,
+) -> Result<(Box<Ty>, usize), Halt>
+    ensures { (bytes : List ℕ) → (behind : ℕ → List ℕ) → Reads (form type_kind ∷ []) bytes (λ x. type_bytes (type_of x.0.value)) (λ x. behind x.1) (λ x. ⊤) inside → Reads (form type_kind ∷ []) (6 ∷ bytes) (λ x. type_bytes (type_of x.0.value)) (λ x. behind x.1) (λ x. ⊤) result }
 {
     match inside {
-        Ok((a, rest)) => boxed(alloc, Ty::Star(a), rest),
+        Ok((a, next)) => boxed(alloc, Ty::Star(a), next),
         Err(halt) => Err(halt),
     }
 }
 
 /// What has two parts: this form, behind which both were read.
 #[inline(never)]
-pub(crate) fn two_done<'a>(
+pub(crate) fn two_done(
     alloc: Global,
     n: u8,
-    inside: Result<(Box<Ty>, Box<Ty>, &'a [u8]), Halt>,
-) -> Result<(Box<Ty>, &'a [u8]), Halt>
+    inside: Result<(Box<Ty>, Box<Ty>, usize), Halt>,
+) -> Result<(Box<Ty>, usize), Halt>
     requires { (n ≡ 3) ⊎ ((n ≡ 4) ⊎ (n ≡ 5)) }
-    ensures { (bytes : List ℕ) → after_byte (form type_kind ∷ []) n ≡ Some (form type_kind ∷ form type_kind ∷ []) → Reads (form type_kind ∷ form type_kind ∷ []) bytes (λ x. type_bytes (type_of x.0.value) ++ type_bytes (type_of x.1.value)) (λ x. x.2.now) (λ x. ⊤) inside.entry → Reads (form type_kind ∷ []) (n ∷ bytes) (λ x. type_bytes (type_of x.0.value)) (λ x. x.1.now) (λ x. ⊤) result }
+    ensures { (bytes : List ℕ) → (behind : ℕ → List ℕ) → after_byte (form type_kind ∷ []) n ≡ Some (form type_kind ∷ form type_kind ∷ []) → Reads (form type_kind ∷ form type_kind ∷ []) bytes (λ x. type_bytes (type_of x.0.value) ++ type_bytes (type_of x.1.value)) (λ x. behind x.2) (λ x. ⊤) inside → Reads (form type_kind ∷ []) (n ∷ bytes) (λ x. type_bytes (type_of x.0.value)) (λ x. behind x.1) (λ x. ⊤) result }
 {
     match inside {
-        Ok((a, b, rest)) => boxed(alloc, two_of(n, a, b), rest),
+        Ok((a, b, next)) => boxed(alloc, two_of(n, a, b), next),
         Err(halt) => Err(halt),
     }
 }

@@ -1,5 +1,5 @@
 -- What is read so far stands before what is left. Each call goes down a level, or is nearer to one that does.
-use Rattle.std.proofs.Common.{◌+◌, ◌*◌}
+use Rattle.std.proofs.Common.{◌+◌, ◌*◌, drop}
 use Rattle.stream_prefix.specs.Tree.{prefix_of}
 use Rattle.kept_state.specs.KeptBytes.{prefix_bytes}
 use Rattle.kept_state.specs.KeptForm.{prefix_item}
@@ -8,7 +8,7 @@ use Rattle.delta_keep.proofs.ReadLists.{ReadSome}
 use Rattle.delta_keep.proofs.read_prefixes.+read_prefixes.Given as goal
 
 abbrev pub invariant-read_items-items : goal.invariant-read_items-items
-invariant-read_items-items l = ReadSome prefix_item prefix_bytes prefix_of FitsPrefix l.count l.initial.rest l.counter l.items.items l.rest
+invariant-read_items-items l = ReadSome prefix_item prefix_bytes prefix_of FitsPrefix l.count (drop l.initial.next l.bytes) l.counter l.items.items (drop l.next l.bytes)
 
 abbrev pub decreases-read_prefix : goal.decreases-read_prefix
 decreases-read_prefix l = 4 * l.left

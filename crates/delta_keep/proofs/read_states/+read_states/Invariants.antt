@@ -1,5 +1,5 @@
 -- What is read so far stands before what is left. Each call goes down a level, or is nearer to one that does.
-use Rattle.std.proofs.Common.{◌+◌, ◌*◌}
+use Rattle.std.proofs.Common.{◌+◌, ◌*◌, drop}
 use Rattle.kept_state.specs.KeptForm.{argument_item}
 use Rattle.delta_keep.specs.Written.{written_argument}
 use Rattle.delta_keep.specs.Reads.{FitsArgument}
@@ -7,7 +7,7 @@ use Rattle.delta_keep.proofs.ReadLists.{ReadSome}
 use Rattle.delta_keep.proofs.read_states.+read_states.Given as goal
 
 abbrev pub invariant-read_arguments-items : goal.invariant-read_arguments-items
-invariant-read_arguments-items l = ReadSome argument_item written_argument (λ a. a) FitsArgument l.count l.initial.rest l.counter l.items.items l.rest
+invariant-read_arguments-items l = ReadSome argument_item written_argument (λ a. a) FitsArgument l.count (drop l.initial.next l.bytes) l.counter l.items.items (drop l.next l.bytes)
 
 abbrev pub decreases-read_state : goal.decreases-read_state
 decreases-read_state l = 6 * l.left

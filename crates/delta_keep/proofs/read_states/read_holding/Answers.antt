@@ -1,5 +1,5 @@
 -- A subject, the type of the result, and what is held.
-use Rattle.std.proofs.Common.{[], ◌∷◌, append_assoc}
+use Rattle.std.proofs.Common.{[], ◌∷◌, append_assoc, drop}
 use Rattle.std.proofs.lemmas.Result.{err_from_is_err_and}
 use Rattle.kept_state.specs.KeptForm.{type_kind, held_item, any, form, list_part}
 use Rattle.kept_state.specs.KeptBytes.{short_bytes, type_bytes}
@@ -10,7 +10,7 @@ use Rattle.delta_keep.proofs.read_states.read_holding.Goals as goal
 pub returns-in_err-z : goal.returns-in_err-z
 returns-in_err-z c =
     let exit = err_from_is_err_and c.from_residual.result c.from_residual.ensures.1 in
-    record { reads = rw (exit.1, exit.2) (stops_first (any 4 ∷ form type_kind ∷ []) ((list_part held_item ∷ [])) c.args.bytes.now c.in_err-z.field-0.0 c.in_err-z.ensures.reads) }
+    record { reads = rw (exit.1, exit.2) (stops_first (any 4 ∷ form type_kind ∷ []) ((list_part held_item ∷ [])) (drop c.args.start c.args.bytes.now) c.in_err-z.field-0.0 c.in_err-z.ensures.reads) }
 
 pub returns-in_err-held : goal.returns-in_err-held
 returns-in_err-held c =

@@ -1,5 +1,5 @@
 -- A wait, part by part.
-use Rattle.std.proofs.Common.{[], ◌∷◌, ◌++◌, refl}
+use Rattle.std.proofs.Common.{[], ◌∷◌, ◌++◌, refl, drop}
 use Rattle.std.proofs.lemmas.Result.{err_from_is_err_and}
 use Rattle.kept_state.specs.KeptForm.{type_kind, state_kind, held_item, any, form, list_part, later_parts}
 use Rattle.kept_state.specs.KeptBytes.{short_bytes, list_bytes, type_bytes, held_name_bytes}
@@ -14,12 +14,12 @@ use Rattle.delta_keep.proofs.read_states.read_wait.Goals as goal
 pub returns-in_err-x : goal.returns-in_err-x
 returns-in_err-x c =
     let exit = err_from_is_err_and c.from_residual.result c.from_residual.ensures.1 in
-    record { reads = rw (exit.1, exit.2) (stops_in_form state_kind 9 ((any 4 ∷ form type_kind ∷ list_part held_item ∷ []) ++ later_parts) c.args.bytes.now c.in_err-x.field-0.0 refl (stops_first (any 4 ∷ form type_kind ∷ list_part held_item ∷ []) (later_parts) c.args.bytes.now c.in_err-x.field-0.0 c.in_err-x.ensures.reads)) }
+    record { reads = rw (exit.1, exit.2) (stops_in_form state_kind 9 ((any 4 ∷ form type_kind ∷ list_part held_item ∷ []) ++ later_parts) (drop c.args.start c.args.bytes.now) c.in_err-x.field-0.0 refl (stops_first (any 4 ∷ form type_kind ∷ list_part held_item ∷ []) (later_parts) (drop c.args.start c.args.bytes.now) c.in_err-x.field-0.0 c.in_err-x.ensures.reads)) }
 
 pub returns-in_err-l : goal.returns-in_err-l
 returns-in_err-l c =
     let exit = err_from_is_err_and c.from_residual-in_err-l.result c.from_residual-in_err-l.ensures.1 in
-    record { reads = rw (exit.1, exit.2) (stops_in_form state_kind 9 ((any 4 ∷ form type_kind ∷ list_part held_item ∷ []) ++ later_parts) c.args.bytes.now c.in_err-l.field-0.0 refl (stops_second (later_parts) c.in_err-l.field-0.0 c.in_ok-x.ensures.reads (c.in_err-l.ensures.reads))) }
+    record { reads = rw (exit.1, exit.2) (stops_in_form state_kind 9 ((any 4 ∷ form type_kind ∷ list_part held_item ∷ []) ++ later_parts) (drop c.args.start c.args.bytes.now) c.in_err-l.field-0.0 refl (stops_second (later_parts) c.in_err-l.field-0.0 c.in_ok-x.ensures.reads (c.in_err-l.ensures.reads))) }
 
 pub returns : goal.returns
-returns c = record { reads = boxed_read (λ x. x.0.value) (λ x. x.1.now) written_state (λ s. FitsState (state_of s)) c.boxed.result c.boxed.ensures.boxes (in_form state_kind 9 refl (as_written (grouped (short_bytes c.in_ok-x.x.0) (type_bytes (type_of c.in_ok-x.t.value)) (list_bytes held_name_bytes (map held_of c.in_ok-x.held.items)) _) regrouped (then c.in_ok-x.ensures.reads c.in_ok-l.ensures.reads))) }
+returns c = record { reads = boxed_read (λ x. x.0.value) (λ x. drop x.1 c.args.bytes.now) written_state (λ s. FitsState (state_of s)) c.boxed.result (c.boxed.ensures.boxes (λ n. drop n c.args.bytes.now)) (in_form state_kind 9 refl (as_written (grouped (short_bytes c.in_ok-x.x.0) (type_bytes (type_of c.in_ok-x.t.value)) (list_bytes held_name_bytes (map held_of c.in_ok-x.held.items)) _) regrouped (then c.in_ok-x.ensures.reads c.in_ok-l.ensures.reads))) }

@@ -1,5 +1,5 @@
 -- What is read so far stands before what is left. Each call goes down a level, or is nearer to one that does.
-use Rattle.std.proofs.Common.{◌+◌, ◌*◌}
+use Rattle.std.proofs.Common.{◌+◌, ◌*◌, drop}
 use Rattle.kept_state.specs.KeptForm.{node_item}
 use Rattle.delta_keep.specs.Written.{written_node}
 use Rattle.delta_keep.specs.Reads.{FitsNode}
@@ -7,7 +7,7 @@ use Rattle.delta_keep.proofs.ReadLists.{ReadSome}
 use Rattle.delta_keep.proofs.read_terms.+read_nodes.Given as goal
 
 abbrev pub invariant-read_nodes-items : goal.invariant-read_nodes-items
-invariant-read_nodes-items l = ReadSome node_item written_node (λ n. n) FitsNode l.count l.initial.rest l.counter l.items.items l.rest
+invariant-read_nodes-items l = ReadSome node_item written_node (λ n. n) FitsNode l.count (drop l.initial.next l.bytes) l.counter l.items.items (drop l.next l.bytes)
 
 abbrev pub decreases-read_term : goal.decreases-read_term
 decreases-read_term l = 6 * l.left

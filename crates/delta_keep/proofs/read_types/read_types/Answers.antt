@@ -1,5 +1,5 @@
 -- Item by item.
-use Rattle.std.proofs.Common.{◌≡◌, refl}
+use Rattle.std.proofs.Common.{◌≡◌, refl, drop}
 use Rattle.std.proofs.lemmas.Result.{err_from_is_err_and}
 use Rattle.kept_state.specs.KeptForm.{type_item}
 use Rattle.std.proofs.Common.{◌<◌, arith}
@@ -10,20 +10,20 @@ use Rattle.delta_keep.proofs.read_types.read_types.Goals as goal
 pub returns-in_err-count : goal.returns-in_err-count
 returns-in_err-count c =
     let exit = err_from_is_err_and c.from_residual.result c.from_residual.ensures.1 in
-    record { reads = rw (exit.1, exit.2) (count_stops type_item c.args.bytes.now c.in_err-count.field-0.0 c.in_err-count.ensures.reads) }
+    record { reads = rw (exit.1, exit.2) (count_stops type_item (drop c.args.start c.args.bytes.now) c.in_err-count.field-0.0 c.in_err-count.ensures.reads) }
 
 pub returns-in-Err : goal.returns-in-Err
 returns-in-Err c =
     let lt : c.items.counter < c.in_ok-count.count = omega arith in
-    record { reads = list_ended type_item c.pushed.new.items.items c.read_type.result c.in-Err.halt (λ x. x.0.value) (λ x. x.1.now) (λ rest. rest.now) c.in_ok-count.ensures.reads c.items.invariant lt c.in-Err.ensures c.read_type.ensures.reads }
+    record { reads = list_ended type_item c.pushed.new.items.items c.read_type.result c.in-Err.halt (λ x. x.0.value) (λ x. drop x.1 c.args.bytes.now) (λ n. drop n c.args.bytes.now) c.in_ok-count.ensures.reads c.items.invariant lt (c.in-Err.ensures (λ n. drop n c.args.bytes.now)) c.read_type.ensures.reads }
 
 pub items-init : goal.items-init
-items-init c = none_read _ _ _ _ c.in_ok-count.count c.in_ok-count.rest.now c.new-items.result.items c.new-items.ensures.items
+items-init c = none_read _ _ _ _ c.in_ok-count.count (drop c.in_ok-count.next c.args.bytes.now) c.new-items.result.items c.new-items.ensures.items
 
 pub items-preserved : goal.items-preserved
 items-preserved c =
     let lt : c.items.counter < c.in_ok-count.count = omega arith in
-    list_pushed c.read_type.result c.in-Ok.behind (λ x. x.0.value) (λ x. x.1.now) (λ rest. rest.now) c.items.invariant lt c.in-Ok.ensures c.read_type.ensures.reads
+    list_pushed c.read_type.result c.in-Ok.behind (λ x. x.0.value) (λ x. drop x.1 c.args.bytes.now) (λ n. drop n c.args.bytes.now) c.items.invariant lt (c.in-Ok.ensures (λ n. drop n c.args.bytes.now)) c.read_type.ensures.reads
 
 pub returns : goal.returns
 returns c =

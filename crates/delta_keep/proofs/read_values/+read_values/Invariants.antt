@@ -1,5 +1,5 @@
 -- What is read so far stands before what is left. Each call goes down a level, or is nearer to one that does.
-use Rattle.std.proofs.Common.{◌+◌, ◌*◌}
+use Rattle.std.proofs.Common.{◌+◌, ◌*◌, drop}
 use Rattle.hist_value.specs.HistValue.{hist_value_of}
 use Rattle.kept_state.specs.KeptBytes.{value_bytes}
 use Rattle.kept_state.specs.KeptForm.{value_item}
@@ -8,7 +8,7 @@ use Rattle.delta_keep.proofs.ReadLists.{ReadSome}
 use Rattle.delta_keep.proofs.read_values.+read_values.Given as goal
 
 abbrev pub invariant-read_values-items : goal.invariant-read_values-items
-invariant-read_values-items l = ReadSome value_item value_bytes hist_value_of FitsValue l.count l.initial.rest l.counter l.items.items l.rest
+invariant-read_values-items l = ReadSome value_item value_bytes hist_value_of FitsValue l.count (drop l.initial.next l.bytes) l.counter l.items.items (drop l.next l.bytes)
 
 abbrev pub decreases-read_value : goal.decreases-read_value
 decreases-read_value l = 4 * l.left

@@ -7,7 +7,7 @@ use Rattle.delta_keep.proofs.Pieces.{as_written, in_form, stops_in_form, boxed_r
 use Rattle.delta_keep.proofs.terms_done.two_done.Goals as goal
 
 pub returns-in-Ok : goal.returns-in-Ok
-returns-in-Ok c bytes a h = boxed_read (λ x. x.0.value) (λ x. x.1.now) written_node FitsNode c.boxed.result c.boxed.ensures.boxes (in_node c.args.at (as_written (sym c.two_of-term.ensures.bytes) c.two_of-term.ensures.sizes (in_form term_kind c.args.n a (was_read c.in-Ok.is (λ x. written_node x.0.value ++ written_node x.1.value) (λ x. x.2.now) (λ x. FitsNode x.0.value × FitsNode x.1.value) h))))
+returns-in-Ok c bytes behind a h = boxed_read (λ x. x.0.value) (λ x. behind x.1) written_node FitsNode c.boxed.result (c.boxed.ensures.boxes behind) (in_node c.args.at (as_written (sym c.two_of-term.ensures.bytes) c.two_of-term.ensures.sizes (in_form term_kind c.args.n a (was_read c.in-Ok.is (λ x. written_node x.0.value ++ written_node x.1.value) (λ x. behind x.2) (λ x. FitsNode x.0.value × FitsNode x.1.value) h))))
 
 pub returns-in-Err : goal.returns-in-Err
-returns-in-Err c bytes a h = stops_in_node c.args.at (c.args.n ∷ bytes) c.in-Err.halt (stops_in_form term_kind c.args.n (node_parts ++ node_parts) bytes c.in-Err.halt a (has_stopped (node_parts ++ node_parts) bytes c.in-Err.is (λ x. written_node x.0.value ++ written_node x.1.value) (λ x. x.2.now) (λ x. FitsNode x.0.value × FitsNode x.1.value) h))
+returns-in-Err c bytes behind a h = stops_in_node c.args.at (c.args.n ∷ bytes) c.in-Err.halt (stops_in_form term_kind c.args.n (node_parts ++ node_parts) bytes c.in-Err.halt a (has_stopped (node_parts ++ node_parts) bytes c.in-Err.is (λ x. written_node x.0.value ++ written_node x.1.value) (λ x. behind x.2) (λ x. FitsNode x.0.value × FitsNode x.1.value) h))

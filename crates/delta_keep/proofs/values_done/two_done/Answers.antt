@@ -8,7 +8,7 @@ use Rattle.delta_keep.proofs.Pieces.{in_form, stops_in_form, boxed_read, was_rea
 use Rattle.delta_keep.proofs.values_done.two_done.Goals as goal
 
 pub returns-in-Ok : goal.returns-in-Ok
-returns-in-Ok c bytes h = boxed_read (λ x. x.0.value) (λ x. x.1.now) (λ v. value_bytes (hist_value_of v)) (λ v. FitsValue (hist_value_of v)) c.boxed.result c.boxed.ensures.boxes (in_form value_kind 2 refl (was_read c.in-Ok.is (λ x. value_bytes (hist_value_of x.0.value) ++ value_bytes (hist_value_of x.1.value)) (λ x. x.2.now) (λ x. FitsValue (hist_value_of x.0.value) × FitsValue (hist_value_of x.1.value)) h))
+returns-in-Ok c bytes behind h = boxed_read (λ x. x.0.value) (λ x. behind x.1) (λ v. value_bytes (hist_value_of v)) (λ v. FitsValue (hist_value_of v)) c.boxed.result (c.boxed.ensures.boxes behind) (in_form value_kind 2 refl (was_read c.in-Ok.is (λ x. value_bytes (hist_value_of x.0.value) ++ value_bytes (hist_value_of x.1.value)) (λ x. behind x.2) (λ x. FitsValue (hist_value_of x.0.value) × FitsValue (hist_value_of x.1.value)) h))
 
 pub returns-in-Err : goal.returns-in-Err
-returns-in-Err c bytes h = stops_in_form value_kind 2 (form value_kind ∷ form value_kind ∷ []) bytes c.in-Err.halt refl (has_stopped (form value_kind ∷ form value_kind ∷ []) bytes c.in-Err.is (λ x. value_bytes (hist_value_of x.0.value) ++ value_bytes (hist_value_of x.1.value)) (λ x. x.2.now) (λ x. FitsValue (hist_value_of x.0.value) × FitsValue (hist_value_of x.1.value)) h)
+returns-in-Err c bytes behind h = stops_in_form value_kind 2 (form value_kind ∷ form value_kind ∷ []) bytes c.in-Err.halt refl (has_stopped (form value_kind ∷ form value_kind ∷ []) bytes c.in-Err.is (λ x. value_bytes (hist_value_of x.0.value) ++ value_bytes (hist_value_of x.1.value)) (λ x. behind x.2) (λ x. FitsValue (hist_value_of x.0.value) × FitsValue (hist_value_of x.1.value)) h)
