@@ -2,8 +2,8 @@
 
 use crate::outside::{Answer, Given, breaks_off, holds};
 use crate::tables::{
-    BOUND, CHECK, COMMANDS, Command, DERIVE, FOUR, GEN, GIVEN, LINES, ONE_EVENT, PRINT, PRINTED,
-    RESUME, SIX, SUMMARY, THREE,
+    BOUND, CHECK, Command, DERIVE, FOUR, GEN, GIVEN, LINES, ONE_EVENT, PRINT, PRINTED, RESUME, SIX,
+    SUMMARY, THREE, commands,
 };
 use std::alloc::Global;
 use std::test::Fail;
@@ -39,7 +39,7 @@ fn answers_failing_reads(alloc: Global, command: &Command) -> Result<bool, Fail>
 
 #[test]
 fn reads_fail_in_turn(rt: HostRuntime) -> Result<(), Fail> {
-    for command in COMMANDS {
+    for command in commands() {
         assert!(rt;
             answers_failing_reads(rt.alloc(), command)?,
             "{}",
@@ -67,7 +67,7 @@ fn answers_failing_writes(alloc: Global, given: &Given<'_>, whole: &[u8]) -> Res
 
 #[test]
 fn writes_fail_in_turn(rt: HostRuntime) -> Result<(), Fail> {
-    for command in COMMANDS {
+    for command in commands() {
         let (given, whole) = (&command.given, command.whole);
         assert!(rt;
             answers_failing_writes(rt.alloc(), given, whole)?,

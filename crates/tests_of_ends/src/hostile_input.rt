@@ -1,7 +1,7 @@
 //! The feed cut off behind each byte, and with each byte changed.
 
 use crate::outside::{Given, changed, holds};
-use crate::tables::{COMMANDS, Command};
+use crate::tables::{Command, commands};
 use std::alloc::Global;
 use std::test::Fail;
 
@@ -21,7 +21,7 @@ fn answers_cuts(alloc: Global, command: &Command) -> Result<bool, Fail> {
 
 #[test]
 fn feed_is_cut_off(rt: HostRuntime) -> Result<(), Fail> {
-    for command in COMMANDS {
+    for command in commands() {
         assert!(rt;
             answers_cuts(rt.alloc(), command)?,
             "{}",
@@ -47,7 +47,7 @@ fn answers_changes(alloc: Global, command: &Command) -> Result<bool, Fail> {
 
 #[test]
 fn byte_of_the_feed_is_changed(rt: HostRuntime) -> Result<(), Fail> {
-    for command in COMMANDS {
+    for command in commands() {
         assert!(rt;
             answers_changes(rt.alloc(), command)?,
             "{}",

@@ -399,8 +399,13 @@ const SAVE: Command = Command {
     ..RUN
 };
 
-/// The commands that read the feed.
-pub const COMMANDS: &[Command] = &[RUN, EVAL, TEXT, FRAMES, SAVE];
+const COMMANDS: &[Command] = &[RUN, EVAL, TEXT, FRAMES, SAVE];
+
+/// The commands that read the feed. Tests ask here for them: a table that is a constant is written out in the proof of
+/// each function that names it.
+pub fn commands() -> &'static [Command] {
+    COMMANDS
+}
 
 /// `print`, which reads no input.
 pub const PRINT: Given<'static> = Given {
