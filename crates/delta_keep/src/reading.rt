@@ -19,7 +19,7 @@ use crate::saving::MOST_BYTES;
 use std::alloc::Global;
 
 /// How deep what is read may nest, its types, terms and values with the state that they stand in. Readers go
-/// down a level for each, and so does whatever drops what was read. A level of reading takes at most 840 bytes
+/// down a level for each, and so does whatever drops what was read. A level of reading takes at most 848 bytes
 /// of stack as the gate builds its tests, so all of these fit into the usual 8 MB. Where bytes nest deeper, the
 /// same is told as for want of memory.
 const MOST_LEVELS: u32 = 4_000;
