@@ -1,7 +1,7 @@
 -- A session that stands is open, and so can be fed.
 use Rattle.std.proofs.Common.{inl, []}
 use Rattle.core_term.specs.CoreTerm.{core_of}
-use Rattle.tests_of_machines.proofs.sessions.opened.Goals as goal
+use Rattle.tests_of_sessions.proofs.sessions.opened.Goals as goal
 
 pub returns-in-Ok : goal.returns-in-Ok
 returns-in-Ok g c = inl (record { program = core_of c.args.checked.now; budget = c.args.budget; word = []; standing = c.in-Ok.ensures.stands })

@@ -1,6 +1,6 @@
 -- The session stays one that can be fed.
 use Rattle.delta_session.specs.Standing.{IsKept}
-use Rattle.tests_of_machines.proofs.sizes.feed_often.Given as goal
+use Rattle.tests_of_sessions.proofs.sizes.feed_items.Given as goal
 
 abbrev pub invariant-loop-i : goal.invariant-loop-i
 invariant-loop-i g l = IsKept g.M.Machine.seen g.M.Machine.stands l.session

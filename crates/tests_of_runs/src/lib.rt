@@ -1,0 +1,26 @@
+//! Tests of whole runs, with ample memory: what is left where bytes are hostile or what is outside fails, each name that a
+//! note can have (the examples of `docs/REFUSALS.md`), runs that leave their state and go on from it, and the load.
+#![tactic(auto)]
+
+#[cfg(test)]
+mod failing_ends;
+#[cfg(test)]
+mod hostile_input;
+#[cfg(test)]
+mod hostile_text;
+#[cfg(test)]
+mod lines;
+#[cfg(test)]
+mod long;
+#[cfg(test)]
+mod outside;
+#[cfg(test)]
+mod program;
+#[cfg(test)]
+mod refusals;
+#[cfg(test)]
+mod resumes;
+#[cfg(test)]
+mod saves;
+#[cfg(test)]
+mod tables;
