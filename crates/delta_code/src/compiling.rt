@@ -8,8 +8,7 @@ use bunch::Name;
 use core_term::{Body, Core};
 use std::alloc::Global;
 use stream_type::{Memory, Ty};
-use template_kept::op;
-use template_state::{Code, Template};
+use template_state::{Code, Template, op};
 
 /// The templates of a program. Its only error is want of memory.
 pub fn compile(alloc: Global, c: &Core) -> Result<Code, Memory>

@@ -8,14 +8,13 @@ use core_term::Checked;
 use delta_keep::Kept;
 use delta_state::StepRefusal;
 use event_word::Event;
-use machine_kept::Keeping;
+use machine_kept::{Keeping, keep, wake};
 use machine_kept::awaiting::{awaited_at, type_awaited};
 use machine_parts::boxes::copy_boxed;
 use machine_parts::place::place;
 use std::alloc::Global;
 use stream_prefix::Prefix;
 use stream_type::Memory;
-use template_kept::{keep, wake};
 
 impl Keeping for Coded {
     ghost since = { CodedSince };

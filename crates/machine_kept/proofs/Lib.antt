@@ -1,5 +1,6 @@
 -- The lemmas.
 pub mod Marks
+pub mod Rows
 pub mod PaddedLists
 pub mod KeptAwaited
 pub mod SimplerSince

@@ -1,8 +1,9 @@
-//! States of a running program over its templates: code that isn't reached stands in templates that are shared,
-//! and a state is put into a simpler form in place.
+//! States of a running program over its templates: code that isn't reached stands in templates that are shared and are
+//! made of terms once, and a state is put into a simpler form in place.
 #![tactic(auto)]
 
 mod code;
+mod compiling;
 mod counting;
 mod join;
 mod live;
@@ -15,6 +16,7 @@ mod terms;
 mod without_marks;
 
 pub use code::{Code, Op, Operands, Template};
+pub use compiling::op;
 pub use counting::{count_states, held_events};
 pub use live::{Arguments, Later, Live, Past};
 pub use names_used::{op_uses, uses};

@@ -1,6 +1,7 @@
 //! Bytes of kept states that nest as deep as is read, and deeper.
 
-use delta_keep::{ReadFault, read_kept};
+use crate::read::fault;
+use delta_keep::ReadFault;
 use std::alloc::Global;
 use std::test::Fail;
 
@@ -75,13 +76,13 @@ fn nested(alloc: Global, head: &[u8], form: &[u8], levels: usize) -> Result<Vec<
 // Whether it is told that bytes are missing.
 fn are_read(alloc: Global, head: &[u8], form: &[u8], levels: usize) -> Result<bool, Fail> {
     let bytes = nested(alloc, head, form, levels)?;
-    Ok(read_kept(alloc, &bytes).err() == Some(ReadFault::Form(bytes.len() as u64)))
+    Ok(fault(alloc, &bytes) == Some(ReadFault::Form(bytes.len() as u64)))
 }
 
 // Whether it is told that they nest too deep.
 fn are_refused(alloc: Global, head: &[u8], form: &[u8], levels: usize) -> Result<bool, Fail> {
     let bytes = nested(alloc, head, form, levels)?;
-    Ok(read_kept(alloc, &bytes).err() == Some(ReadFault::Memory))
+    Ok(fault(alloc, &bytes) == Some(ReadFault::Memory))
 }
 
 #[test]

@@ -1,5 +1,6 @@
 //! Bytes that are read as kept states of a program, and others that are told apart from these.
 
+use crate::read::ONE;
 use checked_program::{accept, dismiss};
 use core_term::Checked;
 use delta_keep::{Kept, KeptState, dismiss as dismiss_kept};
@@ -8,13 +9,8 @@ use std::alloc::Global;
 use std::test::Fail;
 use stream_type::Memory;
 
-// One stream of numbers, as it comes.
+// One stream of numbers, as it comes: the program of `ONE`.
 const SAME: &[u8] = b"main(x : Int) : Int = x";
-
-// It before any event: 27 bytes, of which the state is the last five.
-const ONE: &[u8] = &[
-    68, 83, 84, 1, 0, 0, 0, 0, 0, 0, 0, 0, 0, 0, 0, 1, 2, 0, 0, 0, 0, 2, 1, 0, 0, 0, 0,
-];
 
 // Two streams of numbers.
 const TWO: &[u8] = b"main(x : Int, y : Int) : Int = x";

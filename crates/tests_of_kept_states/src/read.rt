@@ -1,15 +1,15 @@
 //! Bytes of kept states: read and written again, with each byte set to other values, and without their end.
 
-use delta_keep::{Kept, KeptState, ReadFault, read_kept, save};
+use delta_keep::{Kept, KeptState, ReadFault, dismiss, read_kept, save};
 use std::alloc::Global;
 use std::test::Fail;
 
-// `main(x : Int) : Int = x` before any event: its 27 bytes, of which the state is the last five.
+/// `main(x : Int) : Int = x` before any event: its 27 bytes, of which the state is the last five.
 pub(crate) const ONE: &[u8] = &[
     68, 83, 84, 1, 0, 0, 0, 0, 0, 0, 0, 0, 0, 0, 0, 1, 2, 0, 0, 0, 0, 2, 1, 0, 0, 0, 0,
 ];
 
-// A wait and then code of each form of a term and of a historical expression, with values and prefixes of most forms.
+/// A wait and then code of each form of a term and of a historical expression, with values and prefixes of most forms.
 pub(crate) const WAITS: &[u8] = &[
     68, 83, 84, 1, 0, 0, 1, 0, 0, 0, 0, 5, 0, 0, 0, 2, 2, 6, 1, 0, 0, 0, 2, 1, 0, 4, 0, 2, 3, 9, 0,
     0, 0, 3, 2, 0, 0, 0, 2, 0, 0, 0, 1, 5, 1, 2, 7, 5, 2, 4, 0, 0, 0, 0, 0, 0, 0, 3, 11, 0, 0, 0,
@@ -33,7 +33,7 @@ pub(crate) const WAITS: &[u8] = &[
     255, 255, 255, 3, 0, 4, 0, 32, 0, 0, 0, 0, 0, 0, 0,
 ];
 
-// A frame whose body has both cases, a let and both destructurings.
+/// A frame whose body has both cases, a let and both destructurings.
 pub(crate) const FRAME: &[u8] = &[
     68, 83, 84, 1, 0, 0, 0, 0, 0, 0, 0, 7, 0, 0, 0, 1, 5, 1, 2, 0, 0, 0, 1, 0, 3, 2, 1, 10, 0, 0,
     0, 2, 0, 0, 0, 30, 2, 1, 0, 0, 0, 0, 0, 0, 0, 31, 1, 0, 0, 2, 7, 0, 0, 0, 3, 2, 0, 0, 0, 1, 0,
@@ -56,8 +56,14 @@ fn is_first_name(k: &Kept) -> bool {
 
 // Whether the bytes are those of a kept state whose state is that name.
 fn reads_name(alloc: Global, bytes: &[u8]) -> Result<bool, ReadFault> {
-    let k = read_kept(alloc, bytes)?;
-    Ok(is_first_name(&k))
+    match read_kept(alloc, bytes) {
+        Ok(k) => {
+            let found = is_first_name(&k);
+            dismiss(k);
+            Ok(found)
+        }
+        Err(fault) => Err(fault),
+    }
 }
 
 #[test]
@@ -65,8 +71,8 @@ fn a_name_is_read(rt: HostRuntime) {
     assert!(rt; matches!(reads_name(rt.alloc(), ONE), Ok(true)));
 }
 
-// Whether a kept state is saved as these bytes.
-fn saves_to(alloc: Global, k: &Kept, bytes: &[u8]) -> bool {
+/// Whether a kept state is saved as these bytes.
+pub(crate) fn saves_to(alloc: Global, k: &Kept, bytes: &[u8]) -> bool {
     match save(alloc, k) {
         Ok(out) => out.as_slice() == bytes,
         Err(_) => false,
@@ -75,8 +81,14 @@ fn saves_to(alloc: Global, k: &Kept, bytes: &[u8]) -> bool {
 
 // Whether the bytes are those of a kept state that is saved as them again.
 fn comes_back(alloc: Global, bytes: &[u8]) -> Result<bool, ReadFault> {
-    let k = read_kept(alloc, bytes)?;
-    Ok(saves_to(alloc, &k, bytes))
+    match read_kept(alloc, bytes) {
+        Ok(k) => {
+            let same = saves_to(alloc, &k, bytes);
+            dismiss(k);
+            Ok(same)
+        }
+        Err(fault) => Err(fault),
+    }
 }
 
 #[test]
@@ -86,8 +98,8 @@ fn states_come_back(rt: HostRuntime) {
     }
 }
 
-// What is wrong with the bytes, if they aren't read.
-fn fault(alloc: Global, bytes: &[u8]) -> Option<ReadFault> {
+/// What is wrong with the bytes, if they aren't read.
+pub(crate) fn fault(alloc: Global, bytes: &[u8]) -> Option<ReadFault> {
     comes_back(alloc, bytes).err()
 }
 

@@ -1,17 +1,13 @@
 //! Kept states and their bytes, which were put together by hand.
 
+use crate::read::{ONE, saves_to};
 use bunch::Name;
 use core_term::{Node, Term};
-use delta_keep::{HeldName, Kept, KeptState, Known, SaveRefusal, Waiting, save};
+use delta_keep::{HeldName, Kept, KeptState, Known, Waiting, dismiss};
 use hist_value::Value;
 use std::alloc::Global;
 use stream_prefix::Prefix;
 use stream_type::{Memory, Ty, cat, star};
-
-// `main(x : Int) : Int = x` before any event: its 27 bytes, of which the state is the last five.
-const ONE: &[u8] = &[
-    68, 83, 84, 1, 0, 0, 0, 0, 0, 0, 0, 0, 0, 0, 0, 1, 2, 0, 0, 0, 0, 2, 1, 0, 0, 0, 0,
-];
 
 // A wait for `1 . Int` of which nothing has come, and code that sees a list with the number -1, after seven events.
 const WAIT: &[u8] = &[
@@ -77,22 +73,20 @@ fn held(alloc: Global) -> Result<HeldName, Memory> {
 
 // The wait.
 fn wait(alloc: Global) -> Result<Box<KeptState>, Memory> {
+    let ty = Box::new(alloc, Ty::Int)?;
     let mut names = Vec::new(alloc);
     names.push(held(alloc)?)?;
     let later = waiting(alloc)?;
-    let ty = Box::new(alloc, Ty::Int)?;
     Ok(Box::new(alloc, KeptState::Wait(Name(3), ty, names, later))?)
 }
 
 // It is kept after seven events, with one of two marks come.
 fn wait_kept(alloc: Global) -> Result<Kept, Memory> {
-    let state = wait(alloc)?;
+    let cuts = [false, true].to_vec(alloc)?;
+    let out = Box::new(alloc, Ty::Int)?;
     let mut ins = Vec::new(alloc);
     ins.push(cat(alloc, Ty::One, Ty::Int)?)?;
-    let mut cuts = Vec::new(alloc);
-    cuts.push(false)?;
-    cuts.push(true)?;
-    let out = Box::new(alloc, Ty::Int)?;
+    let state = wait(alloc)?;
     Ok(Kept {
         events: 7,
         ins,
@@ -103,26 +97,23 @@ fn wait_kept(alloc: Global) -> Result<Kept, Memory> {
 }
 
 // Whether a kept state is saved as these bytes.
-fn saves(alloc: Global, k: &Kept, bytes: &[u8]) -> Result<bool, SaveRefusal> {
-    Ok(save(alloc, k)?.as_slice() == bytes)
-}
-
-fn one_is_saved(alloc: Global) -> Result<bool, Memory> {
-    let k = one_kept(alloc)?;
-    Ok(matches!(saves(alloc, &k, ONE), Ok(true)))
-}
-
-fn wait_is_saved(alloc: Global) -> Result<bool, Memory> {
-    let k = wait_kept(alloc)?;
-    Ok(matches!(saves(alloc, &k, WAIT), Ok(true)))
+fn saves(alloc: Global, kept: Result<Kept, Memory>, bytes: &[u8]) -> bool {
+    match kept {
+        Ok(k) => {
+            let same = saves_to(alloc, &k, bytes);
+            dismiss(k);
+            same
+        }
+        Err(Memory) => false,
+    }
 }
 
 #[test]
 fn a_name_is_saved(rt: HostRuntime) {
-    assert!(rt; matches!(one_is_saved(rt.alloc()), Ok(true)));
+    assert!(rt; saves(rt.alloc(), one_kept(rt.alloc()), ONE));
 }
 
 #[test]
 fn a_wait_is_saved(rt: HostRuntime) {
-    assert!(rt; matches!(wait_is_saved(rt.alloc()), Ok(true)));
+    assert!(rt; saves(rt.alloc(), wait_kept(rt.alloc()), WAIT));
 }

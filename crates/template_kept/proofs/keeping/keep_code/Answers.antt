@@ -1,6 +1,0 @@
--- The code keeps its depth.
-use Rattle.std.proofs.Common.{rules}
-use Rattle.template_kept.proofs.keeping.keep_code.Goals as goal
-
-pub returns-in-Ok : goal.returns-in-Ok
-returns-in-Ok c = search rules
