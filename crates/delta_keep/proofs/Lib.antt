@@ -2,6 +2,7 @@
 pub mod Lists
 pub mod PutInTurn
 pub mod Trees
+pub mod ArgumentRows
 pub mod PlacedBytes
 pub mod Walks
 pub mod Pieces

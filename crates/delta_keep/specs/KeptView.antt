@@ -1,5 +1,5 @@
 -- What the program's trees of kept states stand for.
-use Rattle.std.specs.Prelude.{ℕ, List, [], ◌++◌, map}
+use Rattle.std.specs.Prelude.{ℕ, List, [], ◌∷◌, ◌++◌, map}
 use Rattle.stream_type.specs.StreamType.{type_of}
 use Rattle.stream_prefix.specs.Tree.{prefix_of}
 use Rattle.hist_value.specs.HistValue.{hist_value_of}
@@ -10,6 +10,7 @@ use Rattle.delta_keep.specs.declared.kept.Known.{Known}
 use Rattle.delta_keep.specs.declared.kept.HeldName.{HeldName}
 use Rattle.delta_keep.specs.declared.kept.Waiting.{Waiting}
 use Rattle.delta_keep.specs.declared.kept.Kept.{Kept}
+use Rattle.delta_keep.specs.declared.kept.Argument.{Argument}
 use Rattle.delta_keep.specs.declared.kept.KeptState.{KeptState, Row_of-Argument, end_of-Argument, more_of-Argument}
 use Rattle.delta_keep.specs.declared.kept.KeptState.TheVariants.{Sink, Var, Par', Cat', Let', LetPar', LetCat', CaseSum, CaseStar, Wait, Frame'}
 
@@ -47,6 +48,11 @@ abbrev mutual
   pub arguments_of : {n : _} → Row_of-Argument n → ArgumentTrees
   arguments_of end_of-Argument = no_arguments
   arguments_of (more_of-Argument x t p s args) = argument_before x.0 (type_of t.value) (state_of s) (arguments_of args)
+
+-- what arguments in a list stand for
+abbrev pub arguments_from : List Argument → ArgumentTrees
+arguments_from [] = no_arguments
+arguments_from (a ∷ args) = argument_before a.name.0 (type_of a.ty.value) (state_of a.state.value) (arguments_from args)
 
 abbrev mutual
   -- the places of the nodes of its code, in the order of reading

@@ -9,8 +9,7 @@ use Rattle.core_term.specs.FreeNames.{without, once}
 use Rattle.core_term.proofs.OnceEach.{holds-once}
 use Rattle.delta_state.specs.StateTree.{free_in_state, free_in_arguments}
 use Rattle.delta_keep.specs.declared.kept.Argument.{Argument}
-use Rattle.delta_keep.specs.KeptView.{state_of}
-use Rattle.kept_check.specs.Arguments.{arguments_from}
+use Rattle.delta_keep.specs.KeptView.{state_of, arguments_from}
 use Rattle.kept_check.specs.Free.{HasNames, without_all}
 
 less_one : (h e : Bool) → e ≡ true → (h && not e) ≡ not e

@@ -1,5 +1,4 @@
 -- The lemmas.
-pub mod Arguments
 pub mod NameLists
 pub mod FreeLists
 pub mod Lists

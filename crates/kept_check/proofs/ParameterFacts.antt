@@ -19,8 +19,8 @@ use Rattle.delta_check.specs.Scopes.{given_at, facts_given, context_given}
 use Rattle.delta_state.specs.StateTree.{StateTree, ArgumentTrees, no_arguments, argument_before, argument_names, argument_at, free_in_state}
 use Rattle.delta_state.specs.StateTyping.{marks_of_arguments, facts_of_arguments, context_of_arguments, no_pasts}
 use Rattle.delta_keep.specs.declared.kept.Argument.{Argument}
-use Rattle.delta_keep.specs.KeptView.{state_of}
-use Rattle.kept_check.specs.Arguments.{arguments_from, some_argument, are_before, are_behind, are_in_order}
+use Rattle.delta_keep.specs.KeptView.{state_of, arguments_from}
+use Rattle.kept_check.specs.Arguments.{some_argument, are_before, are_behind, are_in_order}
 use Rattle.kept_check.specs.Free.{HasNames}
 
 -- the types of parameters, as they are listed

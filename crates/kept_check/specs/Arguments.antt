@@ -1,15 +1,8 @@
--- The arguments of a frame as a list, and which parameters stand before which.
-use Rattle.std.specs.Prelude.{ℕ, Bool, false, ◌==◌, ◌&&◌, ◌||◌, List, [], ◌∷◌}
+-- Which parameters of a frame stand before which.
+use Rattle.std.specs.Prelude.{ℕ, Bool, false, ◌==◌, ◌&&◌, ◌||◌, List}
 use Rattle.std.specs.List.{list_all}
-use Rattle.stream_type.specs.StreamType.{type_of}
 use Rattle.core_term.specs.Typing.{Context, is_before}
 use Rattle.delta_state.specs.StateTree.{StateTree, ArgumentTrees, no_arguments, argument_before, free_in_state}
-use Rattle.delta_keep.specs.declared.kept.Argument.{Argument}
-use Rattle.delta_keep.specs.KeptView.{state_of}
-
-abbrev pub arguments_from : List Argument → ArgumentTrees
-arguments_from [] = no_arguments
-arguments_from (a ∷ args) = argument_before a.name.0 (type_of a.ty.value) (state_of a.state.value) (arguments_from args)
 
 -- whether some argument of the parameter x passes a test
 abbrev pub some_argument : (StateTree → Bool) → ArgumentTrees → ℕ → Bool

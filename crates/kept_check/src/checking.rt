@@ -12,8 +12,8 @@ ghost use Rattle.delta_state.specs.StateTyping.{marks_of_arguments, facts_of_arg
 ghost use Rattle.kept_state.specs.KeptBytes.{nodes_in_state, nodes_in_arguments};
 ghost use Rattle.kept_rules.specs.InTurn.{own_names, names_in_turn, names_of_parts, names_of_arguments, state_at, states_of, states_in, states_of_arguments, with_state, with_sides, with_steps};
 ghost use Rattle.kept_rules.specs.StateRules.{FollowsRule, IsGood};
-ghost use Rattle.delta_keep.specs.KeptView.{state_of};
-ghost use Rattle.kept_check.specs.Arguments.{arguments_from, are_before, are_behind};
+ghost use Rattle.delta_keep.specs.KeptView.{state_of, arguments_from};
+ghost use Rattle.kept_check.specs.Arguments.{are_before, are_behind};
 ghost use Rattle.kept_check.specs.Judging.{funs_of, IsJudge};
 ghost use Rattle.kept_check.specs.Sizes.{states_number, states_of_parts, states_in_arguments};
 ghost use Rattle.kept_check.specs.Walk.{FindsBad, Finds, ChecksOwn};
@@ -129,7 +129,7 @@ fn add_own(s: &KeptState, bound: &mut Vec<Name>) -> Result<(), Memory>
 
 // The same of the states in a state.
 #[cycle(walk)]
-#[tactic(auto, using(crate::proofs::Arguments::rows))]
+#[tactic(auto, using(delta_keep::proofs::ArgumentRows::rows))]
 fn check_parts<'a>(
     judge: &Judge<'_>,
     s: &KeptState,

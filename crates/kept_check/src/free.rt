@@ -4,8 +4,7 @@ ghost use Rattle.std.specs.Prelude.{◌≡◌, ◌==◌, ◌++◌, ◌∷◌, �
 ghost use Rattle.bunch.specs.Names.{numbers_of, holds};
 ghost use Rattle.core_term.specs.FreeNames.{free_names};
 ghost use Rattle.delta_state.specs.StateTree.{free_in_state, free_in_arguments};
-ghost use Rattle.delta_keep.specs.KeptView.{state_of, later_of};
-ghost use Rattle.kept_check.specs.Arguments.{arguments_from};
+ghost use Rattle.delta_keep.specs.KeptView.{state_of, later_of, arguments_from};
 ghost use Rattle.kept_check.specs.Free.{HasNames, without_all};
 
 use crate::names::is_there;

@@ -10,8 +10,8 @@ ghost use Rattle.core_term.specs.Typing.{AllBefore, is_before, with_fact, with_p
 ghost use Rattle.delta_check.specs.Scopes.{context_in};
 ghost use Rattle.delta_state.specs.StateTree.{cat_state, argument_names, free_in_state};
 ghost use Rattle.delta_state.specs.StateTyping.{context_held, with_known};
-ghost use Rattle.delta_keep.specs.KeptView.{state_of, held_of, later_of};
-ghost use Rattle.kept_check.specs.Arguments.{arguments_from, are_before};
+ghost use Rattle.delta_keep.specs.KeptView.{state_of, held_of, later_of, arguments_from};
+ghost use Rattle.kept_check.specs.Arguments.{are_before};
 ghost use Rattle.kept_rules.specs.StateRules.{FollowsRule, IsGoodSum, IsGoodStar, IsGoodWait, IsGoodLater};
 ghost use Rattle.kept_check.specs.HeldRules.{IsHolding, is_decided, MayGoOn};
 ghost use Rattle.kept_check.specs.Judging.{funs_of, IsJudge};

@@ -1,6 +1,5 @@
 -- The lemmas.
 pub mod Marks
-pub mod Rows
 pub mod PaddedLists
 pub mod KeptAwaited
 pub mod SimplerSince

@@ -1,6 +1,5 @@
 -- What the contracts cite.
 pub mod KeptAwaiting
-pub mod KeptArguments
 pub mod Makes
 pub mod SinceView
 pub mod Keeping

@@ -7,8 +7,7 @@ ghost use Rattle.hist_value.specs.HistValue.{hist_value_of};
 ghost use Rattle.delta_state.specs.StateTree.{StateTree, ArgumentTrees, sink, par_state, cat_state, let_state, let_par_state, let_cat_state, sum_state, star_state, wait_state, frame_state, argument_before};
 ghost use Rattle.machine_parts.specs.Entry.{entry_in};
 ghost use Rattle.template_state.specs.Readers.{known_in, later_in, held_in, state_in, arguments_in};
-ghost use Rattle.delta_keep.specs.KeptView.{known_of, held_of, later_of, state_of};
-ghost use Rattle.machine_kept.specs.KeptArguments.{arguments_from};
+ghost use Rattle.delta_keep.specs.KeptView.{known_of, held_of, later_of, state_of, arguments_from};
 ghost use Rattle.machine_kept.specs.Makes.{Makes, kept_in};
 
 use bunch::Name;

@@ -5,8 +5,7 @@ ghost use Rattle.stream_type.specs.StreamType.{type_of};
 ghost use Rattle.delta_state.specs.StateTree.{Known as KnownName, StateTree, ArgumentTrees, sink, par_state, cat_state, let_state, let_par_state, let_cat_state, sum_state, star_state, wait_state, frame_state, argument_before};
 ghost use Rattle.machine_parts.specs.Entry.{entry_in};
 ghost use Rattle.template_state.specs.Readers.{known_in, later_in, held_in, state_in, arguments_in};
-ghost use Rattle.delta_keep.specs.KeptView.{known_of, held_of, later_of, state_of};
-ghost use Rattle.machine_kept.specs.KeptArguments.{arguments_from};
+ghost use Rattle.delta_keep.specs.KeptView.{known_of, held_of, later_of, state_of, arguments_from};
 ghost use Rattle.machine_kept.specs.Makes.{Makes, live_in};
 
 use crate::compiling::op;
@@ -22,7 +21,7 @@ use template_state::{Arguments, Later, Live, Past};
 
 /// The state of which this one was kept, over templates of its own. Its only error is want of memory.
 #[cycle(wake)]
-#[tactic(auto, using(crate::proofs::Rows::rows))]
+#[tactic(auto, using(delta_keep::proofs::ArgumentRows::rows))]
 pub fn wake(alloc: Global, s: &KeptState) -> Result<Box<Live>, Memory>
     ensures { IfOk result (λ r. state_in r.value ≡ state_of s.now) }
 {

@@ -13,12 +13,12 @@ use Rattle.delta_state.specs.StateTyping.{context_of_arguments}
 use Rattle.kept_state.specs.KeptBytes.{nodes_in_state, nodes_in_arguments}
 use Rattle.kept_rules.specs.InTurn.{names_in_turn, states_of, states_of_arguments}
 use Rattle.kept_rules.specs.StateRules.{FollowsRule}
-use Rattle.delta_keep.specs.KeptView.{state_of, later_of}
-use Rattle.kept_check.specs.Arguments.{arguments_from}
+use Rattle.delta_keep.specs.KeptView.{state_of, later_of, arguments_from}
 use Rattle.kept_check.specs.Sizes.{states_number, states_of_parts, states_in_arguments}
 use Rattle.kept_check.specs.Walk.{FindsBad, Finds}
 use Rattle.kept_check.specs.Judging.{funs_of}
-use Rattle.kept_check.proofs.Arguments.{arguments_are, first_and_rest}
+use Rattle.delta_keep.proofs.ArgumentRows.{arguments_of-hidden}
+use Rattle.kept_check.proofs.Lists.{first_and_rest}
 use Rattle.kept_check.proofs.Turns.{arguments_found, first_ends, next_number, number_behind, own_ends, own_then, parts_found, still_once, then_body, then_second}
 use Rattle.kept_check.proofs.checking.+walk.Goals as goal
 
@@ -224,7 +224,7 @@ check_parts-returns-in-LetCat t c =
 pub check_parts-check_frame-requires : goal.check_parts-check_frame-requires
 check_parts-check_frame-requires t c =
     let whole : state_of c.args.s.now ≡ frame_state (arguments_from c.deref-in-Frame.result.now) (state_of c.deref-in-Frame-2.result.now) =
-    ap state_of c.in-Frame.is ∙ ap (λ u. frame_state u (state_of c.in-Frame.s.value)) (arguments_are c.in-Frame.args)
+    ap state_of c.in-Frame.is ∙ ap (λ u. frame_state u (state_of c.in-Frame.s.value)) (arguments_of-hidden c.in-Frame.args)
     ∙ ap₂ (λ x y. frame_state (arguments_from x) (state_of y)) (sym c.deref-in-Frame.ensures.value) (sym c.deref-in-Frame-2.ensures) in
     let count : states_of_parts (state_of c.args.s.now) ≡ states_in_arguments (arguments_from c.deref-in-Frame.result.now) + states_number (state_of c.deref-in-Frame-2.result.now) = ap states_of_parts whole in
     let nodes : nodes_in_state (state_of c.args.s.now) ≡ nodes_in_arguments (arguments_from c.deref-in-Frame.result.now) + nodes_in_state (state_of c.deref-in-Frame-2.result.now) = ap nodes_in_state whole in
@@ -233,6 +233,6 @@ check_parts-check_frame-requires t c =
 pub check_parts-returns-in-Frame : goal.check_parts-returns-in-Frame
 check_parts-returns-in-Frame t c =
     let whole : state_of c.args.s.now ≡ frame_state (arguments_from c.deref-in-Frame.result.now) (state_of c.deref-in-Frame-2.result.now) =
-    ap state_of c.in-Frame.is ∙ ap (λ u. frame_state u (state_of c.in-Frame.s.value)) (arguments_are c.in-Frame.args)
+    ap state_of c.in-Frame.is ∙ ap (λ u. frame_state u (state_of c.in-Frame.s.value)) (arguments_of-hidden c.in-Frame.args)
     ∙ ap₂ (λ x y. frame_state (arguments_from x) (state_of y)) (sym c.deref-in-Frame.ensures.value) (sym c.deref-in-Frame-2.ensures) in
     parts_found _ _ c.args.number (context_in c.args.scope.now) (type_of c.args.r.now) _ _ (state_of c.args.s.now) (frame_state (arguments_from c.deref-in-Frame.result.now) (state_of c.deref-in-Frame-2.result.now)) c.check_frame.result whole c.check_frame.ensures

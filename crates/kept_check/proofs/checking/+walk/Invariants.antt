@@ -1,7 +1,6 @@
 -- Each call has fewer states left, or is nearer to one that has.
 use Rattle.std.proofs.Common.{◌+◌, ◌*◌}
-use Rattle.delta_keep.specs.KeptView.{state_of}
-use Rattle.kept_check.specs.Arguments.{arguments_from}
+use Rattle.delta_keep.specs.KeptView.{state_of, arguments_from}
 use Rattle.kept_check.specs.Sizes.{states_of_parts, states_in_arguments, states_number}
 use Rattle.kept_check.proofs.checking.+walk.Given as goal
 

@@ -3,7 +3,8 @@ use Rattle.std.proofs.Common.{◌≡◌, ℕ, ◌&&◌, ◌||◌, drop}
 use Rattle.std.specs.Prelude.{◌==◌}
 use Rattle.bunch.specs.Names.{numbers_of}
 use Rattle.delta_check.specs.Scopes.{context_in, facts_given}
-use Rattle.kept_check.specs.Arguments.{arguments_from, are_behind}
+use Rattle.delta_keep.specs.KeptView.{arguments_from}
+use Rattle.kept_check.specs.Arguments.{are_behind}
 use Rattle.kept_check.proofs.checking.add_order.Given as goal
 
 abbrev pub invariant-loop-arg : goal.invariant-loop-arg

@@ -1,6 +1,7 @@
 -- The facts of one parameter more, and those of all.
 use Rattle.delta_check.specs.Scopes.{context_in, facts_given}
-use Rattle.kept_check.specs.Arguments.{arguments_from, are_in_order}
+use Rattle.delta_keep.specs.KeptView.{arguments_from}
+use Rattle.kept_check.specs.Arguments.{are_in_order}
 use Rattle.kept_check.proofs.ParameterFacts.{order_more, order_whole}
 use Rattle.kept_check.proofs.checking.parameter_order.Goals as goal
 

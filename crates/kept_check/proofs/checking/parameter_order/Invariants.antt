@@ -1,7 +1,8 @@
 -- With the facts of the parameters left, those so far are all.
 use Rattle.std.proofs.Common.{◌≡◌, ℕ, ◌||◌, drop}
 use Rattle.delta_check.specs.Scopes.{context_in, facts_given}
-use Rattle.kept_check.specs.Arguments.{arguments_from, are_in_order}
+use Rattle.delta_keep.specs.KeptView.{arguments_from}
+use Rattle.kept_check.specs.Arguments.{are_in_order}
 use Rattle.kept_check.proofs.checking.parameter_order.Given as goal
 
 abbrev pub invariant-loop-arg : goal.invariant-loop-arg

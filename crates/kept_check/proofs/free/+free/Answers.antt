@@ -3,9 +3,8 @@ use Rattle.std.proofs.Common.{◌≡◌, ◌∙◌, ◌||◌, ◌+◌, ◌++◌,
 use Rattle.bunch.specs.Names.{holds, numbers_of}
 use Rattle.core_term.specs.FreeNames.{free_names, without}
 use Rattle.delta_state.specs.StateTree.{par_state, cat_state, free_in_state, free_in_arguments}
-use Rattle.delta_keep.specs.KeptView.{state_of, later_of}
-use Rattle.kept_check.specs.Arguments.{arguments_from}
-use Rattle.kept_check.proofs.Arguments.{arguments_are}
+use Rattle.delta_keep.specs.KeptView.{state_of, later_of, arguments_from}
+use Rattle.delta_keep.proofs.ArgumentRows.{arguments_of-hidden}
 use Rattle.kept_check.proofs.FreeLists.{argument_put_in, none_left}
 use Rattle.kept_check.proofs.free.+free.Goals as goal
 
@@ -46,7 +45,7 @@ free_in-returns-in-Wait t c =
 
 pub free_in-returns-in-Frame : goal.free_in-returns-in-Frame
 free_in-returns-in-Frame t c =
-    let whole : free_in_state (state_of c.args.s.now) ≡ free_in_arguments (arguments_from c.in-Frame.args.items) = rw c.in-Frame.is (ap free_in_arguments (arguments_are c.in-Frame.args)) in
+    let whole : free_in_state (state_of c.args.s.now) ≡ free_in_arguments (arguments_from c.in-Frame.args.items) = rw c.in-Frame.is (ap free_in_arguments (arguments_of-hidden c.in-Frame.args)) in
     rw whole (rw c.deref-in-Frame.ensures.value at c.free_of_all.ensures)
 
 pub free_of_all-loop-arg-preserved : goal.free_of_all-loop-arg-preserved

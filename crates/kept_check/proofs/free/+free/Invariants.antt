@@ -4,7 +4,7 @@ use Rattle.std.proofs.Common.{◌≡◌, ◌+◌, ◌*◌, ◌||◌, ℕ, drop}
 use Rattle.bunch.specs.Names.{numbers_of, holds}
 use Rattle.delta_keep.specs.declared.kept.KeptState.{size-KeptState}
 use Rattle.delta_state.specs.StateTree.{free_in_arguments}
-use Rattle.kept_check.specs.Arguments.{arguments_from}
+use Rattle.delta_keep.specs.KeptView.{arguments_from}
 use Rattle.kept_check.proofs.free.+free.Given as goal
 
 abbrev pub invariant-free_of_all-loop-arg : goal.invariant-free_of_all-loop-arg

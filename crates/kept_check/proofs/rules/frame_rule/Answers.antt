@@ -2,7 +2,7 @@
 use Rattle.std.proofs.Common.{◌≡◌, ◌∙◌, sym}
 use Rattle.core_term.specs.FreeNames.{is_distinct}
 use Rattle.delta_state.specs.StateTree.{argument_names}
-use Rattle.kept_check.specs.Arguments.{arguments_from}
+use Rattle.delta_keep.specs.KeptView.{arguments_from}
 use Rattle.kept_check.proofs.rules.frame_rule.Goals as goal
 
 pub returns : goal.returns

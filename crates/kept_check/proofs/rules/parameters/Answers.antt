@@ -3,7 +3,7 @@ use Rattle.std.proofs.Common.{◌∙◌, ◌∷◌, [], ap, map, refl}
 use Rattle.std.proofs.lemmas.List.{map_push}
 use Rattle.bunch.specs.Names.{number_of}
 use Rattle.delta_state.specs.StateTree.{argument_names}
-use Rattle.kept_check.specs.Arguments.{arguments_from}
+use Rattle.delta_keep.specs.KeptView.{arguments_from}
 use Rattle.kept_check.proofs.NameLists.{next_found, all_found}
 use Rattle.kept_check.proofs.rules.parameters.Goals as goal
 

@@ -2,7 +2,7 @@
 use Rattle.std.proofs.Common.{◌≡◌, ◌++◌, drop}
 use Rattle.bunch.specs.Names.{numbers_of}
 use Rattle.delta_state.specs.StateTree.{argument_names}
-use Rattle.kept_check.specs.Arguments.{arguments_from}
+use Rattle.delta_keep.specs.KeptView.{arguments_from}
 use Rattle.kept_check.proofs.rules.parameters.Given as goal
 
 abbrev pub invariant-loop-arg : goal.invariant-loop-arg

@@ -1,11 +1,10 @@
 -- The arguments of a kept frame stand in a list.
 use Rattle.std.proofs.Common.{◌≡◌, ◌∙◌, ap₂}
 use Rattle.delta_state.specs.StateTree.{frame_state}
-use Rattle.delta_keep.specs.KeptView.{state_of}
-use Rattle.machine_kept.specs.KeptArguments.{arguments_from}
+use Rattle.delta_keep.specs.KeptView.{state_of, arguments_from}
 use Rattle.machine_kept.specs.Makes.{kept_in}
 use Rattle.template_state.proofs.Making.{makes_same}
-use Rattle.machine_kept.proofs.Rows.{arguments_of-hidden}
+use Rattle.delta_keep.proofs.ArgumentRows.{arguments_of-hidden}
 use Rattle.machine_kept.proofs.kept_states.framed.Goals as goal
 
 pub returns-in-Ok : goal.returns-in-Ok

@@ -4,7 +4,7 @@ use Rattle.delta_state.specs.StateTree.{frame_state}
 use Rattle.delta_keep.specs.KeptView.{state_of}
 use Rattle.machine_kept.specs.Makes.{live_in}
 use Rattle.template_state.proofs.Making.{makes_same}
-use Rattle.machine_kept.proofs.Rows.{arguments_of-hidden}
+use Rattle.delta_keep.proofs.ArgumentRows.{arguments_of-hidden}
 use Rattle.machine_kept.proofs.waking.+wake.Goals as goal
 
 pub wake-returns-in-Sink : goal.wake-returns-in-Sink

@@ -1,7 +1,6 @@
 -- What is left to go through.
 use Rattle.machine_parts.specs.Heft.{heft, heft_of_all}
-use Rattle.delta_keep.specs.KeptView.{state_of}
-use Rattle.machine_kept.specs.KeptArguments.{arguments_from}
+use Rattle.delta_keep.specs.KeptView.{state_of, arguments_from}
 use Rattle.machine_kept.proofs.waking.+wake.Given as goal
 
 abbrev pub decreases-wake : goal.decreases-wake

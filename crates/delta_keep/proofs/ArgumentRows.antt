@@ -1,4 +1,4 @@
--- What the arguments of a kept frame stand for, one by one.
+-- What the arguments of a frame stand for, as a row and as a list.
 use mathlib.Core.Former.{Count}
 use Rattle.std.proofs.Common.{◌≡◌, refl, ap, ◌∙◌}
 use Rattle.std.specs.declared.vec.Vec.{Vec}
@@ -6,8 +6,7 @@ use Rattle.std.specs.declared.alloc.Global.{Global}
 use Rattle.delta_keep.specs.declared.kept.Argument.{Argument}
 use Rattle.delta_keep.specs.declared.kept.KeptState.{Row_of-Argument, end_of-Argument, more_of-Argument, items-the_row-Argument, items_hidden-the_row-Argument-0}
 use Rattle.delta_keep.specs.declared.kept.KeptState.TheBlock.{hidden-the_row-Argument-0}
-use Rattle.delta_keep.specs.KeptView.{arguments_of}
-use Rattle.machine_kept.specs.KeptArguments.{arguments_from}
+use Rattle.delta_keep.specs.KeptView.{arguments_of, arguments_from}
 
 -- what a row of arguments stands for
 arguments_of-list : (m : Count) (k : Row_of-Argument m) → arguments_of k ≡ arguments_from (items-the_row-Argument m k)
