@@ -18,14 +18,14 @@ use std::alloc::Global;
 fn read_op(bytes: &[u8], start: usize) -> Result<(Op, usize), Halt>
     ensures reads { Reads (form op_kind ∷ []) (drop start bytes.now) (λ x. op_byte x.0 ∷ []) (λ x. drop x.1 bytes.now) (λ x. ⊤) result }
 {
-    let (form, rest) = read_byte(bytes, start)?;
+    let (form, next) = read_byte(bytes, start)?;
     match form {
-        0 => Ok((Op::Add, rest)),
-        1 => Ok((Op::Sub, rest)),
-        2 => Ok((Op::Mul, rest)),
-        3 => Ok((Op::Div, rest)),
-        4 => Ok((Op::Less, rest)),
-        5 => Ok((Op::Same, rest)),
+        0 => Ok((Op::Add, next)),
+        1 => Ok((Op::Sub, next)),
+        2 => Ok((Op::Mul, next)),
+        3 => Ok((Op::Div, next)),
+        4 => Ok((Op::Less, next)),
+        5 => Ok((Op::Same, next)),
         _ => Err(misplaced(bytes, start)),
     }
 }
