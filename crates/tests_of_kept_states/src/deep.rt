@@ -63,6 +63,11 @@ const FORMS: &[(&[u8], &[u8])] = &[
     ),
 ];
 
+// They, told in one place: a table is proved in each function that names it.
+fn forms() -> &'static [(&'static [u8], &'static [u8])] {
+    FORMS
+}
+
 // A kept state of which the last bytes are missing: a form inside itself so many times.
 fn nested(alloc: Global, head: &[u8], form: &[u8], levels: usize) -> Result<Vec<u8>, Fail> {
     let mut bytes = BEFORE.to_vec(alloc)?;
@@ -87,7 +92,7 @@ fn are_refused(alloc: Global, head: &[u8], form: &[u8], levels: usize) -> Result
 
 #[test]
 fn four_thousand_levels_are_read(rt: HostRuntime) -> Result<(), Fail> {
-    for (head, form) in FORMS {
+    for (head, form) in forms() {
         assert!(rt; are_read(rt.alloc(), head, form, 3_990)?);
     }
     Ok(())
@@ -95,7 +100,7 @@ fn four_thousand_levels_are_read(rt: HostRuntime) -> Result<(), Fail> {
 
 #[test]
 fn deeper_bytes_are_refused(rt: HostRuntime) -> Result<(), Fail> {
-    for (head, form) in FORMS {
+    for (head, form) in forms() {
         for levels in [4_001, 50_000] {
             assert!(rt; are_refused(rt.alloc(), head, form, levels)?);
         }

@@ -9,8 +9,8 @@ pub(crate) const ONE: &[u8] = &[
     68, 83, 84, 1, 0, 0, 0, 0, 0, 0, 0, 0, 0, 0, 0, 1, 2, 0, 0, 0, 0, 2, 1, 0, 0, 0, 0,
 ];
 
-/// A wait and then code of each form of a term and of a historical expression, with values and prefixes of most forms.
-pub(crate) const WAITS: &[u8] = &[
+// A wait and then code of each form of a term and of a historical expression, with values and prefixes of most forms.
+const WAITS: &[u8] = &[
     68, 83, 84, 1, 0, 0, 1, 0, 0, 0, 0, 5, 0, 0, 0, 2, 2, 6, 1, 0, 0, 0, 2, 1, 0, 4, 0, 2, 3, 9, 0,
     0, 0, 3, 2, 0, 0, 0, 2, 0, 0, 0, 1, 5, 1, 2, 7, 5, 2, 4, 0, 0, 0, 0, 0, 0, 0, 3, 11, 0, 0, 0,
     3, 9, 1, 10, 3, 6, 0, 2, 11, 0, 0, 0, 0, 1, 0, 0, 0, 2, 2, 5, 8, 11, 0, 0, 0, 0, 0, 0, 0, 0,
@@ -33,8 +33,8 @@ pub(crate) const WAITS: &[u8] = &[
     255, 255, 255, 3, 0, 4, 0, 32, 0, 0, 0, 0, 0, 0, 0,
 ];
 
-/// A frame whose body has both cases, a let and both destructurings.
-pub(crate) const FRAME: &[u8] = &[
+// A frame whose body has both cases, a let and both destructurings.
+const FRAME: &[u8] = &[
     68, 83, 84, 1, 0, 0, 0, 0, 0, 0, 0, 7, 0, 0, 0, 1, 5, 1, 2, 0, 0, 0, 1, 0, 3, 2, 1, 10, 0, 0,
     0, 2, 0, 0, 0, 30, 2, 1, 0, 0, 0, 0, 0, 0, 0, 31, 1, 0, 0, 2, 7, 0, 0, 0, 3, 2, 0, 0, 0, 1, 0,
     0, 0, 1, 5, 1, 2, 7, 5, 2, 4, 0, 0, 0, 0, 0, 0, 0, 3, 11, 0, 0, 0, 3, 9, 1, 10, 3, 6, 0, 2, 11,
@@ -48,6 +48,11 @@ pub(crate) const FRAME: &[u8] = &[
     255, 255, 255, 255, 255, 255, 255, 3, 0, 4, 0, 32, 0, 0, 0, 0, 0, 0, 0, 5, 0, 0, 0, 33, 0, 0,
     0, 34, 0, 0, 0, 0, 6, 0, 0, 0, 35, 0, 0, 0, 36, 0, 0, 0, 0, 1, 0, 0, 0, 35,
 ];
+
+/// They, told in one place: constants are proved in each function that names them.
+pub(crate) fn states() -> [&'static [u8]; 3] {
+    [ONE, WAITS, FRAME]
+}
 
 // Whether the state is the name numbered 0.
 fn is_first_name(k: &Kept) -> bool {
@@ -93,7 +98,7 @@ fn comes_back(alloc: Global, bytes: &[u8]) -> Result<bool, ReadFault> {
 
 #[test]
 fn states_come_back(rt: HostRuntime) {
-    for bytes in [ONE, WAITS, FRAME] {
+    for bytes in states() {
         assert!(rt; matches!(comes_back(rt.alloc(), bytes), Ok(true)));
     }
 }
@@ -190,7 +195,7 @@ fn holds_with_each(alloc: Global, bytes: &[u8], values: &[u8]) -> Result<bool, F
 
 #[test]
 fn each_byte_may_be_anything(rt: HostRuntime) -> Result<(), Fail> {
-    for bytes in [ONE, WAITS, FRAME] {
+    for bytes in states() {
         let held = holds_with_each(rt.alloc(), bytes, &[0, 1, 2, 5, 11, 16, 127, 255])?;
         assert!(rt; held);
     }
@@ -208,7 +213,7 @@ fn ends_anywhere(alloc: Global, bytes: &[u8]) -> bool {
 
 #[test]
 fn a_missing_end_is_told(rt: HostRuntime) {
-    for bytes in [ONE, WAITS, FRAME] {
+    for bytes in states() {
         assert!(rt; ends_anywhere(rt.alloc(), bytes));
     }
 }

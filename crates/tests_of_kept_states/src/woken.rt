@@ -1,6 +1,6 @@
 //! Kept states that go over templates and back.
 
-use crate::read::{FRAME, ONE, WAITS};
+use crate::read::states;
 use delta_keep::{Kept, KeptState, dismiss, read_kept, save};
 use machine_kept::{keep, wake};
 use std::alloc::Global;
@@ -80,7 +80,7 @@ fn stays(alloc: Global, bytes: &[u8]) -> Result<bool, Fail> {
 
 #[test]
 fn a_woken_state_is_kept_as_it_was(rt: HostRuntime) -> Result<(), Fail> {
-    for bytes in [ONE, WAITS, FRAME] {
+    for bytes in states() {
         assert!(rt; stays(rt.alloc(), bytes)?);
     }
     Ok(())
