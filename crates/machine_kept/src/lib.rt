@@ -4,8 +4,8 @@
 #![tactic(auto)]
 
 pub mod awaiting;
-mod kept_states;
 pub mod keeping;
+mod kept_states;
 mod waking;
 
 pub use keeping::Keeping;
