@@ -8,7 +8,6 @@ ghost use Rattle.template_state.specs.Readers.{known_in, later_in, held_in, stat
 ghost use Rattle.delta_keep.specs.KeptView.{known_of, held_of, later_of, state_of, arguments_from};
 ghost use Rattle.machine_kept.specs.Makes.{Makes, live_in};
 
-use crate::compiling::op;
 use bunch::Name;
 use delta_keep::{Argument, HeldName, KeptState, Known, Waiting};
 use hist_value::copy_value;
@@ -17,7 +16,7 @@ use machine_parts::results::{added, boxed, pair, shared};
 use std::alloc::Global;
 use std::rc::Rc;
 use stream_type::{Memory, Ty};
-use template_state::{Arguments, Later, Live, Past};
+use template_state::{Arguments, Later, Live, Past, op};
 
 /// The state of which this one was kept, over templates of its own. Its only error is want of memory.
 #[cycle(wake)]
