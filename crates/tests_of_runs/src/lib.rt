@@ -9,13 +9,13 @@ mod hostile_input;
 #[cfg(test)]
 mod hostile_text;
 #[cfg(test)]
-mod lines;
+mod load_lines;
 #[cfg(test)]
-mod long;
+mod load_program;
+#[cfg(test)]
+mod long_load;
 #[cfg(test)]
 mod outside;
-#[cfg(test)]
-mod program;
 #[cfg(test)]
 mod refusals;
 #[cfg(test)]

@@ -1,6 +1,6 @@
 //! The load of 100,000 items, told in a line and run over its frames in pieces. The frames are written by hand.
 
-use crate::lines::is_line;
+use crate::load_lines::is_line;
 use delta_code::Coded;
 use delta_load::LOAD_TEXT;
 use delta_run::delta;
