@@ -5,6 +5,7 @@ pub mod FreeValues
 pub mod Judgments
 pub mod ListForms
 pub mod Lists
+pub mod PartsJudged
 pub mod Renamings
 pub mod Rows
 pub mod TypedValues
