@@ -8,5 +8,6 @@ pub mod Lists
 pub mod PartsJudged
 pub mod Renamings
 pub mod Rows
+pub mod TypedForms
 pub mod TypedValues
 pub mod WholeLaws
