@@ -1,7 +1,9 @@
 -- The lemmas.
 mod Examples
+pub mod ExprForms
 pub mod FreeJudgments
 pub mod FreeValues
+pub mod ItemsBefore
 pub mod Judgments
 pub mod ListForms
 pub mod Lists

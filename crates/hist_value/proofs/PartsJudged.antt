@@ -22,6 +22,10 @@ Says q j = record { ok : IfOk q (λ t. j ≡ good (hist_type_of t)); refused : I
 pub as_judged : (q : Result HTy HistFault) (j k : Judged) → k ≡ j → Says q j → Says q k
 as_judged q j k e h = subst (λ (i : Judged). Says q i) (sym e) h
 
+-- what is said of a form is said of the expression that has it
+pub as_form : (q : Result HTy HistFault) (env : ℕ → Option HistType) (w : Option HistType) (e f : HistExpr) → e ≡ f → Says q (judge env f w) → Says q (judge env e w)
+as_form q env w e f is h = subst (λ (x : HistExpr). Says q (judge env x w)) (sym is) h
+
 -- memory was wanting
 pub wanting : (q : Result HTy HistFault) (k : Judged) → IsErrAnd q (λ f. f ≡ Memory) → Says q k
 wanting q k h = let exit = err_from_is_err_and q h in rw (exit.1, exit.2) (record { ok = tt; refused = tt })

@@ -4,7 +4,8 @@ use Rattle.hist_value.specs.HistType.{HistType, hist_type_of, sum_type}
 use Rattle.hist_value.specs.HistExpr.{expr_of}
 use Rattle.hist_value.specs.Scope.{types_in}
 use Rattle.hist_value.specs.Judge.{good, found}
-use Rattle.hist_value.proofs.PartsJudged.{as_judged, wanting, stops, after_bad, after_good, judged_for, no_pair, no_sum, no_items, wanted_pair, wanted_sum, wanted_items, pair_read, sum_read, list_read, found_pair, found_sum, found_list, found_no_pair, found_no_sum, found_no_list}
+use Rattle.hist_value.proofs.PartsJudged.{as_judged, as_form, wanting, stops, after_bad, after_good, judged_for, no_pair, no_sum, no_items, wanted_pair, wanted_sum, wanted_items, pair_read, sum_read, list_read, found_pair, found_sum, found_list, found_no_pair, found_no_sum, found_no_list}
+use Rattle.hist_value.proofs.ExprForms.{reckoned_read, pair_read as pair_expr_read, first_read, second_read, left_read, right_read, choice_read, cons_read, fold_read}
 use Rattle.hist_value.proofs.typing.+type_of.Goals as goal
 
 pub reckoned_in-returns-in_err-type_of_op : goal.reckoned_in-returns-in_err-type_of_op
@@ -194,3 +195,57 @@ fold_in-returns-in_ok-r-in-List t c =
 
 pub fold_in-returns-in_default : goal.fold_in-returns-in_default
 fold_in-returns-in_default t c = record { ok = tt; refused = after_good _ _ _ c.in_ok-list.ensures.ok ∙ found_no_list c.in_ok-list.list _ c.in_default.not-List }
+
+pub type_in-returns-in-Bin : goal.type_in-returns-in-Bin
+type_in-returns-in-Bin t c =
+    as_form _ (types_in c.args.scope.now) _ _ _ (reckoned_read _ _ _ _ c.deref.result.now c.deref-in-Bin.result.now c.in-Bin.is c.deref.ensures c.deref-in-Bin.ensures)
+    (record { ok = c.reckoned_in.ensures.ok; refused = c.reckoned_in.ensures.refused })
+
+pub type_in-returns-in-Pair : goal.type_in-returns-in-Pair
+type_in-returns-in-Pair t c =
+    as_form _ (types_in c.args.scope.now) _ _ _ (pair_expr_read _ _ _ c.deref-in-Pair.result.now c.deref-in-Pair-2.result.now c.in-Pair.is c.deref-in-Pair.ensures c.deref-in-Pair-2.ensures)
+    (record { ok = c.pair_in.ensures.ok; refused = c.pair_in.ensures.refused })
+
+pub type_in-returns-in-Fst : goal.type_in-returns-in-Fst
+type_in-returns-in-Fst t c =
+    as_form _ (types_in c.args.scope.now) _ _ _ (first_read _ _ c.deref-in-Fst.result.now c.in-Fst.is c.deref-in-Fst.ensures)
+    (record { ok = c.first_in.ensures.ok; refused = c.first_in.ensures.refused })
+
+pub type_in-returns-in-Snd : goal.type_in-returns-in-Snd
+type_in-returns-in-Snd t c =
+    as_form _ (types_in c.args.scope.now) _ _ _ (second_read _ _ c.deref-in-Snd.result.now c.in-Snd.is c.deref-in-Snd.ensures)
+    (record { ok = c.second_in.ensures.ok; refused = c.second_in.ensures.refused })
+
+pub type_in-returns-in-Inl : goal.type_in-returns-in-Inl
+type_in-returns-in-Inl t c =
+    as_form _ (types_in c.args.scope.now) _ _ _ (left_read _ _ c.deref-in-Inl.result.now c.in-Inl.is c.deref-in-Inl.ensures)
+    (record { ok = c.left_in.ensures.ok; refused = c.left_in.ensures.refused })
+
+pub type_in-returns-in-Inr : goal.type_in-returns-in-Inr
+type_in-returns-in-Inr t c =
+    as_form _ (types_in c.args.scope.now) _ _ _ (right_read _ _ c.deref-in-Inr.result.now c.in-Inr.is c.deref-in-Inr.ensures)
+    (record { ok = c.right_in.ensures.ok; refused = c.right_in.ensures.refused })
+
+pub type_in-returns-in-Choose : goal.type_in-returns-in-Choose
+type_in-returns-in-Choose t c =
+    as_form _ (types_in c.args.scope.now) _ _ _ (choice_read _ _ _ _ _ _ c.deref-in-Choose.result.now c.deref-in-Choose-2.result.now c.deref-in-Choose-3.result.now c.in-Choose.is c.deref-in-Choose.ensures c.deref-in-Choose-2.ensures c.deref-in-Choose-3.ensures)
+    (record { ok = c.choice_in.ensures.ok; refused = c.choice_in.ensures.refused })
+
+pub type_in-returns-in-Cons : goal.type_in-returns-in-Cons
+type_in-returns-in-Cons t c =
+    as_form _ (types_in c.args.scope.now) _ _ _ (cons_read _ _ _ c.deref-in-Cons.result.now c.deref-in-Cons-2.result.now c.in-Cons.is c.deref-in-Cons.ensures c.deref-in-Cons-2.ensures)
+    (record { ok = c.cons_in.ensures.ok; refused = c.cons_in.ensures.refused })
+
+pub type_in-returns-in-Fold : goal.type_in-returns-in-Fold
+type_in-returns-in-Fold t c =
+    as_form _ (types_in c.args.scope.now) _ _ _ (fold_read _ _ _ _ _ _ c.deref-in-Fold.result.now c.deref-in-Fold-2.result.now c.deref-in-Fold-3.result.now c.in-Fold.is c.deref-in-Fold.ensures c.deref-in-Fold-2.ensures c.deref-in-Fold-3.ensures)
+    (record { ok = c.fold_in.ensures.ok; refused = c.fold_in.ensures.refused })
+
+pub type_in-returns-in-Nil : goal.type_in-returns-in-Nil
+type_in-returns-in-Nil t c = as_form _ (types_in c.args.scope.now) _ _ _ (ap expr_of c.in-Nil.is) (record { ok = c.nil_of.ensures.ok; refused = c.nil_of.ensures.refused })
+
+pub type_in-returns-in-Lit : goal.type_in-returns-in-Lit
+type_in-returns-in-Lit t c = as_form _ (types_in c.args.scope.now) _ _ _ (ap expr_of c.in-Lit.is) (record { ok = c.found-in-Lit.ensures.ok; refused = c.found-in-Lit.ensures.refused })
+
+pub type_in-returns-in-Unit : goal.type_in-returns-in-Unit
+type_in-returns-in-Unit t c = as_form _ (types_in c.args.scope.now) _ _ _ (ap expr_of c.in-Unit.is) (record { ok = c.found-in-Unit.ensures.ok; refused = c.found-in-Unit.ensures.refused })
