@@ -66,8 +66,8 @@ pub pair_in-returns-in_ok-pair-in-Some-Pair : goal.pair_in-returns-in_ok-pair-in
 pair_in-returns-in_ok-pair-in-Some-Pair t c =
     record {
       ok =
-      wanted_pair _ _ _ _ _ _ c.in-Some-Pair.is (pair_read _ _ _ _ _ (rw c.in-Some-Pair.is at c.in-Some-Pair.field-0-is) c.deref.ensures c.deref-in-Some-Pair.ensures)
-      ∙ (after_good _ _ _ c.in_ok-s-in-Some-Pair.ensures.ok ∙ (after_good _ _ _ c.in_ok-type_in-in-Some-Pair.ensures.ok ∙ ap good (sym c.in_ok-pair-in-Some-Pair.ensures)));
+          wanted_pair _ _ _ _ _ _ c.in-Some-Pair.is (pair_read _ _ _ _ _ (rw c.in-Some-Pair.is at c.in-Some-Pair.field-0-is) c.deref.ensures c.deref-in-Some-Pair.ensures)
+          ∙ (after_good _ _ _ c.in_ok-s-in-Some-Pair.ensures.ok ∙ (after_good _ _ _ c.in_ok-type_in-in-Some-Pair.ensures.ok ∙ ap good (sym c.in_ok-pair-in-Some-Pair.ensures)));
       refused = tt;
     }
 
@@ -111,8 +111,8 @@ pub left_in-returns-in_ok-sum-in-Some-Sum : goal.left_in-returns-in_ok-sum-in-So
 left_in-returns-in_ok-sum-in-Some-Sum t c =
     record {
       ok =
-      wanted_sum _ _ _ _ _ _ c.in-Some-Sum.is (sum_read _ _ _ _ _ (rw c.in-Some-Sum.is at c.in-Some-Sum.field-0-is) c.deref.ensures c.deref-in-Some-Sum.ensures)
-      ∙ (after_good _ _ _ c.in_ok-s-in-Some-Sum.ensures.ok ∙ ap good (sym (c.in_ok-sum-in-Some-Sum.ensures ∙ ap (sum_type (hist_type_of c.in_ok-s-in-Some-Sum.s)) c.in_ok-copy_type-in-Some-Sum.ensures)));
+          wanted_sum _ _ _ _ _ _ c.in-Some-Sum.is (sum_read _ _ _ _ _ (rw c.in-Some-Sum.is at c.in-Some-Sum.field-0-is) c.deref.ensures c.deref-in-Some-Sum.ensures)
+          ∙ (after_good _ _ _ c.in_ok-s-in-Some-Sum.ensures.ok ∙ ap good (sym (c.in_ok-sum-in-Some-Sum.ensures ∙ ap (sum_type (hist_type_of c.in_ok-s-in-Some-Sum.s)) c.in_ok-copy_type-in-Some-Sum.ensures)));
       refused = tt;
     }
 
@@ -134,8 +134,8 @@ pub right_in-returns-in_ok-sum-in-Some-Sum : goal.right_in-returns-in_ok-sum-in-
 right_in-returns-in_ok-sum-in-Some-Sum t c =
     record {
       ok =
-      wanted_sum _ _ _ _ _ _ c.in-Some-Sum.is (sum_read _ _ _ _ _ (rw c.in-Some-Sum.is at c.in-Some-Sum.field-0-is) c.deref-in-Some-Sum.ensures c.deref.ensures)
-      ∙ (after_good _ _ _ c.in_ok-t-in-Some-Sum.ensures.ok ∙ ap good (sym (c.in_ok-sum-in-Some-Sum.ensures ∙ ap (λ (s : HistType). sum_type s (hist_type_of c.in_ok-t-in-Some-Sum.t)) c.in_ok-copy_type-in-Some-Sum.ensures)));
+          wanted_sum _ _ _ _ _ _ c.in-Some-Sum.is (sum_read _ _ _ _ _ (rw c.in-Some-Sum.is at c.in-Some-Sum.field-0-is) c.deref-in-Some-Sum.ensures c.deref.ensures)
+          ∙ (after_good _ _ _ c.in_ok-t-in-Some-Sum.ensures.ok ∙ ap good (sym (c.in_ok-sum-in-Some-Sum.ensures ∙ ap (λ (s : HistType). sum_type s (hist_type_of c.in_ok-t-in-Some-Sum.t)) c.in_ok-copy_type-in-Some-Sum.ensures)));
       refused = tt;
     }
 
