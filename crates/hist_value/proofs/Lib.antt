@@ -12,4 +12,5 @@ pub mod Renamings
 pub mod Rows
 pub mod TypedForms
 pub mod TypedValues
+pub mod ValueForms
 pub mod WholeLaws

@@ -113,7 +113,7 @@ list_off v t xs e n =
     never (HasType (hist_type_of t) (hist_value_of v)) (λ h. list_only t (map hist_value_of xs.items) n (subst (λ (w : HistValue). HasType (hist_type_of t) w) whole h))
 
 -- the items from the one that a loop has come to
-from_here : (l : List Value) (i : ℕ) (x : Value) → i < length l → x ≡ get_or l i x → drop i l ≡ x ∷ drop (i + 1) l
+pub from_here : (l : List Value) (i : ℕ) (x : Value) → i < length l → x ≡ get_or l i x → drop i l ≡ x ∷ drop (i + 1) l
 from_here l i x h e = rw (add-one, drop-cons l i x h) (ap (λ (y : Value). y ∷ drop (suc i) l) (sym e))
 
 -- an item doesn't have the type, and so the list has it not
