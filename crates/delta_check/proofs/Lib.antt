@@ -5,6 +5,7 @@ pub mod Entries
 pub mod Once
 pub mod Arguments
 pub mod RuleForms
+pub mod FormParts
 pub mod Firsts
 pub mod Counts
 pub mod Joined
