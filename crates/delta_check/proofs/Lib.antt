@@ -6,6 +6,7 @@ pub mod Once
 pub mod Arguments
 pub mod RuleForms
 pub mod FormParts
+pub mod InertForms
 pub mod Firsts
 pub mod Counts
 pub mod Joined
