@@ -1,19 +1,15 @@
 -- What tells of a form whether it is inert, and of arguments, where those so far are.
-use mathlib.Core.Logic.{◌⊎◌, inl, inr}
-use Rattle.std.proofs.Common.{◌≡◌, ℕ, zero, suc, arith, ◌+◌, ◌<◌, ◌≤◌, Bool, true, false, ◌&&◌, List, [], ◌∷◌, length, map, drop, get_or, refl, ap, ap₂, sym, ◌∙◌}
+use Rattle.std.proofs.Common.{◌≡◌, ◌⊎◌, inl, inr, Box, Global, ℕ, zero, suc, arith, ◌+◌, ◌<◌, ◌≤◌, Bool, true, false, ◌&&◌, List, [], ◌∷◌, length, map, drop, get_or, refl, ap, ap₂, sym, ◌∙◌}
 use Rattle.std.specs.Prelude.{slice_index_or, not}
 use Rattle.std.proofs.lemmas.List.{at_drop_more, at_drop_all}
-use Rattle.stream_type.specs.declared.ty.Ty.{Ty}
+use Rattle.stream_type.specs.declared.ty.Ty.{Ty, Eps, One, Int, Par, Sum, Star}
 use Rattle.stream_type.specs.StreamType.{StreamType, eps, par, cat, null_of, type_of}
 use Rattle.core_term.specs.declared.term.Node.{Node}
-use Rattle.core_term.specs.CoreTerm.{CoreTerm, CoreTerms, CoreBody, par_term, cat_term, let_term, term_before, term_of, terms_from}
+use Rattle.bunch.specs.declared.name.Name.{Name}
+use Rattle.core_term.specs.declared.term.Term.{Term, Var, Eps as IsEps, Unit as IsUnit, Nil, Cons, Inl, Inr, CaseSum, CaseStar, Wait}
+use Rattle.core_term.specs.CoreTerm.{CoreTerm, CoreTerms, CoreBody, par_term, cat_term, let_term, term_before, term_of, term_in, terms_from}
 use Rattle.core_term.specs.Parts.{par_left, par_right, cat_first}
 use Rattle.core_term.specs.Inert.{is_inert, are_inert}
-
--- what holds in each of two cases
-pub in_either : {A B C : Type 0} → A ⊎ B → (A → C) → (B → C) → C
-in_either (inl a) f g = f a
-in_either (inr b) f g = g b
 
 -- the first test is passed, so the second decides
 second_decides : (x y k q : Bool) → k ≡ x → k ≡ true → q ≡ y → q ≡ (x && y)
@@ -30,10 +26,40 @@ never : (x y : Bool) → y ≡ true → false ≡ (x && not y)
 never true y e = sym (ap not e)
 never false y e = refl
 
+-- a type that isn't of two streams in turn
+pub no_cat : (r : Ty) → (r ≡ Eps) ⊎ ((r ≡ One) ⊎ ((r ≡ Int) ⊎ (((x : Box Ty Global) × (y : Box Ty Global) × (r ≡ Par x y)) ⊎ (((x : Box Ty Global) × (y : Box Ty Global) × (r ≡ Sum x y)) ⊎ ((x : Box Ty Global) × (r ≡ Star x))))))
+    → null_of (cat_first (type_of r)) ≡ true
+no_cat r (inl e) = ap (λ (x : Ty). null_of (cat_first (type_of x))) e
+no_cat r (inr (inl e)) = ap (λ (x : Ty). null_of (cat_first (type_of x))) e
+no_cat r (inr (inr (inl e))) = ap (λ (x : Ty). null_of (cat_first (type_of x))) e
+no_cat r (inr (inr (inr (inl e)))) = ap (λ (x : Ty). null_of (cat_first (type_of x))) e.2
+no_cat r (inr (inr (inr (inr (inl e))))) = ap (λ (x : Ty). null_of (cat_first (type_of x))) e.2
+no_cat r (inr (inr (inr (inr (inr e))))) = ap (λ (x : Ty). null_of (cat_first (type_of x))) e.1
+
 module _ (funs : ℕ → CoreBody) (counts : ℕ → Bool) where
   -- what is told of a part
   abbrev still : Node → Ty → Bool
   still a s = is_inert funs counts (term_of a) (type_of s)
+
+  -- terms of these forms aren't
+  pub moves : (r : StreamType) (e : Term) → (e ≡ IsUnit) ⊎ ((e ≡ Nil) ⊎ (((x : Box Node Global) × (y : Box Node Global) × (e ≡ Cons x y)) ⊎ (((x : Box Node Global) × (e ≡ Inl x)) ⊎ ((x : Box Node Global) × (e ≡ Inr x)))))
+      → false ≡ is_inert funs counts (term_in e) r
+  moves r e (inl h) = sym (ap (λ (x : Term). is_inert funs counts (term_in x) r) h)
+  moves r e (inr (inl h)) = sym (ap (λ (x : Term). is_inert funs counts (term_in x) r) h)
+  moves r e (inr (inr (inl h))) = sym (ap (λ (x : Term). is_inert funs counts (term_in x) r) h.2)
+  moves r e (inr (inr (inr (inl h)))) = sym (ap (λ (x : Term). is_inert funs counts (term_in x) r) h.1)
+  moves r e (inr (inr (inr (inr h)))) = sym (ap (λ (x : Term). is_inert funs counts (term_in x) r) h.1)
+
+  -- and of these are
+  pub rests : (r : StreamType) (e : Term)
+      → ((x : Name) × (e ≡ Var x)) ⊎ ((e ≡ IsEps) ⊎ (((z : Name) × (t : Ty) × (x : Name) × (a : Box Node Global) × (y : Name) × (b : Box Node Global) × (e ≡ CaseSum z t x a y b))
+          ⊎ (((z : Name) × (t : Ty) × (a : Box Node Global) × (y : Name) × (ys : Name) × (b : Box Node Global) × (e ≡ CaseStar z t a y ys b)) ⊎ ((x : Name) × (t : Ty) × (a : Box Node Global) × (e ≡ Wait x t a)))))
+      → true ≡ is_inert funs counts (term_in e) r
+  rests r e (inl h) = sym (ap (λ (x : Term). is_inert funs counts (term_in x) r) h.1)
+  rests r e (inr (inl h)) = sym (ap (λ (x : Term). is_inert funs counts (term_in x) r) h)
+  rests r e (inr (inr (inl h))) = sym (ap (λ (x : Term). is_inert funs counts (term_in x) r) h.6)
+  rests r e (inr (inr (inr (inl h)))) = sym (ap (λ (x : Term). is_inert funs counts (term_in x) r) h.6)
+  rests r e (inr (inr (inr (inr h)))) = sym (ap (λ (x : Term). is_inert funs counts (term_in x) r) h.3)
 
   -- two terms at once, of which the first is inert
   pub par_still : (e : CoreTerm) (r : StreamType) (a b u v : Node) (s t x y : Ty) (k q : Bool) → e ≡ par_term (term_of u) (term_of v) → par_left r ≡ type_of x → par_right r ≡ type_of y → a ≡ u → b ≡ v → s ≡ x → t ≡ y

@@ -12,6 +12,7 @@ pub mod Counts
 pub mod Joined
 pub mod NodePlaces
 pub mod Known
+pub mod Seen
 pub mod Turns
 pub mod Whole
 pub mod Contexts

@@ -1,8 +1,8 @@
 -- What stands for a call is a call of what stands for its arguments. A sequence is inert where its first part is,
 -- at a type that isn't null.
-use Rattle.std.proofs.Common.{◌≡◌, ◌∙◌, Bool, true, false, map, refl, ap, sym, rules}
+use Rattle.std.proofs.Common.{◌≡◌, ◌∙◌, map, refl, ap, sym, rules}
 use Rattle.stream_type.specs.declared.ty.Ty.{Ty}
-use Rattle.stream_type.specs.StreamType.{type_of, null_of}
+use Rattle.stream_type.specs.StreamType.{type_of}
 use Rattle.bunch.specs.BunchTree.{tree_of}
 use Rattle.hist_value.specs.HistExpr.{expr_of}
 use Rattle.core_term.specs.declared.term.Term.{Term}
@@ -11,7 +11,7 @@ use Rattle.core_term.specs.Parts.{par_left, par_right, cat_first}
 use Rattle.core_term.specs.Inert.{is_inert, are_inert}
 use Rattle.core_term.proofs.Rows.{term_in-call, rows}
 use Rattle.delta_check.specs.Counting.{counts_in}
-use Rattle.delta_check.proofs.InertForms.{in_either, par_still, par_moves, cat_moves, cat_null, let_still, let_moves, are_still-then, are_still-not, are_still-end}
+use Rattle.delta_check.proofs.InertForms.{no_cat, moves, rests, par_still, par_moves, cat_moves, cat_null, let_still, let_moves, are_still-then, are_still-not, are_still-end}
 use Rattle.delta_check.proofs.inertness.+inert.Goals as goal
 
 pub is_still-returns-in-Call : goal.is_still-returns-in-Call
@@ -48,49 +48,37 @@ pub is_still-returns-in-Eps-r : goal.is_still-returns-in-Eps-r
 is_still-returns-in-Eps-r t c =
     let funs = fun_at (core_of c.args.c.now).funs in
     let counts = counts_in (core_of c.args.c.now).funs c.args.funs.now in
-    let P : Ty → Bool = λ x. null_of (cat_first (type_of x)) in
-    let null : null_of (cat_first (type_of c.args.r.now)) ≡ true = in_either c.in-Eps-r.is (λ e. ap P e) (λ w. in_either w (λ e. ap P e) (λ w. in_either w (λ e. ap P e) (λ w. in_either w (λ e. ap P e.2) (λ w. in_either w (λ e. ap P e.2) (λ w. ap P w.1))))) in
-    cat_null funs counts (term_of c.args.n.now) (type_of c.args.r.now) c.in-Cat.a.value c.in-Cat.field-1.value (ap term_in c.in-Cat.is) null
+    cat_null funs counts (term_of c.args.n.now) (type_of c.args.r.now) c.in-Cat.a.value c.in-Cat.field-1.value (ap term_in c.in-Cat.is) (no_cat c.args.r.now c.in-Eps-r.is)
 
 pub is_still-returns-in-Eps-r-2 : goal.is_still-returns-in-Eps-r-2
 is_still-returns-in-Eps-r-2 t c =
     let funs = fun_at (core_of c.args.c.now).funs in
     let counts = counts_in (core_of c.args.c.now).funs c.args.funs.now in
-    let P : Ty → Bool = λ x. null_of (cat_first (type_of x)) in
-    let null : null_of (cat_first (type_of c.args.r.now)) ≡ true = in_either c.in-Eps-r.is (λ e. ap P e) (λ w. in_either w (λ e. ap P e) (λ w. in_either w (λ e. ap P e) (λ w. in_either w (λ e. ap P e.2) (λ w. in_either w (λ e. ap P e.2) (λ w. ap P w.1))))) in
-    cat_null funs counts (term_of c.args.n.now) (type_of c.args.r.now) c.in-Cat.a.value c.in-Cat.field-1.value (ap term_in c.in-Cat.is) null
+    cat_null funs counts (term_of c.args.n.now) (type_of c.args.r.now) c.in-Cat.a.value c.in-Cat.field-1.value (ap term_in c.in-Cat.is) (no_cat c.args.r.now c.in-Eps-r.is)
 
 pub is_still-returns-in-Eps-r-3 : goal.is_still-returns-in-Eps-r-3
 is_still-returns-in-Eps-r-3 t c =
     let funs = fun_at (core_of c.args.c.now).funs in
     let counts = counts_in (core_of c.args.c.now).funs c.args.funs.now in
-    let P : Ty → Bool = λ x. null_of (cat_first (type_of x)) in
-    let null : null_of (cat_first (type_of c.args.r.now)) ≡ true = in_either c.in-Eps-r.is (λ e. ap P e) (λ w. in_either w (λ e. ap P e) (λ w. in_either w (λ e. ap P e) (λ w. in_either w (λ e. ap P e.2) (λ w. in_either w (λ e. ap P e.2) (λ w. ap P w.1))))) in
-    cat_null funs counts (term_of c.args.n.now) (type_of c.args.r.now) c.in-Cat.a.value c.in-Cat.field-1.value (ap term_in c.in-Cat.is) null
+    cat_null funs counts (term_of c.args.n.now) (type_of c.args.r.now) c.in-Cat.a.value c.in-Cat.field-1.value (ap term_in c.in-Cat.is) (no_cat c.args.r.now c.in-Eps-r.is)
 
 pub is_still-returns-in-Eps-r-4 : goal.is_still-returns-in-Eps-r-4
 is_still-returns-in-Eps-r-4 t c =
     let funs = fun_at (core_of c.args.c.now).funs in
     let counts = counts_in (core_of c.args.c.now).funs c.args.funs.now in
-    let P : Ty → Bool = λ x. null_of (cat_first (type_of x)) in
-    let null : null_of (cat_first (type_of c.args.r.now)) ≡ true = in_either c.in-Eps-r.is (λ e. ap P e) (λ w. in_either w (λ e. ap P e) (λ w. in_either w (λ e. ap P e) (λ w. in_either w (λ e. ap P e.2) (λ w. in_either w (λ e. ap P e.2) (λ w. ap P w.1))))) in
-    cat_null funs counts (term_of c.args.n.now) (type_of c.args.r.now) c.in-Cat.a.value c.in-Cat.field-1.value (ap term_in c.in-Cat.is) null
+    cat_null funs counts (term_of c.args.n.now) (type_of c.args.r.now) c.in-Cat.a.value c.in-Cat.field-1.value (ap term_in c.in-Cat.is) (no_cat c.args.r.now c.in-Eps-r.is)
 
 pub is_still-returns-in-Eps-r-5 : goal.is_still-returns-in-Eps-r-5
 is_still-returns-in-Eps-r-5 t c =
     let funs = fun_at (core_of c.args.c.now).funs in
     let counts = counts_in (core_of c.args.c.now).funs c.args.funs.now in
-    let P : Ty → Bool = λ x. null_of (cat_first (type_of x)) in
-    let null : null_of (cat_first (type_of c.args.r.now)) ≡ true = in_either c.in-Eps-r.is (λ e. ap P e) (λ w. in_either w (λ e. ap P e) (λ w. in_either w (λ e. ap P e) (λ w. in_either w (λ e. ap P e.2) (λ w. in_either w (λ e. ap P e.2) (λ w. ap P w.1))))) in
-    cat_null funs counts (term_of c.args.n.now) (type_of c.args.r.now) c.in-Cat.a.value c.in-Cat.field-1.value (ap term_in c.in-Cat.is) null
+    cat_null funs counts (term_of c.args.n.now) (type_of c.args.r.now) c.in-Cat.a.value c.in-Cat.field-1.value (ap term_in c.in-Cat.is) (no_cat c.args.r.now c.in-Eps-r.is)
 
 pub is_still-returns-in-Eps-r-6 : goal.is_still-returns-in-Eps-r-6
 is_still-returns-in-Eps-r-6 t c =
     let funs = fun_at (core_of c.args.c.now).funs in
     let counts = counts_in (core_of c.args.c.now).funs c.args.funs.now in
-    let P : Ty → Bool = λ x. null_of (cat_first (type_of x)) in
-    let null : null_of (cat_first (type_of c.args.r.now)) ≡ true = in_either c.in-Eps-r.is (λ e. ap P e) (λ w. in_either w (λ e. ap P e) (λ w. in_either w (λ e. ap P e) (λ w. in_either w (λ e. ap P e.2) (λ w. in_either w (λ e. ap P e.2) (λ w. ap P w.1))))) in
-    cat_null funs counts (term_of c.args.n.now) (type_of c.args.r.now) c.in-Cat.a.value c.in-Cat.field-1.value (ap term_in c.in-Cat.is) null
+    cat_null funs counts (term_of c.args.n.now) (type_of c.args.r.now) c.in-Cat.a.value c.in-Cat.field-1.value (ap term_in c.in-Cat.is) (no_cat c.args.r.now c.in-Eps-r.is)
 
 pub is_still-returns-then-is_still-4 : goal.is_still-returns-then-is_still-4
 is_still-returns-then-is_still-4 t c =
@@ -110,71 +98,61 @@ pub is_still-returns-in-Unit : goal.is_still-returns-in-Unit
 is_still-returns-in-Unit t c =
     let funs = fun_at (core_of c.args.c.now).funs in
     let counts = counts_in (core_of c.args.c.now).funs c.args.funs.now in
-    let P : Term → Bool = λ x. is_inert funs counts (term_in x) (type_of c.args.r.now) in
-    let same : P c.args.n.now.term ≡ false = in_either c.in-Unit.is (λ e. ap P e) (λ w. in_either w (λ e. ap P e) (λ w. in_either w (λ e. ap P e.2) (λ w. in_either w (λ e. ap P e.1) (λ w. ap P w.1)))) in sym same
+    moves funs counts (type_of c.args.r.now) c.args.n.now.term c.in-Unit.is
 
 pub is_still-returns-in-Unit-2 : goal.is_still-returns-in-Unit-2
 is_still-returns-in-Unit-2 t c =
     let funs = fun_at (core_of c.args.c.now).funs in
     let counts = counts_in (core_of c.args.c.now).funs c.args.funs.now in
-    let P : Term → Bool = λ x. is_inert funs counts (term_in x) (type_of c.args.r.now) in
-    let same : P c.args.n.now.term ≡ false = in_either c.in-Unit.is (λ e. ap P e) (λ w. in_either w (λ e. ap P e) (λ w. in_either w (λ e. ap P e.2) (λ w. in_either w (λ e. ap P e.1) (λ w. ap P w.1)))) in sym same
+    moves funs counts (type_of c.args.r.now) c.args.n.now.term c.in-Unit.is
 
 pub is_still-returns-in-Unit-3 : goal.is_still-returns-in-Unit-3
 is_still-returns-in-Unit-3 t c =
     let funs = fun_at (core_of c.args.c.now).funs in
     let counts = counts_in (core_of c.args.c.now).funs c.args.funs.now in
-    let P : Term → Bool = λ x. is_inert funs counts (term_in x) (type_of c.args.r.now) in
-    let same : P c.args.n.now.term ≡ false = in_either c.in-Unit.is (λ e. ap P e) (λ w. in_either w (λ e. ap P e) (λ w. in_either w (λ e. ap P e.2) (λ w. in_either w (λ e. ap P e.1) (λ w. ap P w.1)))) in sym same
+    moves funs counts (type_of c.args.r.now) c.args.n.now.term c.in-Unit.is
 
 pub is_still-returns-in-Unit-4 : goal.is_still-returns-in-Unit-4
 is_still-returns-in-Unit-4 t c =
     let funs = fun_at (core_of c.args.c.now).funs in
     let counts = counts_in (core_of c.args.c.now).funs c.args.funs.now in
-    let P : Term → Bool = λ x. is_inert funs counts (term_in x) (type_of c.args.r.now) in
-    let same : P c.args.n.now.term ≡ false = in_either c.in-Unit.is (λ e. ap P e) (λ w. in_either w (λ e. ap P e) (λ w. in_either w (λ e. ap P e.2) (λ w. in_either w (λ e. ap P e.1) (λ w. ap P w.1)))) in sym same
+    moves funs counts (type_of c.args.r.now) c.args.n.now.term c.in-Unit.is
 
 pub is_still-returns-in-Unit-5 : goal.is_still-returns-in-Unit-5
 is_still-returns-in-Unit-5 t c =
     let funs = fun_at (core_of c.args.c.now).funs in
     let counts = counts_in (core_of c.args.c.now).funs c.args.funs.now in
-    let P : Term → Bool = λ x. is_inert funs counts (term_in x) (type_of c.args.r.now) in
-    let same : P c.args.n.now.term ≡ false = in_either c.in-Unit.is (λ e. ap P e) (λ w. in_either w (λ e. ap P e) (λ w. in_either w (λ e. ap P e.2) (λ w. in_either w (λ e. ap P e.1) (λ w. ap P w.1)))) in sym same
+    moves funs counts (type_of c.args.r.now) c.args.n.now.term c.in-Unit.is
 
 pub is_still-returns-in-Var : goal.is_still-returns-in-Var
 is_still-returns-in-Var t c =
     let funs = fun_at (core_of c.args.c.now).funs in
     let counts = counts_in (core_of c.args.c.now).funs c.args.funs.now in
-    let P : Term → Bool = λ x. is_inert funs counts (term_in x) (type_of c.args.r.now) in
-    let same : P c.args.n.now.term ≡ true = in_either c.in-Var.is (λ e. ap P e.1) (λ w. in_either w (λ e. ap P e) (λ w. in_either w (λ e. ap P e.6) (λ w. in_either w (λ e. ap P e.6) (λ w. ap P w.3)))) in sym same
+    rests funs counts (type_of c.args.r.now) c.args.n.now.term c.in-Var.is
 
 pub is_still-returns-in-Var-2 : goal.is_still-returns-in-Var-2
 is_still-returns-in-Var-2 t c =
     let funs = fun_at (core_of c.args.c.now).funs in
     let counts = counts_in (core_of c.args.c.now).funs c.args.funs.now in
-    let P : Term → Bool = λ x. is_inert funs counts (term_in x) (type_of c.args.r.now) in
-    let same : P c.args.n.now.term ≡ true = in_either c.in-Var.is (λ e. ap P e.1) (λ w. in_either w (λ e. ap P e) (λ w. in_either w (λ e. ap P e.6) (λ w. in_either w (λ e. ap P e.6) (λ w. ap P w.3)))) in sym same
+    rests funs counts (type_of c.args.r.now) c.args.n.now.term c.in-Var.is
 
 pub is_still-returns-in-Var-3 : goal.is_still-returns-in-Var-3
 is_still-returns-in-Var-3 t c =
     let funs = fun_at (core_of c.args.c.now).funs in
     let counts = counts_in (core_of c.args.c.now).funs c.args.funs.now in
-    let P : Term → Bool = λ x. is_inert funs counts (term_in x) (type_of c.args.r.now) in
-    let same : P c.args.n.now.term ≡ true = in_either c.in-Var.is (λ e. ap P e.1) (λ w. in_either w (λ e. ap P e) (λ w. in_either w (λ e. ap P e.6) (λ w. in_either w (λ e. ap P e.6) (λ w. ap P w.3)))) in sym same
+    rests funs counts (type_of c.args.r.now) c.args.n.now.term c.in-Var.is
 
 pub is_still-returns-in-Var-4 : goal.is_still-returns-in-Var-4
 is_still-returns-in-Var-4 t c =
     let funs = fun_at (core_of c.args.c.now).funs in
     let counts = counts_in (core_of c.args.c.now).funs c.args.funs.now in
-    let P : Term → Bool = λ x. is_inert funs counts (term_in x) (type_of c.args.r.now) in
-    let same : P c.args.n.now.term ≡ true = in_either c.in-Var.is (λ e. ap P e.1) (λ w. in_either w (λ e. ap P e) (λ w. in_either w (λ e. ap P e.6) (λ w. in_either w (λ e. ap P e.6) (λ w. ap P w.3)))) in sym same
+    rests funs counts (type_of c.args.r.now) c.args.n.now.term c.in-Var.is
 
 pub is_still-returns-in-Var-5 : goal.is_still-returns-in-Var-5
 is_still-returns-in-Var-5 t c =
     let funs = fun_at (core_of c.args.c.now).funs in
     let counts = counts_in (core_of c.args.c.now).funs c.args.funs.now in
-    let P : Term → Bool = λ x. is_inert funs counts (term_in x) (type_of c.args.r.now) in
-    let same : P c.args.n.now.term ≡ true = in_either c.in-Var.is (λ e. ap P e.1) (λ w. in_either w (λ e. ap P e) (λ w. in_either w (λ e. ap P e.6) (λ w. in_either w (λ e. ap P e.6) (λ w. ap P w.3)))) in sym same
+    rests funs counts (type_of c.args.r.now) c.args.n.now.term c.in-Var.is
 
 pub is_still-returns-in-Past : goal.is_still-returns-in-Past
 is_still-returns-in-Past t c =
