@@ -1,9 +1,12 @@
 -- What is answered of the parts of a form, each at its type and in its context, is answered of the nodes below it.
-use Rattle.std.proofs.Common.{◌≡◌, ℕ, arith, ◌+◌, ◌<◌, ◌≤◌, ◌^◌, Bool, List, ◌++◌, ap, sym, subst, ◌∙◌}
-use Rattle.std.specs.Prelude.{Result}
+use Rattle.std.proofs.Common.{◌≡◌, ◌⊎◌, inl, inr, refl, [], ℕ, arith, ◌+◌, ◌<◌, ◌≤◌, ◌^◌, Bool, List, ◌++◌, ap, sym, subst, ◌∙◌}
+use Rattle.std.specs.Prelude.{Result, Ok}
 use Rattle.stream_type.specs.StreamType.{StreamType}
+use Rattle.bunch.specs.declared.name.Name.{Name}
+use Rattle.hist_value.specs.declared.expr.Expr.{Expr}
 use Rattle.core_term.specs.declared.term.Node.{Node}
-use Rattle.core_term.specs.CoreTerm.{CoreTerm, CoreBody, par_term, cat_term, cons_term, inl_term, inr_term, let_term, let_par_term, let_cat_term, case_sum_term, case_star_term, wait_term, term_of, places_of, node_count}
+use Rattle.core_term.specs.declared.term.Term.{Term, Var, Eps, Unit as IsUnit, Nil, Past}
+use Rattle.core_term.specs.CoreTerm.{CoreTerm, CoreBody, par_term, cat_term, cons_term, inl_term, inr_term, let_term, let_par_term, let_cat_term, case_sum_term, case_star_term, wait_term, term_of, term_in, places_of, node_count}
 use Rattle.core_term.specs.Parts.{par_left, par_right, cat_first, cat_second, sum_left, sum_right, star_item, star_items}
 use Rattle.core_term.specs.Typing.{Context, type_at, with_name_like, with_fact, waited, with_let}
 use Rattle.core_term.specs.TypeFaults.{NodeAt, nodes_of}
@@ -22,6 +25,20 @@ two_fit n e whole a b u v is is2 same count h =
     let all = ap node_count same ∙ count in
     subst (λ (x : Node). n + (node_count (term_of x) + node_count (term_of b)) < 2 ^ 32) (sym is)
     (subst (λ (x : Node). n + (node_count (term_of u) + node_count (term_of x)) < 2 ^ 32) (sym is2) (omega (arith, all, h)))
+
+module _ (funs : List CoreBody) (counts : ℕ → Bool) where
+  -- a form without parts
+  pub no_parts : (c : Context) (r : StreamType) (e : Term) → ((x : Name) × (e ≡ Var x)) ⊎ ((e ≡ Eps) ⊎ ((e ≡ IsUnit) ⊎ ((e ≡ Nil) ⊎ ((m : Expr) × (e ≡ Past m)))))
+      → parts_of (nodes_of funs counts c (term_in e) r) ≡ []
+  no_parts c r e (inl h) = ap (λ (x : Term). parts_of (nodes_of funs counts c (term_in x) r)) h.1
+  no_parts c r e (inr (inl h)) = ap (λ (x : Term). parts_of (nodes_of funs counts c (term_in x) r)) h
+  no_parts c r e (inr (inr (inl h))) = ap (λ (x : Term). parts_of (nodes_of funs counts c (term_in x) r)) h
+  no_parts c r e (inr (inr (inr (inl h)))) = ap (λ (x : Term). parts_of (nodes_of funs counts c (term_in x) r)) h
+  no_parts c r e (inr (inr (inr (inr h)))) = ap (λ (x : Term). parts_of (nodes_of funs counts c (term_in x) r)) h.1
+
+  -- nothing is found where there is no node
+  pub none_found : (n : ℕ) (js : List NodeAt) (ps : List ℕ) → js ≡ [] → Finds funs counts n js ps (Ok n)
+  none_found n js ps e = subst (λ (l : List NodeAt). Finds funs counts n l ps (Ok n)) (sym e) (refl, omega arith)
 
 module _ (funs : List CoreBody) (counts : ℕ → Bool) (n : ℕ) (q : Result ℕ TypeFault) where
   -- what is answered of nodes at places
@@ -119,4 +136,3 @@ module _ (funs : List CoreBody) (counts : ℕ → Bool) (n : ℕ) (q : Result �
       (subst (λ (i : StreamType). At (nodes_of funs counts c (term_of a) r ++ nodes_of funs counts (with_fact y ys (with_name_like ys (star_items i) z (with_name_like y (star_item i) z c))) (term_of b) r) (places_of a ++ places_of b)) typed
       (subst (λ (i : StreamType). At (nodes_of funs counts c (term_of a) r ++ nodes_of funs counts (with_fact y ys (with_name_like ys i z (with_name_like y (star_item w) z c))) (term_of b) r) (places_of a ++ places_of b)) second
       (subst (λ (i : StreamType). At (nodes_of funs counts c (term_of a) r ++ nodes_of funs counts (with_fact y ys (with_name_like ys t z (with_name_like y i z c))) (term_of b) r) (places_of a ++ places_of b)) first h)))
-

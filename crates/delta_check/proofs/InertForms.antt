@@ -53,7 +53,7 @@ module _ (funs : ℕ → CoreBody) (counts : ℕ → Bool) where
   -- and of these are
   pub rests : (r : StreamType) (e : Term)
       → ((x : Name) × (e ≡ Var x)) ⊎ ((e ≡ IsEps) ⊎ (((z : Name) × (t : Ty) × (x : Name) × (a : Box Node Global) × (y : Name) × (b : Box Node Global) × (e ≡ CaseSum z t x a y b))
-          ⊎ (((z : Name) × (t : Ty) × (a : Box Node Global) × (y : Name) × (ys : Name) × (b : Box Node Global) × (e ≡ CaseStar z t a y ys b)) ⊎ ((x : Name) × (t : Ty) × (a : Box Node Global) × (e ≡ Wait x t a)))))
+      ⊎ (((z : Name) × (t : Ty) × (a : Box Node Global) × (y : Name) × (ys : Name) × (b : Box Node Global) × (e ≡ CaseStar z t a y ys b)) ⊎ ((x : Name) × (t : Ty) × (a : Box Node Global) × (e ≡ Wait x t a)))))
       → true ≡ is_inert funs counts (term_in e) r
   rests r e (inl h) = sym (ap (λ (x : Term). is_inert funs counts (term_in x) r) h.1)
   rests r e (inr (inl h)) = sym (ap (λ (x : Term). is_inert funs counts (term_in x) r) h)

@@ -10,13 +10,13 @@ use Rattle.core_term.specs.CoreTerm.{core_of, call_term, par_term, cat_term, con
 use Rattle.core_term.specs.TypeFaults.{nodes_of}
 use Rattle.core_term.specs.Typing.{Context, with_name, with_let}
 use Rattle.core_term.proofs.Rows.{term_in-call, places_in-call}
-use Rattle.delta_check.specs.Checking.{Finds}
+use Rattle.delta_check.specs.Checking.{Finds, parts_of}
 use Rattle.delta_check.specs.Counting.{counts_in}
 use Rattle.delta_check.specs.Scopes.{context_in, place_known}
 use Rattle.delta_check.proofs.Joined.{own_first, own_then, finds_first, finds_then, second_fits, call_found, node_count-one}
 use Rattle.delta_check.proofs.Firsts.{length-nodes}
 use Rattle.delta_check.proofs.NodePlaces.{length-places}
-use Rattle.delta_check.proofs.FormParts.{one_fits, two_fit, par_found, cat_found, cons_found, inl_found, inr_found, let_found, let_par_found, let_cat_found, case_sum_found, case_star_found, wait_found}
+use Rattle.delta_check.proofs.FormParts.{no_parts, none_found, one_fits, two_fit, par_found, cat_found, cons_found, inl_found, inr_found, let_found, let_par_found, let_cat_found, case_sum_found, case_star_found, wait_found}
 use Rattle.delta_check.proofs.Turns.{arguments-init, arguments-first, arguments-then, arguments-end}
 use Rattle.delta_check.proofs.checking.+check.Goals as goal
 
@@ -327,3 +327,11 @@ check_arguments-type_of_param-t-requires t c =
 pub check_arguments-bounds-arguments-i : goal.check_arguments-bounds-arguments-i
 check_arguments-bounds-arguments-i t c =
     c.loop-i-test.true
+
+pub check_parts-returns-in-Var : goal.check_parts-returns-in-Var
+check_parts-returns-in-Var t c =
+    let funs = (core_of c.args.c.now).funs in
+    let counts = counts_in funs c.args.marks.now in
+    let context = context_in c.args.scope.now in
+    none_found funs counts c.args.number (parts_of (nodes_of funs counts context (term_in c.args.term.now) (type_of c.args.r.now))) (places_in c.args.term.now)
+    (no_parts funs counts context (type_of c.args.r.now) c.args.term.now c.in-Var.is)
