@@ -1,15 +1,42 @@
 -- What tells of a form whether it is inert, and of arguments, where those so far are.
 use Rattle.std.proofs.Common.{◌≡◌, ◌⊎◌, inl, inr, Box, Global, ℕ, zero, suc, arith, ◌+◌, ◌<◌, ◌≤◌, Bool, true, false, ◌&&◌, List, [], ◌∷◌, length, map, drop, get_or, refl, ap, ap₂, sym, ◌∙◌}
-use Rattle.std.specs.Prelude.{slice_index_or, not}
+use Rattle.std.specs.Prelude.{Some, slice_get, slice_index_or, not}
 use Rattle.std.proofs.lemmas.List.{at_drop_more, at_drop_all}
-use Rattle.stream_type.specs.declared.ty.Ty.{Ty, Eps, One, Int, Par, Sum, Star}
-use Rattle.stream_type.specs.StreamType.{StreamType, eps, par, cat, null_of, type_of}
+use Rattle.stream_type.specs.declared.ty.Ty.{Ty, Eps, One, Int, Par, Cat, Sum, Star}
+use Rattle.stream_type.specs.StreamType.{StreamType, eps, null_of, type_of}
 use Rattle.core_term.specs.declared.term.Node.{Node}
 use Rattle.bunch.specs.declared.name.Name.{Name}
-use Rattle.core_term.specs.declared.term.Term.{Term, Var, Eps as IsEps, Unit as IsUnit, Nil, Cons, Inl, Inr, CaseSum, CaseStar, Wait}
+use Rattle.core_term.specs.declared.term.Term.{Term, Var, Eps as IsEps, Unit as IsUnit, Nil, Cons, Inl, Inr, CaseSum, CaseStar, Wait, LetPar, LetCat}
 use Rattle.core_term.specs.CoreTerm.{CoreTerm, CoreTerms, CoreBody, par_term, cat_term, let_term, term_before, term_of, term_in, terms_from}
 use Rattle.core_term.specs.Parts.{par_left, par_right, cat_first}
 use Rattle.core_term.specs.Inert.{is_inert, are_inert}
+
+-- a type that isn't of two streams at once
+pub no_par : (r : Ty) → (r ≡ Eps) ⊎ ((r ≡ One) ⊎ ((r ≡ Int) ⊎ (((x : Box Ty Global) × (y : Box Ty Global) × (r ≡ Cat x y)) ⊎ (((x : Box Ty Global) × (y : Box Ty Global) × (r ≡ Sum x y)) ⊎ ((x : Box Ty Global) × (r ≡ Star x))))))
+    → (par_left (type_of r) ≡ eps) × (par_right (type_of r) ≡ eps)
+no_par r h = (go par_left refl refl refl (λ x y. refl) (λ x y. refl) (λ x. refl) h, go par_right refl refl refl (λ x y. refl) (λ x y. refl) (λ x. refl) h)
+  where
+    go : (f : StreamType → StreamType) → f (type_of Eps) ≡ eps → f (type_of One) ≡ eps → f (type_of Int) ≡ eps → ((x y : Box Ty Global) → f (type_of (Cat x y)) ≡ eps) → ((x y : Box Ty Global) → f (type_of (Sum x y)) ≡ eps) → ((x : Box Ty Global) → f (type_of (Star x)) ≡ eps)
+        → (r ≡ Eps) ⊎ ((r ≡ One) ⊎ ((r ≡ Int) ⊎ (((x : Box Ty Global) × (y : Box Ty Global) × (r ≡ Cat x y)) ⊎ (((x : Box Ty Global) × (y : Box Ty Global) × (r ≡ Sum x y)) ⊎ ((x : Box Ty Global) × (r ≡ Star x))))))
+        → f (type_of r) ≡ eps
+    go f a b d k l m (inl e) = ap (λ (x : Ty). f (type_of x)) e ∙ a
+    go f a b d k l m (inr (inl e)) = ap (λ (x : Ty). f (type_of x)) e ∙ b
+    go f a b d k l m (inr (inr (inl e))) = ap (λ (x : Ty). f (type_of x)) e ∙ d
+    go f a b d k l m (inr (inr (inr (inl e)))) = ap (λ (x : Ty). f (type_of x)) e.2 ∙ k e.0 e.1
+    go f a b d k l m (inr (inr (inr (inr (inl e))))) = ap (λ (x : Ty). f (type_of x)) e.2 ∙ l e.0 e.1
+    go f a b d k l m (inr (inr (inr (inr (inr e))))) = ap (λ (x : Ty). f (type_of x)) e.1 ∙ m e.0
+
+-- the type at a place, and past the last one
+pub at_there : (ts : List StreamType) (i : ℕ) (s : StreamType) → slice_get ts i ≡ Some s → slice_index_or ts i eps ≡ s
+at_there [] i s h = absurd (cc h)
+at_there (t ∷ ts) zero s h = cc h
+at_there (t ∷ ts) (suc i) s h = at_there ts i s h
+
+pub at_past : (ts : List StreamType) (i j : ℕ) → j + length ts ≡ i → slice_index_or ts i eps ≡ eps
+at_past [] zero j h = refl
+at_past [] (suc i) j h = refl
+at_past (t ∷ ts) zero j h = absurd (omega arith)
+at_past (t ∷ ts) (suc i) j h = at_past ts i j (omega arith)
 
 -- the first test is passed, so the second decides
 second_decides : (x y k q : Bool) → k ≡ x → k ≡ true → q ≡ y → q ≡ (x && y)
@@ -88,6 +115,12 @@ module _ (funs : ℕ → CoreBody) (counts : ℕ → Bool) where
   -- or stands at a null type
   pub cat_null : (e : CoreTerm) (r : StreamType) (u v : Node) → e ≡ cat_term (term_of u) (term_of v) → null_of (cat_first r) ≡ true → false ≡ is_inert funs counts e r
   cat_null e r u v same h = never (is_inert funs counts (term_of u) (cat_first r)) (null_of (cat_first r)) h ∙ sym (ap (λ i. is_inert funs counts i r) same)
+
+  -- a form that takes both parts of a stream
+  pub parts_still : (r : StreamType) (e : Term) (a : Box Node Global) → ((x : Name) × (y : Name) × (z : Name) × (e ≡ LetPar x y z a)) ⊎ ((x : Name) × (y : Name) × (z : Name) × (e ≡ LetCat x y z a))
+      → is_inert funs counts (term_in e) r ≡ is_inert funs counts (term_of a.value) r
+  parts_still r e a (inl h) = ap (λ (x : Term). is_inert funs counts (term_in x) r) h.3
+  parts_still r e a (inr h) = ap (λ (x : Term). is_inert funs counts (term_in x) r) h.3
 
   -- a let, whose first term is inert
   pub let_still : (e : CoreTerm) (x : ℕ) (s r : StreamType) (a b u v : Node) (k q : Bool) → e ≡ let_term x s (term_of u) (term_of v) → a ≡ u → b ≡ v

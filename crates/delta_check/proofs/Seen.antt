@@ -54,3 +54,9 @@ kept_before o p k d e f = ap (λ z. before_by z d) (sym e ∙ f)
 -- nothing is
 pub none_after : (o p : Option Known) (d q : Bool) → o ≡ None → o ≡ p → q ≡ d → q ≡ after_by p d
 none_after o p d q e f h = h ∙ ap (λ z. after_by z d) (sym e ∙ f)
+
+pub none_before : (o p : Option Known) (still d q : Bool) → o ≡ None → o ≡ p → still ≡ true → q ≡ d → q ≡ before_by p (still && d)
+none_before o p still d q e f k h = h ∙ sym (ap (λ b. b && d) k) ∙ ap (λ z. before_by z (still && d)) (sym e ∙ f)
+
+pub never_before : (o p : Option Known) (still d : Bool) → o ≡ None → o ≡ p → still ≡ false → still ≡ before_by p (still && d)
+never_before o p still d e f k = k ∙ sym (ap (λ b. b && d) k) ∙ ap (λ z. before_by z (still && d)) (sym e ∙ f)

@@ -1,17 +1,18 @@
 -- What stands for a call is a call of what stands for its arguments. A sequence is inert where its first part is,
 -- at a type that isn't null.
 use Rattle.std.proofs.Common.{◌≡◌, ◌∙◌, map, refl, ap, sym, rules}
-use Rattle.stream_type.specs.declared.ty.Ty.{Ty}
+use Rattle.stream_type.specs.declared.ty.Ty.{Ty, Eps}
 use Rattle.stream_type.specs.StreamType.{type_of}
 use Rattle.bunch.specs.BunchTree.{tree_of}
 use Rattle.hist_value.specs.HistExpr.{expr_of}
+use Rattle.core_term.specs.declared.term.Node.{Node}
 use Rattle.core_term.specs.declared.term.Term.{Term}
 use Rattle.core_term.specs.CoreTerm.{call_term, term_of, term_in, terms_from, core_of, fun_at, leaf_types}
 use Rattle.core_term.specs.Parts.{par_left, par_right, cat_first}
 use Rattle.core_term.specs.Inert.{is_inert, are_inert}
 use Rattle.core_term.proofs.Rows.{term_in-call, rows}
 use Rattle.delta_check.specs.Counting.{counts_in}
-use Rattle.delta_check.proofs.InertForms.{no_cat, moves, rests, par_still, par_moves, cat_moves, cat_null, let_still, let_moves, are_still-then, are_still-not, are_still-end}
+use Rattle.delta_check.proofs.InertForms.{no_cat, no_par, at_there, at_past, parts_still, moves, rests, par_still, par_moves, cat_moves, cat_null, let_still, let_moves, are_still-then, are_still-not, are_still-end}
 use Rattle.delta_check.proofs.inertness.+inert.Goals as goal
 
 pub is_still-returns-in-Call : goal.is_still-returns-in-Call
@@ -187,3 +188,37 @@ are_still-returns t c =
     let ts = leaf_types (tree_of c.args.params.now) in
     let whole = are_inert funs counts (terms_from (map term_of c.args.arguments.now)) ts in
     are_still-end funs counts c.args.arguments.now ts c.loop-i.i whole c.loop-i-test.false c.loop-i.invariant
+
+pub is_still-returns-then-is_still-2 : goal.is_still-returns-then-is_still-2
+is_still-returns-then-is_still-2 t c =
+    let funs = fun_at (core_of c.args.c.now).funs in
+    let counts = counts_in (core_of c.args.c.now).funs c.args.funs.now in
+    let other = no_par c.args.r.now c.in-Eps.is in
+    par_still funs counts (term_of c.args.n.now) (type_of c.args.r.now) c.deref-in-Eps.result.now c.deref-then-is_still-2-2.result.now c.in-Par.a.value c.in-Par.b.value Eps Eps Eps Eps c.is_still-in-Eps.result c.is_still-then-is_still-2.result
+    (ap term_in c.in-Par.is) other.0 other.1 c.deref-in-Eps.ensures c.deref-then-is_still-2-2.ensures refl refl c.is_still-in-Eps.ensures c.if-is_still-2.true c.is_still-then-is_still-2.ensures
+
+pub is_still-returns-else-is_still-2 : goal.is_still-returns-else-is_still-2
+is_still-returns-else-is_still-2 t c =
+    let funs = fun_at (core_of c.args.c.now).funs in
+    let counts = counts_in (core_of c.args.c.now).funs c.args.funs.now in
+    let other = no_par c.args.r.now c.in-Eps.is in
+    par_moves funs counts (term_of c.args.n.now) (type_of c.args.r.now) c.deref-in-Eps.result.now c.in-Par.a.value c.in-Par.b.value Eps Eps c.is_still-in-Eps.result
+    (ap term_in c.in-Par.is) other.0 c.deref-in-Eps.ensures refl c.is_still-in-Eps.ensures c.if-is_still-2.false
+
+pub is_still-returns-in-LetPar : goal.is_still-returns-in-LetPar
+is_still-returns-in-LetPar t c =
+    let funs = fun_at (core_of c.args.c.now).funs in
+    let counts = counts_in (core_of c.args.c.now).funs c.args.funs.now in
+    c.is_still-in-LetPar.ensures ∙ ap (λ (i : Node). is_inert funs counts (term_of i) (type_of c.args.r.now)) c.deref-in-LetPar.ensures ∙ sym (parts_still funs counts (type_of c.args.r.now) c.args.n.now.term c.in-LetPar.a c.in-LetPar.is)
+
+pub is_still_at-returns-in-Ok : goal.is_still_at-returns-in-Ok
+is_still_at-returns-in-Ok t c =
+    let funs = fun_at (core_of c.args.c.now).funs in
+    let counts = counts_in (core_of c.args.c.now).funs c.args.funs.now in
+    c.is_still.ensures ∙ ap (is_inert funs counts (term_of c.args.argument.now)) (sym (at_there (leaf_types (tree_of c.args.params.now)) c.args.i (type_of c.in-Ok.t.now) c.in-Ok.ensures.there))
+
+pub is_still_at-returns-in-Err : goal.is_still_at-returns-in-Err
+is_still_at-returns-in-Err t c =
+    let funs = fun_at (core_of c.args.c.now).funs in
+    let counts = counts_in (core_of c.args.c.now).funs c.args.funs.now in
+    c.is_still-in-Err.ensures ∙ ap (is_inert funs counts (term_of c.args.argument.now)) (sym (at_past (leaf_types (tree_of c.args.params.now)) c.args.i c.in-Err.field-0 c.in-Err.ensures.past))

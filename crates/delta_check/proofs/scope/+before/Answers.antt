@@ -6,7 +6,7 @@ use Rattle.bunch.specs.Names.{numbers_of}
 use Rattle.bunch.specs.Facts.{before_let, after_let}
 use Rattle.delta_check.specs.declared.scope.Scope.{Scope}
 use Rattle.delta_check.specs.Scopes.{context_in, known_at}
-use Rattle.delta_check.proofs.Seen.{all_more, all_not, all_end, kept_after, kept_before, none_after}
+use Rattle.delta_check.proofs.Seen.{all_more, all_not, all_end, kept_after, kept_before, none_after, none_before, never_before}
 use Rattle.delta_check.proofs.scope.+before.Goals as goal
 
 pub all_before-loop-name-init : goal.all_before-loop-name-init
@@ -72,3 +72,11 @@ is_before-returns-in-Some t c =
 pub is_after-returns-in-None : goal.is_after-returns-in-None
 is_after-returns-in-None t c =
     none_after c.known_at.result (known_at c.args.placed.now.known.items c.args.y.0) (after_let (numbers_of c.args.placed.now.free.items) (context_in c.args.scope.now).order c.args.y.0) c.all_before.result c.in-None.is (c.known_at.ensures ∙ ap (λ l. known_at l c.args.y.0) c.deref.ensures.value) (c.all_before.ensures ∙ ap (λ l. after_let (numbers_of l) (context_in c.args.scope.now).order c.args.y.0) c.deref-in-None.ensures.value)
+
+pub is_before-returns-then-placed : goal.is_before-returns-then-placed
+is_before-returns-then-placed t c =
+    none_before c.known_at.result (known_at c.args.placed.now.known.items c.args.y.0) c.args.placed.now.inert (list_all (λ z. (context_in c.args.scope.now).order c.args.y.0 z) (numbers_of c.args.placed.now.free.items)) c.before_all.result c.in-None.is (c.known_at.ensures ∙ ap (λ l. known_at l c.args.y.0) c.deref.ensures.value) c.if-placed.true
+    (c.before_all.ensures ∙ ap (λ l. list_all (λ z. (context_in c.args.scope.now).order c.args.y.0 z) (numbers_of l)) c.deref-then-placed.ensures.value)
+
+pub is_before-returns-else-placed : goal.is_before-returns-else-placed
+is_before-returns-else-placed t c = never_before c.known_at.result (known_at c.args.placed.now.known.items c.args.y.0) c.args.placed.now.inert (list_all (λ z. (context_in c.args.scope.now).order c.args.y.0 z) (numbers_of c.args.placed.now.free.items)) c.in-None.is (c.known_at.ensures ∙ ap (λ l. known_at l c.args.y.0) c.deref.ensures.value) c.if-placed.false
