@@ -12,6 +12,23 @@ use Rattle.core_term.specs.Typing.{Context, type_at, with_name_like, with_fact, 
 use Rattle.core_term.specs.TypeFaults.{NodeAt, nodes_of}
 use Rattle.delta_check.specs.Checking.{Finds, parts_of}
 use Rattle.delta_check.specs.declared.fault.TypeFault.{TypeFault}
+use Rattle.delta_check.proofs.Joined.{node_count-one}
+
+-- a node fits where its term does
+pub own_fits : (n : ℕ) (e : CoreTerm) → n + node_count e < 2 ^ 32 → n + 1 < 2 ^ 32
+own_fits n e h = let one = node_count-one e in omega arith
+
+-- the first of two fits where both do
+pub first_fits : (n i j : ℕ) → n + (i + j) < 2 ^ 32 → n + i < 2 ^ 32
+first_fits n i j h = omega arith
+
+-- and one more than both
+pub both_fit : (n i j : ℕ) → n + (i + j) < 2 ^ 32 → n + (1 + (i + j)) ≤ 2 ^ 32
+both_fit n i j h = omega arith
+
+-- all but one fit
+pub rest_fits : (n i j : ℕ) → i ≡ 1 + j → n + i ≤ 2 ^ 32 → n + j < 2 ^ 32
+rest_fits n i j e h = omega arith
 
 -- the parts of a form fit where the form does
 pub one_fits : (n : ℕ) (e whole : CoreTerm) (a u : Node) → a ≡ u → e ≡ whole → node_count whole ≡ 1 + node_count (term_of u) → n + node_count e ≤ 2 ^ 32 → n + node_count (term_of a) < 2 ^ 32

@@ -1,5 +1,5 @@
 -- The parts of a term, one after the other.
-use Rattle.std.proofs.Common.{◌≡◌, ◌+◌, ◌<◌, ◌++◌, map, ap, sym, refl, subst, ◌∙◌, arith, rules}
+use Rattle.std.proofs.Common.{◌≡◌, ◌+◌, ◌<◌, ◌++◌, map, ap, sym, refl, subst, ◌∙◌, rules}
 use Rattle.std.specs.List.{concat}
 use Rattle.std.proofs.lemmas.Result.{err_from_is_err_and}
 use Rattle.stream_type.specs.StreamType.{type_of}
@@ -13,15 +13,15 @@ use Rattle.core_term.proofs.Rows.{term_in-call, places_in-call}
 use Rattle.delta_check.specs.Checking.{Finds, parts_of}
 use Rattle.delta_check.specs.Counting.{counts_in}
 use Rattle.delta_check.specs.Scopes.{context_in, place_known}
-use Rattle.delta_check.proofs.Joined.{own_first, own_then, finds_first, finds_then, second_fits, call_found, node_count-one}
+use Rattle.delta_check.proofs.Joined.{own_first, own_then, finds_first, finds_then, second_fits, call_found}
 use Rattle.delta_check.proofs.Firsts.{length-nodes}
 use Rattle.delta_check.proofs.NodePlaces.{length-places}
-use Rattle.delta_check.proofs.FormParts.{no_parts, none_found, one_fits, two_fit, par_found, cat_found, cons_found, inl_found, inr_found, let_found, let_par_found, let_cat_found, case_sum_found, case_star_found, wait_found}
+use Rattle.delta_check.proofs.FormParts.{own_fits, first_fits, both_fit, rest_fits, no_parts, none_found, one_fits, two_fit, par_found, cat_found, cons_found, inl_found, inr_found, let_found, let_par_found, let_cat_found, case_sum_found, case_star_found, wait_found}
 use Rattle.delta_check.proofs.Turns.{arguments-init, arguments-first, arguments-then, arguments-end}
 use Rattle.delta_check.proofs.checking.+check.Goals as goal
 
 pub check_node-check_own-requires : goal.check_node-check_own-requires
-check_node-check_own-requires t c = let one = node_count-one (term_of c.args.n.now) in omega (arith, one)
+check_node-check_own-requires t c = own_fits c.args.number (term_of c.args.n.now) c.requires
 
 pub check_node-returns-in_err-next : goal.check_node-returns-in_err-next
 check_node-returns-in_err-next t c =
@@ -80,7 +80,7 @@ check_two-check_node-requires-2 t c =
     let left = node_count (term_of c.args.b.now) in
     let fits : c.in_ok-next.next + left < 4294967296 =
     second_fits funs counts c.args.number c.in_ok-next.next left (1 + (node_count (term_of c.args.a.now) + left)) (context_in c.args.first.now) (term_of c.args.a.now) (type_of c.args.s.now) (places_of c.args.a.now)
-    c.in_ok-next.ensures (omega (arith, c.requires)) refl in
+    c.in_ok-next.ensures (both_fit c.args.number (node_count (term_of c.args.a.now)) left c.requires) refl in
     (search rules, fits)
 
 pub check_two-returns : goal.check_two-returns
@@ -108,7 +108,8 @@ check_parts-check_arguments-requires t c =
     let whole = ap term_in c.in-Call.is ∙ term_in-call c.in-Call.f c.in-Call.field-1 es in
     let count : node_count (term_in c.args.term.now) ≡ 1 + node_counts (terms_from (map term_of c.deref-in-Call.result.now)) =
     ap node_count whole ∙ ap (λ l. 1 + node_counts (terms_from (map term_of l))) (sym c.deref-in-Call.ensures.value) in
-    let fits : c.args.number + node_counts (terms_from (map term_of c.deref-in-Call.result.now)) < 4294967296 = omega (arith, count, c.requires) in
+    let fits : c.args.number + node_counts (terms_from (map term_of c.deref-in-Call.result.now)) < 4294967296 =
+    rest_fits c.args.number (node_count (term_in c.args.term.now)) (node_counts (terms_from (map term_of c.deref-in-Call.result.now))) count c.requires in
     (search (rules, the_lemmas), fits)
 
 pub check_parts-returns-in-Call : goal.check_parts-returns-in-Call
@@ -311,7 +312,7 @@ check_let-check_two-requires t c =
 
 pub check_two-check_node-requires : goal.check_two-check_node-requires
 check_two-check_node-requires t c =
-    (search rules, omega arith)
+    (search rules, first_fits c.args.number (node_count (term_of c.args.a.now)) (node_count (term_of c.args.b.now)) c.requires)
 
 pub check_arguments-loop-i-init : goal.check_arguments-loop-i-init
 check_arguments-loop-i-init t c =
