@@ -39,12 +39,12 @@ at_past (t ∷ ts) zero j h = absurd (omega arith)
 at_past (t ∷ ts) (suc i) j h = at_past ts i j (omega arith)
 
 -- the first test is passed, so the second decides
-second_decides : (x y k q : Bool) → k ≡ x → k ≡ true → q ≡ y → q ≡ (x && y)
+pub second_decides : (x y k q : Bool) → k ≡ x → k ≡ true → q ≡ y → q ≡ (x && y)
 second_decides true y k q e f g = g
 second_decides false y k q e f g = absurd (cc (sym e ∙ f))
 
 -- the first test isn't passed
-first_decides : (x y k : Bool) → k ≡ x → k ≡ false → k ≡ (x && y)
+pub first_decides : (x y k : Bool) → k ≡ x → k ≡ false → k ≡ (x && y)
 first_decides true y k e f = absurd (cc (sym e ∙ f))
 first_decides false y k e f = e
 

@@ -7,6 +7,7 @@ pub mod Arguments
 pub mod RuleForms
 pub mod FormParts
 pub mod InertForms
+pub mod Marked
 pub mod Firsts
 pub mod Counts
 pub mod Joined
