@@ -1,4 +1,4 @@
--- What a call, a wait, a case on a star and a body are, by the form of their tree.
+-- What each form of an expression and of a head is, and what each part of the evaluator asks: less weight and room for calls.
 use Rattle.std.proofs.Common.{◌≡◌, ◌+◌, ◌-◌, ◌<◌, List, map, IfOk, IfErr, refl, sym, ap, ap₂, ◌∙◌, subst, arith, rules}
 use Rattle.std.proofs.lemmas.Result.{IfOk-weaker, MatchResult-weaker, err_from_is_err_and}
 use Rattle.stream_type.specs.StreamType.{type_of}
@@ -8,13 +8,13 @@ use Rattle.delta_tree.specs.declared.expressions.Hist.{Hist}
 use Rattle.delta_tree.specs.SyntaxTree.{wait_at, call_at, call_head}
 use Rattle.delta_tree.specs.Tree.{expression_of, expressions_of, expression_form_of, head_of, head_form_of, hist_of}
 use Rattle.delta_tree.proofs.Rows.{expression_form_of-call, head_form_of-call}
-use Rattle.core_term.specs.Run.{Run, let_run}
+use Rattle.core_term.specs.Run.{Run, Runs, let_run}
 use Rattle.core_term.specs.Params.{names_in, types_listed}
 use Rattle.delta_meaning.specs.CallRuns.{StopsAmong}
 use Rattle.delta_meaning.specs.SourceMeaning.{is_name_head}
 use Rattle.delta_meaning.specs.Evaluated.{run_of}
 use Rattle.delta_meaning.specs.Functions.{run_at, head_run_at, head_type_at, run_after}
-use Rattle.delta_meaning.specs.Weights.{weight, weight_of_head, weight_of_all}
+use Rattle.delta_meaning.specs.Weights.{weight, weight_after, weight_of_head, weight_of_all}
 use Rattle.stream_type.specs.declared.ty.Ty.{Ty}
 use Rattle.stream_type.specs.StreamType.{eps}
 use Rattle.stream_prefix.specs.StreamPrefix.{eps_emp}
@@ -504,3 +504,307 @@ evaluate_body-returns-in_err-run-clause-spent t c =
     let less : c.args.left - 1 < (source_body_run fs call (fs c.args.f.0) vs ps).calls = subst (λ (z : Run). c.args.left - 1 < z.calls) same (c.in_err-run.ensures.spent b q m) in
     let calls : (source_call_at fs i.depth c.args.f.0 vs ps).calls ≡ 1 + (source_body_run fs call (fs c.args.f.0) vs ps).calls = ap (λ (z : Run). z.calls) (call_with_depth fs i.depth c.args.f.0 vs ps (omega arith)) in
     omega arith)
+
+pub evaluate-evaluate_both-requires : goal.evaluate-evaluate_both-requires
+evaluate-evaluate_both-requires t c =
+    let there : c.args.e.now.form.value ≡ c.deref.result.now = sym c.deref.ensures in
+    let heavier = ap weight (ap (expression_form_of c.args.e.now.at) (there ∙ c.in-Par.is)) in
+    (omega (arith, heavier), (c.requires.room, c.requires.answers))
+
+pub evaluate-evaluate_in_turn-requires : goal.evaluate-evaluate_in_turn-requires
+evaluate-evaluate_in_turn-requires t c =
+    let there : c.args.e.now.form.value ≡ c.deref.result.now = sym c.deref.ensures in
+    let heavier = ap weight (ap (expression_form_of c.args.e.now.at) (there ∙ c.in-Cat.is)) in
+    (omega (arith, heavier), (c.requires.room, c.requires.answers))
+
+pub evaluate-evaluate_star-requires : goal.evaluate-evaluate_star-requires
+evaluate-evaluate_star-requires t c =
+    let there : c.args.e.now.form.value ≡ c.deref.result.now = sym c.deref.ensures in
+    let heavier = ap weight (ap (expression_form_of c.args.e.now.at) (there ∙ c.in-Cons.is)) in
+    (omega (arith, heavier), (c.requires.room, c.requires.answers))
+
+pub evaluate-evaluate_left-requires : goal.evaluate-evaluate_left-requires
+evaluate-evaluate_left-requires t c =
+    let there : c.args.e.now.form.value ≡ c.deref.result.now = sym c.deref.ensures in
+    let heavier = ap weight (ap (expression_form_of c.args.e.now.at) (there ∙ c.in-Inl.is)) in
+    (omega (arith, heavier), (c.requires.room, c.requires.answers))
+
+pub evaluate-evaluate_right-requires : goal.evaluate-evaluate_right-requires
+evaluate-evaluate_right-requires t c =
+    let there : c.args.e.now.form.value ≡ c.deref.result.now = sym c.deref.ensures in
+    let heavier = ap weight (ap (expression_form_of c.args.e.now.at) (there ∙ c.in-Inr.is)) in
+    (omega (arith, heavier), (c.requires.room, c.requires.answers))
+
+pub evaluate-evaluate_typed-requires : goal.evaluate-evaluate_typed-requires
+evaluate-evaluate_typed-requires t c =
+    let there : c.args.e.now.form.value ≡ c.deref.result.now = sym c.deref.ensures in
+    let heavier = ap weight (ap (expression_form_of c.args.e.now.at) (there ∙ c.in-Asc.is)) in
+    (omega (arith, heavier), (c.requires.room, c.requires.answers))
+
+pub evaluate-evaluate_wait-requires : goal.evaluate-evaluate_wait-requires
+evaluate-evaluate_wait-requires t c =
+    let there : c.args.e.now.form.value ≡ c.deref.result.now = sym c.deref.ensures in
+    let heavier = ap weight (ap (expression_form_of c.args.e.now.at) (there ∙ c.in-Wait.is)) in
+    (omega (arith, heavier), (c.requires.room, c.requires.answers))
+
+pub evaluate-evaluate_if-requires : goal.evaluate-evaluate_if-requires
+evaluate-evaluate_if-requires t c =
+    let there : c.args.e.now.form.value ≡ c.deref.result.now = sym c.deref.ensures in
+    let heavier = ap weight (ap (expression_form_of c.args.e.now.at) (there ∙ c.in-If.is)) in
+    (omega (arith, heavier), (c.requires.room, c.requires.answers))
+
+pub evaluate-evaluate_with_head-requires : goal.evaluate-evaluate_with_head-requires
+evaluate-evaluate_with_head-requires t c =
+    let there : c.args.e.now.form.value ≡ c.deref.result.now = sym c.deref.ensures in
+    let is = ap (expression_form_of c.args.e.now.at) (there ∙ c.in-Let.is) in
+    let heavier = ap weight is in
+    let after = ap weight_after is in
+    (omega (arith, heavier, after), (c.requires.room, c.requires.answers))
+
+pub evaluate-evaluate_with_head-requires-in-LetPar : goal.evaluate-evaluate_with_head-requires-in-LetPar
+evaluate-evaluate_with_head-requires-in-LetPar t c =
+    let there : c.args.e.now.form.value ≡ c.deref.result.now = sym c.deref.ensures in
+    let is = ap (expression_form_of c.args.e.now.at) (there ∙ c.in-LetPar.is) in
+    let heavier = ap weight is in
+    let after = ap weight_after is in
+    (omega (arith, heavier, after), (c.requires.room, c.requires.answers))
+
+pub evaluate-evaluate_with_head-requires-in-LetCat : goal.evaluate-evaluate_with_head-requires-in-LetCat
+evaluate-evaluate_with_head-requires-in-LetCat t c =
+    let there : c.args.e.now.form.value ≡ c.deref.result.now = sym c.deref.ensures in
+    let is = ap (expression_form_of c.args.e.now.at) (there ∙ c.in-LetCat.is) in
+    let heavier = ap weight is in
+    let after = ap weight_after is in
+    (omega (arith, heavier, after), (c.requires.room, c.requires.answers))
+
+pub evaluate-evaluate_with_head-requires-in-CaseSum : goal.evaluate-evaluate_with_head-requires-in-CaseSum
+evaluate-evaluate_with_head-requires-in-CaseSum t c =
+    let there : c.args.e.now.form.value ≡ c.deref.result.now = sym c.deref.ensures in
+    let is = ap (expression_form_of c.args.e.now.at) (there ∙ c.in-CaseSum.is) in
+    let heavier = ap weight is in
+    let after = ap weight_after is in
+    (omega (arith, heavier, after), (c.requires.room, c.requires.answers))
+
+pub evaluate-evaluate_with_head-requires-in-CaseStar : goal.evaluate-evaluate_with_head-requires-in-CaseStar
+evaluate-evaluate_with_head-requires-in-CaseStar t c =
+    let there : c.args.e.now.form.value ≡ c.deref.result.now = sym c.deref.ensures in
+    let is = ap (expression_form_of c.args.e.now.at) (there ∙ c.in-CaseStar.is) in
+    let heavier = ap weight is in
+    let after = ap weight_after is in
+    (omega (arith, heavier, after), (c.requires.room, c.requires.answers))
+
+pub evaluate_both-evaluate-requires : goal.evaluate_both-evaluate-requires
+evaluate_both-evaluate-requires t c =
+    (omega arith, (c.requires.room, c.requires.answers))
+
+pub evaluate_in_turn-evaluate-requires : goal.evaluate_in_turn-evaluate-requires
+evaluate_in_turn-evaluate-requires t c =
+    (omega arith, (c.requires.room, c.requires.answers))
+
+pub evaluate_star-evaluate_in_turn-requires : goal.evaluate_star-evaluate_in_turn-requires
+evaluate_star-evaluate_in_turn-requires t c =
+    (omega arith, (c.requires.room, c.requires.answers))
+
+pub evaluate_left-evaluate-requires : goal.evaluate_left-evaluate-requires
+evaluate_left-evaluate-requires t c =
+    (omega arith, (c.requires.room, c.requires.answers))
+
+pub evaluate_right-evaluate-requires : goal.evaluate_right-evaluate-requires
+evaluate_right-evaluate-requires t c =
+    (omega arith, (c.requires.room, c.requires.answers))
+
+pub evaluate_typed-evaluate_at_type-requires : goal.evaluate_typed-evaluate_at_type-requires
+evaluate_typed-evaluate_at_type-requires t c =
+    (omega arith, (c.requires.room, c.requires.answers))
+
+pub evaluate_if-evaluate-requires : goal.evaluate_if-evaluate-requires
+evaluate_if-evaluate-requires t c =
+    (omega arith, (c.requires.room, c.requires.answers))
+
+pub evaluate_at_type-evaluate-requires : goal.evaluate_at_type-evaluate-requires
+evaluate_at_type-evaluate-requires t c =
+    (omega arith, (c.requires.room, c.requires.answers))
+
+pub evaluate_wait-evaluate-requires : goal.evaluate_wait-evaluate-requires
+evaluate_wait-evaluate-requires t c =
+    (omega arith, (c.requires.room, c.requires.answers))
+
+pub evaluate_with_head-evaluate_head-requires : goal.evaluate_with_head-evaluate_head-requires
+evaluate_with_head-evaluate_head-requires t c =
+    (omega arith, (c.requires.room, c.requires.answers))
+
+pub evaluate_after-evaluate_bound-requires : goal.evaluate_after-evaluate_bound-requires
+evaluate_after-evaluate_bound-requires t c =
+    (omega arith, (c.requires.room, c.requires.answers))
+
+pub evaluate_parts-evaluate_two-requires : goal.evaluate_parts-evaluate_two-requires
+evaluate_parts-evaluate_two-requires t c =
+    (omega arith, (c.requires.room, c.requires.answers))
+
+pub evaluate_side-evaluate_one-requires : goal.evaluate_side-evaluate_one-requires
+evaluate_side-evaluate_one-requires t c =
+    (omega arith, (c.requires.room, c.requires.answers))
+
+pub evaluate_item-evaluate-requires : goal.evaluate_item-evaluate-requires
+evaluate_item-evaluate-requires t c =
+    (omega arith, (c.requires.room, c.requires.answers))
+
+pub evaluate_item-evaluate_two-requires : goal.evaluate_item-evaluate_two-requires
+evaluate_item-evaluate_two-requires t c =
+    (omega arith, (c.requires.room, c.requires.answers))
+
+pub evaluate_one-evaluate-requires : goal.evaluate_one-evaluate-requires
+evaluate_one-evaluate-requires t c =
+    (omega arith, (c.requires.room, c.requires.answers))
+
+pub evaluate_two-evaluate-requires : goal.evaluate_two-evaluate-requires
+evaluate_two-evaluate-requires t c =
+    (omega arith, (c.requires.room, c.requires.answers))
+
+pub evaluate_side-evaluate_one-requires-in-Right : goal.evaluate_side-evaluate_one-requires-in-Right
+evaluate_side-evaluate_one-requires-in-Right t c =
+    (omega arith, (c.requires.room, c.requires.answers))
+
+pub evaluate_if-evaluate-requires-else-branch : goal.evaluate_if-evaluate-requires-else-branch
+evaluate_if-evaluate-requires-else-branch t c =
+    (omega arith, (c.requires.room, c.requires.answers))
+
+pub evaluate_both-evaluate-requires-2 : goal.evaluate_both-evaluate-requires-2
+evaluate_both-evaluate-requires-2 t c =
+    (omega arith, (omega arith, c.requires.answers))
+
+pub evaluate_in_turn-evaluate-requires-2 : goal.evaluate_in_turn-evaluate-requires-2
+evaluate_in_turn-evaluate-requires-2 t c =
+    (omega arith, (omega arith, c.requires.answers))
+
+pub evaluate_let-evaluate_after-requires : goal.evaluate_let-evaluate_after-requires
+evaluate_let-evaluate_after-requires t c =
+    (omega arith, (omega arith, c.requires.answers))
+
+pub evaluate_call-evaluate_body-requires : goal.evaluate_call-evaluate_body-requires
+evaluate_call-evaluate_body-requires t c =
+    (omega arith, (omega arith, c.requires.answers))
+
+pub evaluate_with_head-evaluate_let-requires : goal.evaluate_with_head-evaluate_let-requires
+evaluate_with_head-evaluate_let-requires t c =
+    (omega arith, (c.requires.room, (c.requires.answers, c.in_ok-head.ensures.counted)))
+
+pub evaluate_bound-evaluate_one-requires : goal.evaluate_bound-evaluate_one-requires
+evaluate_bound-evaluate_one-requires t c =
+    let there : c.args.e.now.form.value ≡ c.deref.result.now = sym c.deref.ensures in
+    let after = ap weight_after (ap (expression_form_of c.args.e.now.at) (there ∙ c.in-Let.is)) in
+    (omega (arith, after), (c.requires.room, c.requires.answers))
+
+pub evaluate_bound-evaluate_two-requires : goal.evaluate_bound-evaluate_two-requires
+evaluate_bound-evaluate_two-requires t c =
+    let there : c.args.e.now.form.value ≡ c.deref.result.now = sym c.deref.ensures in
+    let after = ap weight_after (ap (expression_form_of c.args.e.now.at) (there ∙ c.in-LetPar.is)) in
+    (omega (arith, after), (c.requires.room, c.requires.answers))
+
+pub evaluate_bound-evaluate_parts-requires : goal.evaluate_bound-evaluate_parts-requires
+evaluate_bound-evaluate_parts-requires t c =
+    let there : c.args.e.now.form.value ≡ c.deref.result.now = sym c.deref.ensures in
+    let after = ap weight_after (ap (expression_form_of c.args.e.now.at) (there ∙ c.in-LetCat.is)) in
+    (omega (arith, after), (c.requires.room, c.requires.answers))
+
+pub evaluate_bound-evaluate_side-requires : goal.evaluate_bound-evaluate_side-requires
+evaluate_bound-evaluate_side-requires t c =
+    let there : c.args.e.now.form.value ≡ c.deref.result.now = sym c.deref.ensures in
+    let after = ap weight_after (ap (expression_form_of c.args.e.now.at) (there ∙ c.in-CaseSum.is)) in
+    (omega (arith, after), (c.requires.room, c.requires.answers))
+
+pub evaluate_bound-evaluate_item-requires : goal.evaluate_bound-evaluate_item-requires
+evaluate_bound-evaluate_item-requires t c =
+    let there : c.args.e.now.form.value ≡ c.deref.result.now = sym c.deref.ensures in
+    let after = ap weight_after (ap (expression_form_of c.args.e.now.at) (there ∙ c.in-CaseStar.is)) in
+    (omega (arith, after), (c.requires.room, c.requires.answers))
+
+pub evaluate_head-evaluate_at_type-requires : goal.evaluate_head-evaluate_at_type-requires
+evaluate_head-evaluate_at_type-requires t c =
+    let there : c.args.h.now.form.value ≡ c.deref.result.now = sym c.deref.ensures in
+    let heavier = ap weight_of_head (ap (head_form_of c.args.h.now.at) (there ∙ c.in-Asc.is)) in
+    (omega (arith, heavier), (c.requires.room, c.requires.answers))
+
+pub evaluate_call-evaluate_arguments-requires : goal.evaluate_call-evaluate_arguments-requires
+evaluate_call-evaluate_arguments-requires t c =
+    let none = ap (λ (z : Runs). z.calls) c.no_arguments-start.ensures in
+    (omega arith, (c.requires.room, (c.requires.answers, omega (arith, none))))
+
+pub evaluate_both-par_run-requires : goal.evaluate_both-par_run-requires
+evaluate_both-par_run-requires t c =
+    omega (arith, c.in_ok-first.ensures.counted, c.in_ok-second.ensures.counted)
+
+pub evaluate_in_turn-cat_run-requires : goal.evaluate_in_turn-cat_run-requires
+evaluate_in_turn-cat_run-requires t c =
+    omega (arith, c.in_ok-first.ensures.counted, c.in_ok-second.ensures.counted)
+
+pub evaluate_call-call_run-requires : goal.evaluate_call-call_run-requires
+evaluate_call-call_run-requires t c =
+    omega (arith, c.in_ok-arguments.ensures.counted, c.in_ok-body.ensures.counted)
+
+pub evaluate_let-let_run-requires : goal.evaluate_let-let_run-requires
+evaluate_let-let_run-requires t c =
+    omega (arith, c.in_ok-after.ensures.counted)
+
+pub evaluate_arguments-one_more-requires : goal.evaluate_arguments-one_more-requires
+evaluate_arguments-one_more-requires t c =
+    omega (arith, c.in_ok-argument.ensures.counted)
+
+pub evaluate_body-answer_to-requires : goal.evaluate_body-answer_to-requires
+evaluate_body-answer_to-requires t c =
+    record { room = c.requires.room; answers = c.requires.answers }
+
+pub evaluate_body-one_call-requires : goal.evaluate_body-one_call-requires
+evaluate_body-one_call-requires t c =
+    let none = ap (λ (z : Run). z.calls) c.quiet.ensures in
+    omega (arith, none)
+
+pub evaluate_body-one_call-requires-2 : goal.evaluate_body-one_call-requires-2
+evaluate_body-one_call-requires-2 t c =
+    omega (arith, c.in_ok-run.ensures.counted)
+
+pub evaluate-returns-in-Eps : goal.evaluate-returns-in-Eps
+evaluate-returns-in-Eps t c =
+    let there : c.args.e.now.form.value ≡ c.deref.result.now = sym c.deref.ensures in
+    let none = ap (λ (z : Run). z.calls) c.quiet.ensures in
+    record { run = rw (there, c.in-Eps.is) c.quiet.ensures; counted = omega (arith, none); spent = tt }
+
+pub evaluate-returns-in-Unit : goal.evaluate-returns-in-Unit
+evaluate-returns-in-Unit t c =
+    let there : c.args.e.now.form.value ≡ c.deref.result.now = sym c.deref.ensures in
+    let none = ap (λ (z : Run). z.calls) c.quiet-in-Unit.ensures in
+    record { run = rw (there, c.in-Unit.is) c.quiet-in-Unit.ensures; counted = omega (arith, none); spent = tt }
+
+pub evaluate-returns-in-Nil : goal.evaluate-returns-in-Nil
+evaluate-returns-in-Nil t c =
+    let there : c.args.e.now.form.value ≡ c.deref.result.now = sym c.deref.ensures in
+    let none = ap (λ (z : Run). z.calls) c.nil_run.ensures in
+    record { run = rw (there, c.in-Nil.is) c.nil_run.ensures; counted = omega (arith, none); spent = tt }
+
+pub evaluate-returns-in-Par-clause-run : goal.evaluate-returns-in-Par-clause-run
+evaluate-returns-in-Par-clause-run t c =
+    let there : c.args.e.now.form.value ≡ c.deref.result.now = sym c.deref.ensures in
+    rw (there, c.in-Par.is) (rw (c.par_types.ensures.left, c.par_types.ensures.right) at c.evaluate_both.ensures.run)
+
+pub evaluate-returns-in-Par-clause-counted : goal.evaluate-returns-in-Par-clause-counted
+evaluate-returns-in-Par-clause-counted t c =
+    c.evaluate_both.ensures.counted
+
+pub evaluate-returns-in-Par-clause-spent : goal.evaluate-returns-in-Par-clause-spent
+evaluate-returns-in-Par-clause-spent t c =
+    let there : c.args.e.now.form.value ≡ c.deref.result.now = sym c.deref.ensures in
+    rw (there, c.in-Par.is) (rw (c.par_types.ensures.left, c.par_types.ensures.right) at c.evaluate_both.ensures.spent)
+
+pub evaluate-returns-in-Cat-clause-run : goal.evaluate-returns-in-Cat-clause-run
+evaluate-returns-in-Cat-clause-run t c =
+    let there : c.args.e.now.form.value ≡ c.deref.result.now = sym c.deref.ensures in
+    rw (there, c.in-Cat.is) (rw (c.cat_types.ensures.first, c.cat_types.ensures.second) at c.evaluate_in_turn.ensures.run)
+
+pub evaluate-returns-in-Cat-clause-counted : goal.evaluate-returns-in-Cat-clause-counted
+evaluate-returns-in-Cat-clause-counted t c =
+    c.evaluate_in_turn.ensures.counted
+
+pub evaluate-returns-in-Cat-clause-spent : goal.evaluate-returns-in-Cat-clause-spent
+evaluate-returns-in-Cat-clause-spent t c =
+    let there : c.args.e.now.form.value ≡ c.deref.result.now = sym c.deref.ensures in
+    rw (there, c.in-Cat.is) (rw (c.cat_types.ensures.first, c.cat_types.ensures.second) at c.evaluate_in_turn.ensures.spent)
