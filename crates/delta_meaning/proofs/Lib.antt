@@ -12,6 +12,7 @@ pub mod Limits
 pub mod KeptTypes
 pub mod FreeStreams
 pub mod Scopes
+mod SameLists
 pub mod Splittings
 pub mod Evaluations
 pub mod Declarations
