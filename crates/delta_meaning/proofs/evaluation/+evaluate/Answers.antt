@@ -1,5 +1,5 @@
 -- What each form of an expression and of a head is, and what each part of the evaluator asks: less weight and room for calls.
-use Rattle.std.proofs.Common.{◌≡◌, ◌+◌, ◌-◌, ◌<◌, List, map, IfOk, IfErr, refl, sym, ap, ap₂, ◌∙◌, subst, arith, rules}
+use Rattle.std.proofs.Common.{◌≡◌, ◌+◌, ◌-◌, ◌<◌, List, map, IfOk, IfErr, refl, sym, ap, ap₂, ◌∙◌, subst, arith, rules, ℕ, ◌≤◌, Bool, true, false}
 use Rattle.std.proofs.lemmas.Result.{IfOk-weaker, MatchResult-weaker, err_from_is_err_and}
 use Rattle.stream_type.specs.StreamType.{type_of}
 use Rattle.stream_prefix.specs.Tree.{prefix_of}
@@ -8,7 +8,9 @@ use Rattle.delta_tree.specs.declared.expressions.Hist.{Hist}
 use Rattle.delta_tree.specs.SyntaxTree.{wait_at, call_at, call_head}
 use Rattle.delta_tree.specs.Tree.{expression_of, expressions_of, expression_form_of, head_of, head_form_of, hist_of}
 use Rattle.delta_tree.proofs.Rows.{expression_form_of-call, head_form_of-call}
-use Rattle.core_term.specs.Run.{Run, Runs, let_run}
+use Rattle.core_term.specs.Run.{Run, Runs, par_run, let_run}
+use Rattle.core_term.proofs.RunsInTurn.{spent_after, cat_run_first, cat_run_both, cat_spent_first, cat_spent_second}
+use Rattle.stream_prefix.specs.StreamPrefix.{is_maximal}
 use Rattle.core_term.specs.Params.{names_in, types_listed}
 use Rattle.delta_meaning.specs.CallRuns.{StopsAmong}
 use Rattle.delta_meaning.specs.SourceMeaning.{is_name_head}
@@ -808,3 +810,121 @@ pub evaluate-returns-in-Cat-clause-spent : goal.evaluate-returns-in-Cat-clause-s
 evaluate-returns-in-Cat-clause-spent t c =
     let there : c.args.e.now.form.value ≡ c.deref.result.now = sym c.deref.ensures in
     rw (there, c.in-Cat.is) (rw (c.cat_types.ensures.first, c.cat_types.ensures.second) at c.evaluate_in_turn.ensures.spent)
+
+sooner : (n a b : ℕ) → n < a → n < a + b
+sooner n a b h = omega (arith, h)
+
+later : (n a b : ℕ) → a ≤ n → n - a < b → n < a + b
+later n a b h k = omega (arith, h, k)
+
+together : (n a b r : ℕ) → r ≡ a + b → a ≤ n → b ≤ n - a → r ≤ n
+together n a b r e h k = omega (arith, e, h, k)
+
+pub evaluate_both-returns : goal.evaluate_both-returns
+evaluate_both-returns t c =
+    let few = together c.args.left _ _ _ (ap (λ (z : Run). z.calls) c.in_ok-par_run.ensures) c.in_ok-first.ensures.counted c.in_ok-second.ensures.counted in
+    record { run = c.in_ok-par_run.ensures ∙ ap₂ (λ (p q : Run). par_run p q) c.in_ok-first.ensures.run c.in_ok-second.ensures.run; counted = few; spent = tt }
+
+pub evaluate_both-returns-in_err-first : goal.evaluate_both-returns-in_err-first
+evaluate_both-returns-in_err-first t c =
+    let exit = err_from_is_err_and c.from_residual.result c.from_residual.ensures.1 in
+    rw (exit.1, exit.2) (record { run = tt; counted = tt; spent = λ b q m. sooner _ _ _ (c.in_err-first.ensures.spent b q m) })
+
+pub evaluate_both-returns-in_err-second : goal.evaluate_both-returns-in_err-second
+evaluate_both-returns-in_err-second t c =
+    let exit = err_from_is_err_and c.from_residual-in_err-second.result c.from_residual-in_err-second.ensures.1 in
+    rw (exit.1, exit.2) (record { run = tt; counted = tt; spent = λ b q m. spent_after (run_of c.in_ok-first.first) _ _ c.args.left c.in_ok-first.ensures.run c.in_ok-first.ensures.counted (c.in_err-second.ensures.spent b q m) })
+
+pub evaluate_both-returns-in_err-par_run : goal.evaluate_both-returns-in_err-par_run
+evaluate_both-returns-in_err-par_run t c =
+    let exit = err_from_is_err_and c.from_residual-in_err-par_run.result c.from_residual-in_err-par_run.ensures.1 in
+    rw (exit.1, exit.2) (record { run = tt; counted = tt; spent = λ b q m. cc })
+
+pub evaluate_in_turn-returns-then-not-maximal : goal.evaluate_in_turn-returns-then-not-maximal
+evaluate_in_turn-returns-then-not-maximal t c =
+    let x = run_at c.args.place.now c.args.scope.now (expression_of c.args.a.now) (type_of c.args.s.now) in
+    let y = run_at c.args.place.now c.args.scope.now (expression_of c.args.b.now) (type_of c.args.t.now) in
+    let one = run_of c.in_ok-first.first in
+    let waits : is_maximal one.out ≡ false = sym c.maximal.ensures ∙ c.if-not-maximal.true in
+    let few = subst (λ (n : ℕ). n ≤ c.args.left) (sym (ap (λ (z : Run). z.calls) c.in_ok-first_run.ensures)) c.in_ok-first.ensures.counted in
+    record { run = c.in_ok-first_run.ensures ∙ cat_run_first one x y c.in_ok-first.ensures.run waits; counted = few; spent = tt }
+
+pub evaluate_in_turn-returns : goal.evaluate_in_turn-returns
+evaluate_in_turn-returns t c =
+    let x = run_at c.args.place.now c.args.scope.now (expression_of c.args.a.now) (type_of c.args.s.now) in
+    let y = run_at c.args.place.now c.args.scope.now (expression_of c.args.b.now) (type_of c.args.t.now) in
+    let one = run_of c.in_ok-first.first in
+    let goes : is_maximal one.out ≡ true = sym c.maximal.ensures ∙ c.if-not-maximal.false in
+    let few = together c.args.left _ _ _ (ap (λ (z : Run). z.calls) c.in_ok-cat_run.ensures) c.in_ok-first.ensures.counted c.in_ok-second.ensures.counted in
+    record { run = c.in_ok-cat_run.ensures ∙ cat_run_both one (run_of c.in_ok-second.second) x y c.in_ok-first.ensures.run c.in_ok-second.ensures.run goes; counted = few; spent = tt }
+
+pub evaluate_in_turn-returns-in_err-first : goal.evaluate_in_turn-returns-in_err-first
+evaluate_in_turn-returns-in_err-first t c =
+    let x = run_at c.args.place.now c.args.scope.now (expression_of c.args.a.now) (type_of c.args.s.now) in
+    let y = run_at c.args.place.now c.args.scope.now (expression_of c.args.b.now) (type_of c.args.t.now) in
+    let exit = err_from_is_err_and c.from_residual.result c.from_residual.ensures.1 in
+    rw (exit.1, exit.2) (record { run = tt; counted = tt; spent = λ b q m. cat_spent_first x y c.args.left (c.in_err-first.ensures.spent b q m) })
+
+pub evaluate_in_turn-returns-in_err-first_run : goal.evaluate_in_turn-returns-in_err-first_run
+evaluate_in_turn-returns-in_err-first_run t c =
+    let exit = err_from_is_err_and c.from_residual-in_err-first_run.result c.from_residual-in_err-first_run.ensures.1 in
+    rw (exit.1, exit.2) (record { run = tt; counted = tt; spent = λ b q m. cc })
+
+pub evaluate_in_turn-returns-in_err-second : goal.evaluate_in_turn-returns-in_err-second
+evaluate_in_turn-returns-in_err-second t c =
+    let x = run_at c.args.place.now c.args.scope.now (expression_of c.args.a.now) (type_of c.args.s.now) in
+    let y = run_at c.args.place.now c.args.scope.now (expression_of c.args.b.now) (type_of c.args.t.now) in
+    let one = run_of c.in_ok-first.first in
+    let goes : is_maximal one.out ≡ true = sym c.maximal.ensures ∙ c.if-not-maximal.false in
+    let exit = err_from_is_err_and c.from_residual-in_err-second.result c.from_residual-in_err-second.ensures.1 in
+    rw (exit.1, exit.2) (record { run = tt; counted = tt; spent = λ b q m. cat_spent_second one x y c.args.left c.in_ok-first.ensures.run goes c.in_ok-first.ensures.counted (c.in_err-second.ensures.spent b q m) })
+
+pub evaluate_in_turn-returns-in_err-cat_run : goal.evaluate_in_turn-returns-in_err-cat_run
+evaluate_in_turn-returns-in_err-cat_run t c =
+    let exit = err_from_is_err_and c.from_residual-in_err-cat_run.result c.from_residual-in_err-cat_run.ensures.1 in
+    rw (exit.1, exit.2) (record { run = tt; counted = tt; spent = λ b q m. cc })
+
+pub evaluate_let-returns : goal.evaluate_let-returns
+evaluate_let-returns t c =
+    let few = together c.args.left _ _ _ (ap (λ (z : Run). z.calls) c.in_ok-let_run.ensures) c.requires.counted c.in_ok-after.ensures.counted in
+    record { run = c.in_ok-let_run.ensures ∙ ap₂ (λ (n : Bool) (z : Run). let_run n (run_of c.args.head.now) z) c.is_name_head.ensures c.in_ok-after.ensures.run; counted = few; spent = tt }
+
+pub evaluate_let-returns-in_err-after : goal.evaluate_let-returns-in_err-after
+evaluate_let-returns-in_err-after t c =
+    let exit = err_from_is_err_and c.from_residual.result c.from_residual.ensures.1 in
+    rw (exit.1, exit.2) (record { run = tt; counted = tt; spent = λ b q m. later _ _ _ c.requires.counted (c.in_err-after.ensures.spent b q m) })
+
+pub evaluate_let-returns-in_err-let_run : goal.evaluate_let-returns-in_err-let_run
+evaluate_let-returns-in_err-let_run t c =
+    let exit = err_from_is_err_and c.from_residual-in_err-let_run.result c.from_residual-in_err-let_run.ensures.1 in
+    rw (exit.1, exit.2) (record { run = tt; counted = tt; spent = λ b q m. cc })
+
+pub evaluate_call-returns-in_err-values : goal.evaluate_call-returns-in_err-values
+evaluate_call-returns-in_err-values t c =
+    let exit = err_from_is_err_and c.from_residual.result c.from_residual.ensures.1 in
+    rw (exit.1, exit.2) (record { run = tt; counted = tt; spent = λ at b q m. cc })
+
+pub evaluate_call-returns-in_err-params : goal.evaluate_call-returns-in_err-params
+evaluate_call-returns-in_err-params t c =
+    let exit = err_from_is_err_and c.from_residual-in_err-params.result c.from_residual-in_err-params.ensures.1 in
+    rw (exit.1, exit.2) (record { run = tt; counted = tt; spent = λ at b q m. cc })
+
+pub evaluate_call-returns-in_err-call_run : goal.evaluate_call-returns-in_err-call_run
+evaluate_call-returns-in_err-call_run t c =
+    let exit = err_from_is_err_and c.from_residual-in_err-call_run.result c.from_residual-in_err-call_run.ensures.1 in
+    rw (exit.1, exit.2) (record { run = tt; counted = tt; spent = λ at b q m. cc })
+
+pub evaluate_arguments-returns-in_err-so_far : goal.evaluate_arguments-returns-in_err-so_far
+evaluate_arguments-returns-in_err-so_far t c =
+    let exit = err_from_is_err_and c.from_residual-in_err-so_far.result c.from_residual-in_err-so_far.ensures.1 in
+    rw (exit.1, exit.2) (record { runs = tt; counted = tt; spent = λ b q m. cc })
+
+pub evaluate_body-returns-in_err-params : goal.evaluate_body-returns-in_err-params
+evaluate_body-returns-in_err-params t c =
+    let exit = err_from_is_err_and c.from_residual.result c.from_residual.ensures.1 in
+    rw (exit.1, exit.2) (record { run = tt; counted = tt; spent = λ b q m. cc })
+
+pub evaluate_body-returns-in_err-past : goal.evaluate_body-returns-in_err-past
+evaluate_body-returns-in_err-past t c =
+    let exit = err_from_is_err_and c.from_residual-in_err-past.result c.from_residual-in_err-past.ensures.1 in
+    rw (exit.1, exit.2) (record { run = tt; counted = tt; spent = λ b q m. cc })
