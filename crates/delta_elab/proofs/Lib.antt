@@ -14,3 +14,4 @@ pub mod Whole
 pub mod Sizes
 pub mod NodeCounts
 pub mod FunctionCores
+pub mod Numbered
