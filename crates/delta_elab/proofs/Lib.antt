@@ -15,3 +15,4 @@ pub mod Sizes
 pub mod NodeCounts
 pub mod FunctionCores
 pub mod Numbered
+pub mod CoresMade
