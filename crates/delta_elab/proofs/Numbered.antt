@@ -1,5 +1,6 @@
 -- How far the numbers of variables go after each part, and historical expressions by their numbered parts.
-use Rattle.std.proofs.Common.{◌≡◌, ℕ, suc, ◌+◌, List, [], ◌∷◌, ◌++◌, length, map, Some, Result, Ok, Err, IfOk, OnOk, arith, sym, ap, ap₂, ◌∙◌, append_assoc, length-append, subst}
+use Rattle.std.proofs.Common.{◌≡◌, ℕ, suc, ◌+◌, ◌≤◌, List, [], ◌∷◌, ◌++◌, length, drop, map, Some, Result, Ok, Err, IfOk, OnOk, arith, sym, ap, ap₂, ◌∙◌, append-nil, append_assoc, length-append, subst}
+use Rattle.std.proofs.lemmas.List.{at_drop_all}
 use Rattle.stream_type.specs.StreamType.{StreamType}
 use Rattle.bunch.specs.Names.{put}
 use Rattle.hist_value.specs.HistExpr.{HistExpr, choice, fold_expr}
@@ -125,3 +126,7 @@ pass_entry all done before after x n left e is-n more =
 pub pass_name : (all before after : List Origin) (x : ℕ) (left : List ℕ)
     → all ≡ before ++ map Some (x ∷ left) → after ≡ before ++ Some x ∷ [] → all ≡ after ++ map Some left
 pass_name all before after x left e more = one_more all before (Some x) (map Some left) e ∙ ap (λ l. l ++ map Some left) (sym more)
+
+-- where none are left all are done
+pub all_passed : {A B : Type 0} (f : List A → List B) (xs : List A) (i : ℕ) (all done : List B) → length xs ≤ i → f [] ≡ [] → all ≡ done ++ f (drop i xs) → done ≡ all
+all_passed f xs i all done none e h = sym (h ∙ (ap (λ l. done ++ l) (at_drop_all f xs i none ∙ e) ∙ append-nil done))

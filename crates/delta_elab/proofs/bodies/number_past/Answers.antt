@@ -1,5 +1,5 @@
--- One more parameter is numbered.
-use Rattle.std.proofs.Common.{◌≡◌, ◌+◌, ◌++◌, [], ◌∷◌, length, map, drop, Some, sym, ap, ◌∙◌}
+-- One more parameter is numbered, and where none are left all are.
+use Rattle.std.proofs.Common.{◌≡◌, ◌+◌, ◌++◌, [], ◌∷◌, length, map, drop, Some, refl, sym, ap, ◌∙◌}
 use Rattle.std.proofs.lemmas.List.{map-append}
 use Rattle.stream_type.specs.StreamType.{type_of}
 use Rattle.core_term.specs.CoreTerm.{typed_names_of}
@@ -8,7 +8,7 @@ use Rattle.delta_elab.specs.Numbering.{origins_of, number_entries, entries_from}
 use Rattle.delta_elab.specs.Sources.{names_of}
 use Rattle.delta_elab.proofs.NextItems.{map-next}
 use Rattle.delta_elab.proofs.ParamNumbers.{number_entries-append}
-use Rattle.delta_elab.proofs.Numbered.{pass_past, pass_entry, pass_name}
+use Rattle.delta_elab.proofs.Numbered.{pass_past, pass_entry, pass_name, all_passed}
 use Rattle.delta_elab.proofs.bodies.number_past.Goals as goal
 
 pub loop-x-preserved : goal.loop-x-preserved
@@ -41,3 +41,26 @@ loop-x-preserved c =
           ∙ ap (λ l. l ++ entries_from (names_of left) (length after)) (sym numbers),
       pass_name all-names before after p.0.0 (names_of left) (inv.2 ∙ ap (λ l. before ++ map Some (names_of l)) here) more,
     )
+
+pub loop-x-init : goal.loop-x-init
+loop-x-init c =
+    let all = numbered_past (typed_names_of c.args.past.now) (length (origins_of c.args.origins.now.items)) in
+    (sym (ap (λ l. typed_names_of l ++ all) c.new-numbered.ensures.items), refl, refl)
+
+pub returns-clause-past : goal.returns-clause-past
+returns-clause-past c =
+    let next = length (origins_of c.loop-x.origins.items) in
+    all_passed (λ l. numbered_past (typed_names_of l) next) c.args.past.now c.loop-x.x-index (numbered_past (typed_names_of c.args.past.now) (length (origins_of c.args.origins.now.items)))
+    (typed_names_of c.loop-x.numbered.items) c.loop-x-test.false refl c.loop-x.invariant.0
+
+pub returns-clause-numbers : goal.returns-clause-numbers
+returns-clause-numbers c =
+    let next = length (origins_of c.loop-x.origins.items) in
+    all_passed (λ l. entries_from (names_of (typed_names_of l)) next) c.args.past.now c.loop-x.x-index
+    (number_entries c.args.numbers.now.items ++ entries_from (names_of (typed_names_of c.args.past.now)) (length (origins_of c.args.origins.now.items)))
+    (number_entries c.loop-x.numbers.items) c.loop-x-test.false refl c.loop-x.invariant.1
+
+pub returns-clause-next : goal.returns-clause-next
+returns-clause-next c =
+    all_passed (λ l. map Some (names_of (typed_names_of l))) c.args.past.now c.loop-x.x-index (origins_of c.args.origins.now.items ++ map Some (names_of (typed_names_of c.args.past.now)))
+    (origins_of c.loop-x.origins.items) c.loop-x-test.false refl c.loop-x.invariant.2
