@@ -34,3 +34,22 @@ pub call-none : (o : Option ℕ) (t : CoreTerm) (f : ℕ) (ms : List HistExpr) (
     → IfNone o (inner < node_counts es) → IfNone o (room < node_count t)
 call-none None t f ms es inner room e more h = rw e (omega (arith, more, h))
 call-none (Some left) t f ms es inner room e more h = tt
+
+-- what is left after a form with one part, and that there is no room for it
+pub part-left : (o : Option ℕ) (t a : CoreTerm) (inner room : ℕ) → node_count t ≡ 1 + node_count a → inner + 1 ≡ room
+    → IfSome o (λ left. left + node_count a ≡ inner) → IfSome o (λ left. left + node_count t ≡ room)
+part-left None t a inner room e more h = tt
+part-left (Some left) t a inner room e more h = omega (arith, e, more, h)
+
+pub part-none : (o : Option ℕ) (t a : CoreTerm) (inner room : ℕ) → node_count t ≡ 1 + node_count a → inner + 1 ≡ room
+    → IfNone o (inner < node_count a) → IfNone o (room < node_count t)
+part-none None t a inner room e more h = omega (arith, e, more, h)
+part-none (Some left) t a inner room e more h = tt
+
+-- one more term is counted
+pub one-counted : (left less room all this rest : ℕ) → left + all ≡ room + (this + rest) → less + this ≡ left → less + all ≡ room + rest
+one-counted left less room all this rest e h = omega arith
+
+-- and all of them
+pub all-counted : (left room all rest : ℕ) → left + all ≡ room + rest → rest ≡ 0 → left + all ≡ room
+all-counted left room all rest e h = omega arith
