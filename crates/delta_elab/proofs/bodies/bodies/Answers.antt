@@ -1,5 +1,5 @@
--- One more function is done.
-use Rattle.std.proofs.Common.{◌≡◌, ◌+◌, ◌++◌, [], ◌∷◌, map, drop, length, ap, ◌∙◌, sym}
+-- One more function is done, and where none are left all are.
+use Rattle.std.proofs.Common.{◌≡◌, ◌+◌, ◌++◌, [], ◌∷◌, map, drop, length, refl, ap, ◌∙◌, sym}
 use Rattle.std.specs.List.{concat}
 use Rattle.std.proofs.lemmas.List.{map-append}
 use Rattle.core_term.specs.CoreTerm.{core_body_of, body_places}
@@ -10,6 +10,7 @@ use Rattle.delta_meaning.specs.Elaboration.{core_bodies}
 use Rattle.delta_elab.specs.Numbering.{origins_of}
 use Rattle.delta_elab.specs.Sources.{source_of, sources_of}
 use Rattle.delta_elab.proofs.NextItems.{map-next, concat-more}
+use Rattle.delta_elab.proofs.Numbered.{all_passed}
 use Rattle.delta_elab.proofs.FunctionCores.{pass_core, pass_places, pass_variables}
 use Rattle.delta_elab.proofs.bodies.bodies.Goals as goal
 
@@ -41,3 +42,29 @@ loop-function-preserved c =
           ∙ ap (λ l. l ++ places_of_bodies left) (sym places),
       pass_variables (start ++ new_in_bodies bs) origins more b left (inv.2 ∙ ap (λ l. origins ++ new_in_bodies l) here) c.in_ok-body.ensures.next,
     )
+
+pub loop-function-init : goal.loop-function-init
+loop-function-init c =
+    let bs = sources_of c.args.functions.now in
+    let all = core_bodies (function_named bs) (number_named bs) bs (length (origins_of c.args.origins.now.items)) in (
+      sym (ap (λ l. map core_body_of l ++ all) c.new-cores.ensures.items),
+      sym (ap (λ l. concat (map body_places l) ++ places_of_bodies bs) c.new-cores.ensures.items),
+      refl,
+    )
+
+pub returns-clause-bodies : goal.returns-clause-bodies
+returns-clause-bodies c =
+    let bs = sources_of c.args.functions.now in
+    let next = length (origins_of c.loop-function.origins.items) in
+    all_passed (λ l. core_bodies (function_named bs) (number_named bs) (sources_of l) next) c.args.functions.now c.loop-function.function-index
+    (core_bodies (function_named bs) (number_named bs) bs (length (origins_of c.args.origins.now.items))) (map core_body_of c.loop-function.cores.items) c.loop-function-test.false refl c.loop-function.invariant.0
+
+pub returns-clause-places : goal.returns-clause-places
+returns-clause-places c =
+    all_passed (λ l. places_of_bodies (sources_of l)) c.args.functions.now c.loop-function.function-index
+    (places_of_bodies (sources_of c.args.functions.now)) (concat (map body_places c.loop-function.cores.items)) c.loop-function-test.false refl c.loop-function.invariant.1
+
+pub returns-clause-next : goal.returns-clause-next
+returns-clause-next c =
+    all_passed (λ l. new_in_bodies (sources_of l)) c.args.functions.now c.loop-function.function-index
+    (origins_of c.args.origins.now.items ++ new_in_bodies (sources_of c.args.functions.now)) (origins_of c.loop-function.origins.items) c.loop-function-test.false refl c.loop-function.invariant.2
