@@ -1,9 +1,9 @@
 -- The core of each form that binds names, by what came of its parts: how far the numbers go after each, and the cores.
-use Rattle.std.proofs.Common.{◌≡◌, ℕ, suc, ◌+◌, List, [], ◌∷◌, ◌++◌, length, Option, Some, None, arith, refl, ap, ◌∙◌, length-append}
+use Rattle.std.proofs.Common.{◌≡◌, ℕ, suc, ◌+◌, List, [], ◌∷◌, ◌++◌, length, Option, Some, None, refl, ap, ◌∙◌}
 use Rattle.bunch.specs.Names.{put}
-use Rattle.stream_type.specs.StreamType.{StreamType, eps, one, sum}
+use Rattle.stream_type.specs.StreamType.{StreamType, one, sum}
 use Rattle.hist_value.specs.HistExpr.{HistExpr}
-use Rattle.delta_tree.specs.SyntaxTree.{WrittenHist, WrittenType, Expression, typed_at, let_at, let_par_at, let_cat_at, case_sum_at, case_star_at, wait_at, if_at, Head, name_head, call_head, typed_head}
+use Rattle.delta_tree.specs.SyntaxTree.{WrittenHist, WrittenType, Expression, typed_at, let_at, let_par_at, let_cat_at, case_sum_at, case_star_at, if_at, Head, name_head, call_head, typed_head}
 use Rattle.core_term.specs.CoreTerm.{CoreTerm, var_term, past_term, let_term, let_par_term, let_cat_term, case_sum_term, case_star_term}
 use Rattle.core_term.specs.Environment.{NameTypes}
 use Rattle.core_term.specs.Parts.{par_left, par_right, cat_first, cat_second, sum_left, sum_right, star_item, star_items}
