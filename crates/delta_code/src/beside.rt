@@ -4,7 +4,7 @@
 //! goes down to the states in which that name is free, and each of these sees those entries alone whose names it
 //! uses. What is left of it is put into a simpler form, and its type is moved on, where it stands.
 
-ghost use Rattle.std.specs.Prelude.{◌≡◌, ◌<◌, ◌^◌, ◌+◌, ◌++◌, ◌∷◌, [], ℕ, true, false, map, Ok, IfOk, OnOk};
+ghost use Rattle.std.specs.Prelude.{◌≡◌, ◌<◌, ◌^◌, ◌+◌, ◌++◌, ◌∷◌, [], ℕ, not, map, Ok, IfOk, OnOk};
 ghost use Rattle.stream_type.specs.StreamType.{StreamType, type_of, par};
 ghost use Rattle.stream_prefix.specs.StreamPrefix.{emp, der};
 ghost use Rattle.stream_prefix.specs.Tree.{prefix_of};
@@ -71,7 +71,7 @@ fn stands_beside(s: &Live) -> bool {
 
 // Whether a name isn't free in a state.
 fn is_apart(s: &Live, x: Name) -> bool
-    ensures { result ≡ true → holds x.0 (free_in_state (state_in s.now)) ≡ false }
+    ensures { result ≡ not (holds x.0 (free_in_state (state_in s.now))) }
 {
     !uses(s, x)
 }

@@ -1,5 +1,6 @@
 -- A state that doesn't use the name rests, and of two beside each other each goes on by itself.
 use Rattle.std.proofs.Common.{◌≡◌, ◌∙◌, ◌≤◌, false, ap, ap₂, sym, subst, arith}
+use Rattle.std.proofs.lemmas.Bool.{not-true}
 use Rattle.stream_type.specs.declared.ty.Ty.{Ty}
 use Rattle.stream_type.specs.StreamType.{StreamType, type_of, par}
 use Rattle.stream_prefix.specs.Tree.{prefix_of}
@@ -21,7 +22,7 @@ step_beside-returns-then-is_apart t c =
     let entries = entries_on (awaited_in a.awaited.now) (prefix_of a.next.now) in
     let s = state_in a.state.now in
     let r = type_of a.output.now in
-    let none : holds a.x.0 (free_in_state s) ≡ false = c.is_apart.ensures c.if-is_apart.true in
+    let none : holds a.x.0 (free_in_state s) ≡ false = not-true _ (sym c.is_apart.ensures ∙ c.if-is_apart.true) in
     let empty = untouched_on a.x.0 entries (free_in_state s) c.requires.touched none in
     c.rested.ensures r _ _ _ a.budget 1001 c.empty_boxed.ensures (gives_nothing funs entries s r c.requires.ready empty) (stays_as_it_is funs entries s r c.requires.ready empty)
 
