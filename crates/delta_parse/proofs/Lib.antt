@@ -4,6 +4,7 @@ pub mod Steps
 pub mod Calls
 pub mod Loops
 pub mod InTurn
+pub mod Measures
 pub mod Flat
 pub mod FlatHistories
 pub mod FlatTypes

@@ -7,6 +7,7 @@ use Rattle.delta_tree.specs.Tree.{hist_of}
 use Rattle.grammar.specs.Reading.{got}
 use Rattle.delta_parse.specs.Terminals.{plain_of, plains}
 use Rattle.delta_parse.proofs.InTurn.{reads_is, was, token_read, then, made, stops, at_once, before_reads, before_most, found}
+use Rattle.delta_parse.proofs.Measures.{same, fewer, fewer_yet}
 use Rattle.delta_parse.proofs.FlatHistories as flat
 use Rattle.delta_parse.proofs.history_reader.+histories.Goals as goal
 
@@ -149,14 +150,91 @@ read_second-returns-in-Some t c = token_read c.in-Some.ensures.shorter (flat.sec
 pub read_second-returns-in-None : goal.read_second-returns-in-None
 read_second-returns-in-None t c = reads_is (flat.second_none (plain_of c.args.bracket) (hist_of c.args.inner) (plains c.args.tokens.now) c.in-None.ensures.none) (before_most hist_of (got (hist_of c.args.inner) (plains c.args.tokens.now)) (length c.args.tokens.now) c.followed_by.ensures refl (omega arith))
 
+-- WHAT IS LEFT FALLS
+
+pub history-read_fold-requires : goal.history-read_fold-requires
+history-read_fold-requires t c = same (length c.args.tokens.now) 7 0 c.decreases
+
+pub history-read_choice-requires : goal.history-read_choice-requires
+history-read_choice-requires t c = same (length c.args.tokens.now) 7 0 c.decreases
+
+pub history-read_comparison-requires : goal.history-read_comparison-requires
+history-read_comparison-requires t c = same (length c.args.tokens.now) 6 1 c.decreases
+
+pub history-history-others-requires : goal.history-history-others-requires
+history-history-others-requires t c = fewer_yet 8 7 8 c.in-Some.ensures.shorter c.in-Ok.ensures.shorter c.decreases refl
+
+pub read_fold-history-requires : goal.read_fold-history-requires
+read_fold-history-requires t c = fewer 8 7 7 c.in-Ok.ensures.shorter c.decreases refl
+
+pub read_fold-read_fold_on-requires : goal.read_fold-read_fold_on-requires
+read_fold-read_fold_on-requires t c = fewer_yet 9 6 7 (before_reads hist_of c.in-Ok-followed_by.ensures c.history.ensures).shorter c.in-Ok.ensures.shorter c.decreases refl
+
+pub read_fold_on-history-requires : goal.read_fold_on-history-requires
+read_fold_on-history-requires t c = same (length c.args.tokens.now) 8 0 c.decreases
+
+pub read_fold_on-history-requires-in-Ok-read_two_names : goal.read_fold_on-history-requires-in-Ok-read_two_names
+read_fold_on-history-requires-in-Ok-read_two_names t c = fewer_yet 8 7 9 c.in-Ok-read_two_names.ensures.shorter (before_reads hist_of c.in-Ok.ensures c.history.ensures).shorter c.decreases refl
+
+pub read_choice-history-requires : goal.read_choice-history-requires
+read_choice-history-requires t c = fewer 8 7 7 c.in-Ok.ensures.shorter c.decreases refl
+
+pub read_choice-read_choice_on-requires : goal.read_choice-read_choice_on-requires
+read_choice-read_choice_on-requires t c = fewer_yet 1 14 7 (before_reads hist_of c.in-Ok-followed_by.ensures (before_reads hist_of c.followed_by-subject.ensures c.history.ensures)).shorter c.in-Ok.ensures.shorter c.decreases refl
+
+pub read_choice_on-read_branch-requires : goal.read_choice_on-read_branch-requires
+read_choice_on-read_branch-requires t c = same (length c.args.tokens.now) 0 0 c.decreases
+
+pub read_choice_on-read_branch-right-requires : goal.read_choice_on-read_branch-right-requires
+read_choice_on-read_branch-right-requires t c = fewer 0 15 1 (before_reads branch_tree c.in-Ok.ensures c.read_branch.ensures).shorter c.decreases refl
+
+pub read_branch-history-requires : goal.read_branch-history-requires
+read_branch-history-requires t c = fewer 8 7 0 c.in-Ok.ensures.shorter c.decreases refl
+
+pub read_comparison-read_sum-requires : goal.read_comparison-read_sum-requires
+read_comparison-read_sum-requires t c = same (length c.args.tokens.now) 5 0 c.decreases
+
+pub read_comparison-read_sum-right-requires : goal.read_comparison-read_sum-right-requires
+read_comparison-read_sum-right-requires t c = fewer_yet 5 10 6 c.in-Some.ensures.shorter c.in-Ok.ensures.shorter c.decreases refl
+
+pub read_sum-read_product-requires : goal.read_sum-read_product-requires
+read_sum-read_product-requires t c = same (length c.args.tokens.now) 4 0 c.decreases
+
+pub read_sum-read_summands-requires : goal.read_sum-read_summands-requires
+read_sum-read_summands-requires t c = fewer 0 15 5 c.in-Ok.ensures.shorter c.decreases refl
+
+pub read_summands-read_product-right-requires : goal.read_summands-read_product-right-requires
+read_summands-read_product-right-requires t c = fewer 4 11 0 c.in-Some.ensures.shorter c.decreases refl
+
+pub read_product-read_unary-requires : goal.read_product-read_unary-requires
+read_product-read_unary-requires t c = same (length c.args.tokens.now) 3 0 c.decreases
+
+pub read_product-read_factors-requires : goal.read_product-read_factors-requires
+read_product-read_factors-requires t c = fewer 0 15 4 c.in-Ok.ensures.shorter c.decreases refl
+
+pub read_factors-read_unary-right-requires : goal.read_factors-read_unary-right-requires
+read_factors-read_unary-right-requires t c = fewer 3 12 0 c.in-Some.ensures.shorter c.decreases refl
+
+pub read_unary-read_unary-inner-requires : goal.read_unary-read_unary-inner-requires
+read_unary-read_unary-inner-requires t c = fewer 3 12 3 c.in-Some.ensures.shorter c.decreases refl
+
+pub read_unary-read_history_atom-requires : goal.read_unary-read_history_atom-requires
+read_unary-read_history_atom-requires t c = same (length c.args.tokens.now) 1 1 c.decreases
+
+pub read_history_atom-read_history_bracket-requires : goal.read_history_atom-read_history_bracket-requires
+read_history_atom-read_history_bracket-requires t c = same (length c.args.tokens.now) 0 0 c.decreases
+
+pub read_history_bracket-history-requires : goal.read_history_bracket-history-requires
+read_history_bracket-history-requires t c = fewer 8 7 0 c.in-Ok.ensures.shorter c.decreases refl
+
+pub read_history_bracket-read_second-requires : goal.read_history_bracket-read_second-requires
+read_history_bracket-read_second-requires t c = fewer_yet 0 15 0 c.in-Ok-history.ensures.shorter c.in-Ok.ensures.shorter c.decreases refl
+
+pub read_second-history-requires : goal.read_second-history-requires
+read_second-history-requires t c = fewer 8 7 0 c.in-Some.ensures.shorter c.decreases refl
+
 pub read_summands-read_summands-requires : goal.read_summands-read_summands-requires
-read_summands-read_summands-requires t c =
-    let s = (was c.in-Ok.is (c.reckoned.ensures _ _ c.read_product-right.ensures)).shorter in
-    let k = c.in-Some.ensures.shorter in
-    omega arith
+read_summands-read_summands-requires t c = fewer_yet 0 15 0 (was c.in-Ok.is (c.reckoned.ensures _ _ c.read_product-right.ensures)).shorter c.in-Some.ensures.shorter c.decreases refl
 
 pub read_factors-read_factors-requires : goal.read_factors-read_factors-requires
-read_factors-read_factors-requires t c =
-    let s = (was c.in-Ok.is (c.reckoned.ensures _ _ c.read_unary-right.ensures)).shorter in
-    let k = c.in-Some.ensures.shorter in
-    omega arith
+read_factors-read_factors-requires t c = fewer_yet 0 15 0 (was c.in-Ok.is (c.reckoned.ensures _ _ c.read_unary-right.ensures)).shorter c.in-Some.ensures.shorter c.decreases refl
