@@ -1,11 +1,12 @@
 -- What the readers of parameters give, by what the readers of their parts give.
-use Rattle.std.proofs.Common.{refl}
+use Rattle.std.proofs.Common.{length, refl}
 use Rattle.grammar.specs.Rules.{part}
 use Rattle.delta_tree.specs.Tree.{context_of}
 use Rattle.delta_parse.specs.declared.terminal.Terminal.TheVariants.{Comma, Semicolon}
 use Rattle.delta_parse.specs.Terminals.{plains}
 use Rattle.delta_parse.specs.Parts.{more_commas, more_semicolons}
 use Rattle.delta_parse.proofs.InTurn.{reads_is, token_read, then, made, answered, stops, at_once, before_reads, found}
+use Rattle.delta_parse.proofs.Measures.{same_in_eight, fewer_in_eight, fewer_yet_in_eight}
 use Rattle.delta_parse.proofs.FlatContexts as flat
 use Rattle.delta_parse.proofs.context_reader.+contexts.Goals as goal
 
@@ -50,3 +51,29 @@ read_item-returns-in-Ok-expect t c = reads_is (flat.item_bracket (plains c.args.
 
 pub read_item-returns-in-Err-expect : goal.read_item-returns-in-Err-expect
 read_item-returns-in-Err-expect t c = reads_is (flat.item_bracket (plains c.args.tokens.now) (found c.starts_with.ensures.value c.if-starts_with.false)) (stops _ c.in-Err-expect.ensures)
+
+-- WHAT IS LEFT FALLS
+
+pub read_context-read_item-requires : goal.read_context-read_item-requires
+read_context-read_item-requires t c = same_in_eight (length c.args.tokens.now) 1 0 c.decreases
+
+pub read_context-read_commas-requires : goal.read_context-read_commas-requires
+read_context-read_commas-requires t c = fewer_yet_in_eight 2 5 2 c.in-Some.ensures.shorter c.in-Ok.ensures.shorter c.decreases refl
+
+pub read_context-read_semicolons-requires : goal.read_context-read_semicolons-requires
+read_context-read_semicolons-requires t c = fewer_yet_in_eight 2 5 2 c.in-Some-accept.ensures.shorter c.in-Ok.ensures.shorter c.decreases refl
+
+pub read_commas-read_item-requires : goal.read_commas-read_item-requires
+read_commas-read_item-requires t c = same_in_eight (length c.args.tokens.now) 1 0 c.decreases
+
+pub read_commas-read_commas-requires : goal.read_commas-read_commas-requires
+read_commas-read_commas-requires t c = fewer_yet_in_eight 2 5 2 c.in-Some.ensures.shorter c.in-Ok.ensures.shorter c.decreases refl
+
+pub read_semicolons-read_item-requires : goal.read_semicolons-read_item-requires
+read_semicolons-read_item-requires t c = same_in_eight (length c.args.tokens.now) 1 0 c.decreases
+
+pub read_semicolons-read_semicolons-requires : goal.read_semicolons-read_semicolons-requires
+read_semicolons-read_semicolons-requires t c = fewer_yet_in_eight 2 5 2 c.in-Some.ensures.shorter c.in-Ok.ensures.shorter c.decreases refl
+
+pub read_item-read_context-requires : goal.read_item-read_context-requires
+read_item-read_context-requires t c = fewer_in_eight 2 5 1 c.in-Ok-expect.ensures.shorter c.decreases refl

@@ -1,5 +1,5 @@
 -- What the readers of expressions give, by what the readers of their parts give.
-use Rattle.std.proofs.Common.{◌≡◌, ◌∙◌, ap, true, false, ◌+◌, ◌-◌, ◌<◌, ◌≤◌, [], ◌∷◌, ◌++◌, map, length, drop, arith, List}
+use Rattle.std.proofs.Common.{◌≡◌, ◌∙◌, ap, true, false, ◌+◌, ◌-◌, ◌<◌, ◌≤◌, [], ◌∷◌, ◌++◌, map, length, drop, arith, refl, List}
 use Rattle.std.proofs.lemmas.List.{map-append}
 use Rattle.std.specs.declared.vec.Vec.{Vec}
 use Rattle.std.specs.declared.alloc.Global.{Global}
@@ -14,6 +14,7 @@ use Rattle.delta_parse.specs.Readers.{arms_of}
 use Rattle.delta_parse.specs.Tables.{reading}
 use Rattle.delta_parse.proofs.Loops.{expressions_at, expressions_end, test_at, inside, read_at, halts_at, shorter_at, left_at, kept, ends, over}
 use Rattle.delta_parse.proofs.InTurn.{reads_is, token_read, then, made, stops, at_once, before_reads, before_most, read_so, most, found}
+use Rattle.delta_parse.proofs.Measures.{same, fewer, fewer_yet, fewest}
 use Rattle.delta_parse.proofs.Flat as flat
 use Rattle.delta_parse.proofs.expression_reader.+expressions.Goals as goal
 
@@ -220,3 +221,110 @@ read_expression_items-returns-in-Err t c = reads_is (flat.items_flat (plains c.a
 
 pub read_expression_items-returns-in-Ok : goal.read_expression_items-returns-in-Ok
 read_expression_items-returns-in-Ok t c = reads_is (flat.items_flat (plains c.args.tokens.now)) (made _ c.in-Ok.ensures (λ m l. read_so c.read_more_expressions.ensures.given (most _ _ l c.read_more_expressions.ensures.shorter)))
+
+-- WHAT IS LEFT FALLS
+
+pub read_expression-read_let-requires : goal.read_expression-read_let-requires
+read_expression-read_let-requires t c = same (length c.args.tokens.now) 7 0 c.decreases
+
+pub read_expression-read_wait-requires : goal.read_expression-read_wait-requires
+read_expression-read_wait-requires t c = same (length c.args.tokens.now) 7 0 c.decreases
+
+pub read_expression-read_if-requires : goal.read_expression-read_if-requires
+read_expression-read_if-requires t c = same (length c.args.tokens.now) 7 0 c.decreases
+
+pub read_expression-read_application-requires : goal.read_expression-read_application-requires
+read_expression-read_application-requires t c = same (length c.args.tokens.now) 6 1 c.decreases
+
+pub read_expression-read_expression-requires : goal.read_expression-read_expression-requires
+read_expression-read_expression-requires t c = fewer_yet 8 7 8 c.in-Some.ensures.shorter c.in-Ok.ensures.shorter c.decreases refl
+
+pub read_let-read_head-requires : goal.read_let-read_head-requires
+read_let-read_head-requires t c = fewer 2 13 7 c.in-Ok.ensures.shorter c.decreases refl
+
+pub read_let-read_expression-requires : goal.read_let-read_expression-requires
+read_let-read_expression-requires t c = fewer_yet 8 7 7 (before_reads head_of c.in-Ok-followed_by.ensures c.read_head.ensures).shorter c.in-Ok.ensures.shorter c.decreases refl
+
+pub read_wait-read_expression-requires : goal.read_wait-read_expression-requires
+read_wait-read_expression-requires t c = fewer 8 7 7 c.in-Ok.ensures.shorter c.decreases refl
+
+pub read_if-read_expression-requires : goal.read_if-read_expression-requires
+read_if-read_expression-requires t c = fewer 8 7 7 c.in-Ok.ensures.shorter c.decreases refl
+
+pub read_if-read_expression-requires-in-Ok-followed_by : goal.read_if-read_expression-requires-in-Ok-followed_by
+read_if-read_expression-requires-in-Ok-followed_by t c = fewer_yet 8 7 7 (before_reads expression_of c.in-Ok-followed_by.ensures c.read_expression.ensures).shorter c.in-Ok.ensures.shorter c.decreases refl
+
+pub read_head-read_arguments-requires : goal.read_head-read_arguments-requires
+read_head-read_arguments-requires t c = fewer 3 12 2 c.in-Some.ensures.shorter c.decreases refl
+
+pub read_head-read_expression-requires : goal.read_head-read_expression-requires
+read_head-read_expression-requires t c = fewer 8 7 2 c.in-Ok.ensures.shorter c.decreases refl
+
+pub read_application-read_application-inner-requires : goal.read_application-read_application-inner-requires
+read_application-read_application-inner-requires t c = fewer 6 9 6 c.in-Some.ensures.shorter c.decreases refl
+
+pub read_application-read_application-inner-requires-in-Some-accept : goal.read_application-read_application-inner-requires-in-Some-accept
+read_application-read_application-inner-requires-in-Some-accept t c = fewer 6 9 6 c.in-Some-accept.ensures.shorter c.decreases refl
+
+pub read_application-read_atom-requires : goal.read_application-read_atom-requires
+read_application-read_atom-requires t c = same (length c.args.tokens.now) 5 0 c.decreases
+
+pub read_atom-read_name-requires : goal.read_atom-read_name-requires
+read_atom-read_name-requires t c = same (length c.args.tokens.now) 4 0 c.decreases
+
+pub read_atom-read_bracket-requires : goal.read_atom-read_bracket-requires
+read_atom-read_bracket-requires t c = same (length c.args.tokens.now) 4 0 c.decreases
+
+pub read_atom-read_case-requires : goal.read_atom-read_case-requires
+read_atom-read_case-requires t c = same (length c.args.tokens.now) 4 0 c.decreases
+
+pub read_name-read_arguments-requires : goal.read_name-read_arguments-requires
+read_name-read_arguments-requires t c = fewer 3 12 4 c.in-Ok.ensures.shorter c.decreases refl
+
+pub read_bracket-read_expression-requires : goal.read_bracket-read_expression-requires
+read_bracket-read_expression-requires t c = fewer 8 7 4 c.in-Ok.ensures.shorter c.decreases refl
+
+pub read_bracket-read_ending-requires : goal.read_bracket-read_ending-requires
+read_bracket-read_ending-requires t c = fewer_yet 0 15 4 c.in-Ok-read_expression.ensures.shorter c.in-Ok.ensures.shorter c.decreases refl
+
+pub read_ending-read_expression-requires : goal.read_ending-read_expression-requires
+read_ending-read_expression-requires t c = fewer 8 7 0 c.in-Some-accept.ensures.shorter c.decreases refl
+
+pub read_ending-read_expression-requires-in-Some-accept-2 : goal.read_ending-read_expression-requires-in-Some-accept-2
+read_ending-read_expression-requires-in-Some-accept-2 t c = fewer 8 7 0 c.in-Some-accept-2.ensures.shorter c.decreases refl
+
+pub read_case-read_head-requires : goal.read_case-read_head-requires
+read_case-read_head-requires t c = fewer 2 13 4 c.in-Ok.ensures.shorter c.decreases refl
+
+pub read_case-read_arms-requires : goal.read_case-read_arms-requires
+read_case-read_arms-requires t c = fewer_yet 2 13 4 (before_reads head_of c.in-Ok-followed_by.ensures (before_reads head_of c.followed_by-head.ensures c.read_head.ensures)).shorter c.in-Ok.ensures.shorter c.decreases refl
+
+pub read_arms-read_sum_arms-requires : goal.read_arms-read_sum_arms-requires
+read_arms-read_sum_arms-requires t c = same (length c.args.tokens.now) 1 0 c.decreases
+
+pub read_arms-read_star_arms-requires : goal.read_arms-read_star_arms-requires
+read_arms-read_star_arms-requires t c = same (length c.args.tokens.now) 1 0 c.decreases
+
+pub read_sum_arms-read_expression-requires : goal.read_sum_arms-read_expression-requires
+read_sum_arms-read_expression-requires t c = fewer 8 7 1 c.in-Ok.ensures.shorter c.decreases refl
+
+pub read_sum_arms-read_expression-requires-in-Ok-read_name_between : goal.read_sum_arms-read_expression-requires-in-Ok-read_name_between
+read_sum_arms-read_expression-requires-in-Ok-read_name_between t c = fewest 8 7 1 c.in-Ok-read_name_between.ensures.shorter (before_reads expression_of c.in-Ok-followed_by.ensures c.read_expression.ensures).shorter c.in-Ok.ensures.shorter c.decreases refl
+
+pub read_star_arms-read_expression-requires : goal.read_star_arms-read_expression-requires
+read_star_arms-read_expression-requires t c = fewer 8 7 1 (before_reads plain_of c.in-Ok.ensures c.expect.ensures).shorter c.decreases refl
+
+pub read_star_arms-read_expression-requires-in-Ok-read_two_names : goal.read_star_arms-read_expression-requires-in-Ok-read_two_names
+read_star_arms-read_expression-requires-in-Ok-read_two_names t c = fewest 8 7 1 c.in-Ok-read_two_names.ensures.shorter (before_reads expression_of c.in-Ok-followed_by.ensures c.read_expression.ensures).shorter (before_reads plain_of c.in-Ok.ensures c.expect.ensures).shorter c.decreases refl
+
+pub read_arguments-read_expressions-requires : goal.read_arguments-read_expressions-requires
+read_arguments-read_expressions-requires t c = fewer 10 5 3 (before_most past_trees _ _ c.in-Ok.ensures c.read_histories.ensures.given c.read_histories.ensures.shorter).shorter c.decreases refl
+
+pub read_expressions-read_expression_items-requires : goal.read_expressions-read_expression_items-requires
+read_expressions-read_expression_items-requires t c = same (length c.args.tokens.now) 9 0 c.decreases
+
+pub read_expression_items-read_expression-requires : goal.read_expression_items-read_expression-requires
+read_expression_items-read_expression-requires t c = same (length c.args.tokens.now) 8 0 c.decreases
+
+pub read_expression_items-read_more_expressions-requires : goal.read_expression_items-read_more_expressions-requires
+read_expression_items-read_more_expressions-requires t c = fewer 0 15 9 c.in-Ok.ensures.shorter c.decreases refl

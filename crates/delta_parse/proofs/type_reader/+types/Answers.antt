@@ -1,4 +1,5 @@
 -- What the readers of types give, by what the readers of their parts give.
+use Rattle.std.proofs.Common.{length, refl}
 use Rattle.grammar.specs.Rules.{part}
 use Rattle.delta_tree.specs.SyntaxTree.{sum_written, par_written, cat_written}
 use Rattle.delta_tree.specs.Tree.{type_tree_of}
@@ -6,6 +7,7 @@ use Rattle.delta_parse.specs.declared.terminal.Terminal.TheVariants.{Plus, Bars,
 use Rattle.delta_parse.specs.Terminals.{plains}
 use Rattle.delta_parse.specs.Parts.{a_type, a_par, a_cat}
 use Rattle.delta_parse.proofs.InTurn.{reads_is, token_read, then, made, stops, at_once, before_reads}
+use Rattle.delta_parse.proofs.Measures.{same_in_eight, fewer_in_eight, fewer_yet_in_eight}
 use Rattle.delta_parse.proofs.FlatTypes as flat
 use Rattle.delta_parse.proofs.type_reader.+types.Goals as goal
 
@@ -59,3 +61,29 @@ read_base-returns-in-Err t c = reads_is (flat.base_bracket (plains c.args.tokens
 
 pub read_base-returns-in-Ok : goal.read_base-returns-in-Ok
 read_base-returns-in-Ok t c = reads_is (flat.base_bracket (plains c.args.tokens.now) c.in_default.ensures.none c.in_default-accept.ensures.none c.in_default-accept-2.ensures.none c.in_default-accept-3.ensures.none) (then _ c.in-Ok.ensures (before_reads type_tree_of c.followed_by.ensures c.read_sum.ensures))
+
+-- WHAT IS LEFT FALLS
+
+pub read_sum-read_par-requires : goal.read_sum-read_par-requires
+read_sum-read_par-requires t c = same_in_eight (length c.args.tokens.now) 4 0 c.decreases
+
+pub read_sum-read_sum-right-requires : goal.read_sum-read_sum-right-requires
+read_sum-read_sum-right-requires t c = fewer_yet_in_eight 5 2 5 c.in-Some.ensures.shorter c.in-Ok.ensures.shorter c.decreases refl
+
+pub read_par-read_cat-requires : goal.read_par-read_cat-requires
+read_par-read_cat-requires t c = same_in_eight (length c.args.tokens.now) 3 0 c.decreases
+
+pub read_par-read_par-right-requires : goal.read_par-read_par-right-requires
+read_par-read_par-right-requires t c = fewer_yet_in_eight 4 3 4 c.in-Some.ensures.shorter c.in-Ok.ensures.shorter c.decreases refl
+
+pub read_cat-read_star-requires : goal.read_cat-read_star-requires
+read_cat-read_star-requires t c = same_in_eight (length c.args.tokens.now) 2 0 c.decreases
+
+pub read_cat-read_cat-right-requires : goal.read_cat-read_cat-right-requires
+read_cat-read_cat-right-requires t c = fewer_yet_in_eight 3 4 3 c.in-Some.ensures.shorter c.in-Ok.ensures.shorter c.decreases refl
+
+pub read_star-read_base-requires : goal.read_star-read_base-requires
+read_star-read_base-requires t c = same_in_eight (length c.args.tokens.now) 1 0 c.decreases
+
+pub read_base-read_sum-requires : goal.read_base-read_sum-requires
+read_base-read_sum-requires t c = fewer_in_eight 5 2 1 c.in-Ok.ensures.shorter c.decreases refl
