@@ -3,6 +3,7 @@ pub mod Samples
 pub mod Steps
 pub mod Calls
 pub mod Loops
+pub mod Fronts
 pub mod InTurn
 pub mod Measures
 pub mod Flat

@@ -7,6 +7,7 @@ use Rattle.delta_parse.specs.Terminals.{is_kind, plains}
 use Rattle.delta_parse.specs.Parts.{a_declaration, declarations}
 use Rattle.delta_parse.specs.Tables.{reading}
 use Rattle.delta_parse.specs.Readers.{behind}
+use Rattle.delta_parse.proofs.Fronts.{slice_within}
 use Rattle.delta_parse.proofs.Loops.{declarations_at, declarations_end, test_at, inside, read_at, halts_at, shorter_at, left_at, kept, ends, over, behind-none}
 use Rattle.delta_parse.proofs.declaration_reader.read_declarations.Goals as goal
 
@@ -44,3 +45,6 @@ items-init c =
       within = omega arith;
       so_far = ap (λ (ds : List Declaration). behind ds (reading declarations ts)) (ap (map declaration_of) c.new-found.ensures.items) ∙ behind-none (reading declarations ts);
     }
+
+pub returns-clause-shorter : goal.returns-clause-shorter
+returns-clause-shorter c = slice_within c.args.tokens.now c.items.at

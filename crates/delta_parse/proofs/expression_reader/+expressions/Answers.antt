@@ -12,6 +12,7 @@ use Rattle.delta_parse.specs.Terminals.{is_kind, plain_of, plains}
 use Rattle.delta_parse.specs.Parts.{an_expression, more_expressions}
 use Rattle.delta_parse.specs.Readers.{arms_of}
 use Rattle.delta_parse.specs.Tables.{reading}
+use Rattle.delta_parse.proofs.Fronts.{slice_within, less_to_go}
 use Rattle.delta_parse.proofs.Loops.{expressions_at, expressions_end, test_at, inside, read_at, halts_at, shorter_at, left_at, kept, ends, over}
 use Rattle.delta_parse.proofs.InTurn.{reads_is, token_read, then, made, stops, at_once, before_reads, before_most, read_so, most, found}
 use Rattle.delta_parse.proofs.Measures.{same, fewer, fewer_yet, fewest}
@@ -328,3 +329,9 @@ read_expression_items-read_expression-requires t c = same (length c.args.tokens.
 
 pub read_expression_items-read_more_expressions-requires : goal.read_expression_items-read_more_expressions-requires
 read_expression_items-read_more_expressions-requires t c = fewer 0 15 9 c.in-Ok.ensures.shorter c.decreases refl
+
+pub read_more_expressions-returns-clause-shorter : goal.read_more_expressions-returns-clause-shorter
+read_more_expressions-returns-clause-shorter t c = slice_within c.args.tokens.now c.items.at
+
+pub read_more_expressions-items-smaller : goal.read_more_expressions-items-smaller
+read_more_expressions-items-smaller t c = less_to_go (length c.args.tokens.now) (length c.in-Ok.read.1.now) c.items.at (shorter_at c.args.tokens.now (c.items.at + 1) _ c.in-Ok.ensures.shorter)

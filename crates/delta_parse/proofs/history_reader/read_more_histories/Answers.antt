@@ -5,6 +5,7 @@ use Rattle.delta_parse.specs.declared.terminal.Terminal.TheVariants.{Comma}
 use Rattle.delta_parse.specs.Terminals.{is_kind, plains}
 use Rattle.delta_parse.specs.Parts.{a_history, more_histories}
 use Rattle.delta_parse.specs.Tables.{reading}
+use Rattle.delta_parse.proofs.Fronts.{slice_within, less_to_go}
 use Rattle.delta_parse.proofs.Loops.{histories_at, histories_end, test_at, inside, read_at, halts_at, shorter_at, left_at, kept, ends, over}
 use Rattle.delta_parse.proofs.history_reader.read_more_histories.Goals as goal
 
@@ -34,3 +35,9 @@ returns-clause-given c =
     let ts = c.args.tokens.now in
     let test = test_at (is_kind Comma) ts c.items.at _ false c.starts_with.ensures.value c.items-test.false in
     over _ (reading more_histories) ts c.items.at _ c.items.invariant.so_far (histories_end (plains (drop c.items.at ts)) test)
+
+pub returns-clause-shorter : goal.returns-clause-shorter
+returns-clause-shorter c = slice_within c.args.tokens.now c.items.at
+
+pub items-smaller : goal.items-smaller
+items-smaller c = less_to_go (length c.args.tokens.now) (length c.in-Ok.read.1.now) c.items.at (shorter_at c.args.tokens.now (c.items.at + 1) _ c.in-Ok.ensures.shorter)

@@ -1,9 +1,13 @@
-use Rattle.std.proofs.Common.{◌≡◌, ◌+◌, ◌≤◌, ◌<◌, ◌∙◌, ap, sym, take, length, below_more, arith}
+use Rattle.std.proofs.Common.{◌≡◌, ℕ, List, ◌+◌, ◌≤◌, ◌<◌, ◌∙◌, ap, sym, take, length, below_more, arith}
 use Rattle.std.proofs.lemmas.List.{length-map}
+use Rattle.delta_parse.specs.declared.plain.Plain.{Plain}
 use Rattle.delta_parse.specs.Terminals.{plains, plain_of}
-use Rattle.delta_parse.specs.Marks.{Opened, opened, opened_of, none_open, marks_before, after_token}
+use Rattle.delta_parse.specs.Marks.{Opened, opened, opened_of, none_open, marks_before, after_token, IsShallow, IsFirstDeep}
 use Rattle.delta_parse.proofs.MarkSteps.{opened_next}
 use Rattle.delta_parse.proofs.marks.first_deep.Goals as goal
+
+none_deep : (ts : List Plain) (i : ℕ) → length ts ≤ i → IsShallow (plains ts) i → IsFirstDeep (plains ts) (length ts)
+none_deep ts i h s = (let count : length (plains ts) ≡ length ts = length-map ts plain_of in record { within = omega arith; shallow = λ k l. s k (omega arith); deep = λ l. absurd (omega arith) })
 
 pub loop-i-preserved : goal.loop-i-preserved
 loop-i-preserved c =
@@ -25,3 +29,6 @@ returns-then-marks-gt-MOST_MARKS c =
     let count : length ts ≡ length c.args.tokens.now = length-map c.args.tokens.now plain_of in
     let now = ap (λ (s : Opened). s.count) c.loop-i.invariant.marks_so_far in
     record { within = omega arith; shallow = c.loop-i.invariant.shallow; deep = λ _. omega (arith, now) }
+
+pub returns : goal.returns
+returns c = none_deep c.args.tokens.now c.loop-i.i c.loop-i-test.false c.loop-i.invariant.shallow
