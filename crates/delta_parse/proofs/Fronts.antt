@@ -28,6 +28,9 @@ first_shorter ts h = (let e = slice_length ts 1 in omega arith)
 pub slice_within : (ts : List Plain) (n : ℕ) → length (take (length ts - n) (drop n ts)) ≤ length ts
 slice_within ts n = (let e = slice_length ts n in omega arith)
 
+pub slice_shorter : (ts : List Plain) (n : ℕ) → n + 1 ≤ length ts → length (take (length ts - (n + 1)) (drop (n + 1) ts)) < length ts
+slice_shorter ts n h = (let e = slice_length ts (n + 1) in omega arith)
+
 pub some_more : (n : ℕ) → 1 ≤ n → 0 < n
 some_more n h = omega arith
 

@@ -12,7 +12,7 @@ use Rattle.delta_parse.specs.Terminals.{is_kind, plain_of, plains}
 use Rattle.delta_parse.specs.Parts.{an_expression, more_expressions}
 use Rattle.delta_parse.specs.Readers.{arms_of}
 use Rattle.delta_parse.specs.Tables.{reading}
-use Rattle.delta_parse.proofs.Fronts.{slice_within, less_to_go}
+use Rattle.delta_parse.proofs.Fronts.{slice_within, slice_shorter, less_to_go}
 use Rattle.delta_parse.proofs.Loops.{expressions_at, expressions_end, test_at, inside, read_at, halts_at, shorter_at, left_at, kept, ends, over}
 use Rattle.delta_parse.proofs.InTurn.{reads_is, token_read, then, made, stops, at_once, before_reads, before_most, read_so, most, found}
 use Rattle.delta_parse.proofs.Measures.{same, fewer, fewer_yet, fewest}
@@ -335,3 +335,9 @@ read_more_expressions-returns-clause-shorter t c = slice_within c.args.tokens.no
 
 pub read_more_expressions-items-smaller : goal.read_more_expressions-items-smaller
 read_more_expressions-items-smaller t c = less_to_go (length c.args.tokens.now) (length c.in-Ok.read.1.now) c.items.at (shorter_at c.args.tokens.now (c.items.at + 1) _ c.in-Ok.ensures.shorter)
+
+pub read_more_expressions-read_expression-requires : goal.read_more_expressions-read_expression-requires
+read_more_expressions-read_expression-requires t c =
+    let ts = c.args.tokens.now in
+    let test = test_at (is_kind Comma) ts c.items.at _ true c.starts_with.ensures.value c.items-test.true in
+    fewer 8 7 0 (slice_shorter ts c.items.at (inside (is_kind Comma) ts c.items.at test)) c.decreases refl

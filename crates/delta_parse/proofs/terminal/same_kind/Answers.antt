@@ -1,5 +1,5 @@
 -- Two terminals are one where their codes are: the code of a terminal is its tag.
-use Rattle.std.proofs.Common.{◌≡◌, ◌∙◌, ℕ, ◌==◌, refl, ap₂}
+use Rattle.std.proofs.Common.{◌≡◌, ◌∙◌, ◌==◌, refl, ap₂}
 use denote.Enum.Declared.{tag_of}
 use denote.Enum.Bare.{sameb}
 use Rattle.delta_parse.specs.contracts.terminal.Terminal.{the_type}
