@@ -6,6 +6,7 @@ pub mod Giving
 pub mod Leading
 pub mod Chain
 pub mod Lets
+pub mod Copies
 pub mod Taking
 pub mod GoingOn
 pub mod FreeStateRests
