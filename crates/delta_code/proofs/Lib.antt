@@ -7,6 +7,7 @@ pub mod Leading
 pub mod Chain
 pub mod Lets
 pub mod Copies
+pub mod Binding
 pub mod Taking
 pub mod GoingOn
 pub mod FreeStateRests
