@@ -1,5 +1,5 @@
 -- One more entry is copied, and where none is left all are.
-use Rattle.std.proofs.Common.{ap, ◌∙◌}
+use Rattle.std.proofs.Common.{ap}
 use Rattle.stream_type.specs.StreamType.{type_of}
 use Rattle.core_term.specs.CoreTerm.{typed_names_of}
 use Rattle.delta_code.proofs.Copies.{copied_more, copied_all}
