@@ -9,8 +9,8 @@ use Rattle.event_frame.specs.Reading.{whole}
 use Rattle.core_term.specs.CoreTerm.{CoreProgram}
 use Rattle.delta_state.specs.MachineView.{MachineView, StandsAfter, input_of}
 use Rattle.delta_state.specs.Stands.{output_left}
-use Rattle.delta_session.specs.declared.session.Life.TheVariants.{Open as IsRunning}
-use Rattle.delta_session.specs.Standing.{Runs}
+use Rattle.delta_session.specs.declared.session.Life.TheVariants.{Open as Opened}
+use Rattle.delta_session.specs.Standing.{Runs, IsOf}
 use Rattle.kept_state.specs.Laws.{IsKept}
 use Rattle.kept_state.specs.KeptTree.{KeptTree}
 use Rattle.kept_state.specs.KeptBytes.{kept_bytes}
@@ -23,7 +23,8 @@ use Rattle.delta_end.specs.End.{IsOfLoop, FileCause}
 use Rattle.delta_loop.specs.Loop.{IsWellEnded, RanTo}
 use Rattle.delta_loop.proofs.Counts.{events_whole}
 use Rattle.delta_runner.specs.declared.runner.Runner.{Runner}
-use Rattle.delta_runner.specs.Standing.{IsOf, StandsFor}
+use Rattle.delta_session.specs.Programs.{IsRunning}
+use Rattle.delta_runner.specs.Standing.{StandsFor}
 use Rattle.commands.specs.Leaving.{KeptAs, AreIts, AreTooMany, Way, Ended, EndedWell, Leaves, IsSaved, IsTooLarge, SavesSo}
 
 -- where nothing was written each name holds what it held
@@ -44,9 +45,9 @@ pub kept_as : {M : Type 0} (seen : M → MachineView) (stands : M → List Strea
     → (holds : KeptTree → List ℕ → Type 0) → holds k (kept_bytes k places) → KeptAs seen stands runner holds
 kept_as {M} seen stands after runner machine runs k places kept output holds it P c word s of few =
     let same : (seen machine).program ≡ c = of machine runs in
-    let both : IsRunning machine ≡ IsRunning s.standing.machine = sym runs ∙ s.standing.is_open in
+    let both : Opened machine ≡ Opened s.standing.machine = sym runs ∙ s.standing.is_open in
     let one : machine ≡ s.standing.machine = cc in
-    let state : stands machine word = subst (λ (m : M). stands m word) (sym one) s.standing.at.state in
+    let state : stands machine word = subst (λ (m : M). stands m word) (sym one) s.standing.at.state.state in
     let count : (seen machine).events ≡ length word = (after machine word state).is_count in (
       k,
       places,
@@ -57,7 +58,7 @@ kept_as {M} seen stands after runner machine runs k places kept output holds it 
 
 -- a run that ended well left the runner standing after all events of its input
 module _ {M : Type 0} (seen : M → MachineView) (stands : M → List StreamEvent → Type 0) (runner : Runner M) (w : Way) (end : End)
-    (of : IsOf seen runner.session w.core) (to : RanTo (StandsFor seen stands) w.meaning w.old w.new w.left0 w.left1 runner end) (well : IsWellEnded end) where
+    (of : IsOf seen runner.session w.core) (to : RanTo (StandsFor (IsRunning seen stands)) w.meaning w.old w.new w.left0 w.left1 runner end) (well : IsWellEnded end) where
   -- there are no more events than bytes
   few : length (whole to.ran.input) ≤ 2 ^ 41
   few = omega (arith, events_whole to.ran.input, to.ran.limit.most)

@@ -7,8 +7,9 @@ use Rattle.core_term.specs.CoreTerm.{CoreProgram}
 use Rattle.delta_end.specs.declared.end.End.{End}
 use Rattle.delta_end.specs.declared.end.End.TheVariants.{Done, Usage, Refused, Input, Budget, Deep, Open, FileFailed, ReadFailed, WriteFailed, Memory, Long, Objected}
 use Rattle.checked_program.specs.Acceptance.{IsWritable}
-use Rattle.delta_output.specs.OneShot.{OneShot, meaning_of}
-use Rattle.delta_runner.specs.CoreOneShot.{one_shot}
+use Rattle.delta_session.specs.OneShot.{OneShot}
+use Rattle.delta_output.specs.LoopMeaning.{meaning_of}
+use Rattle.delta_session.specs.Programs.{one_shot}
 use Rattle.output_laws.proofs.Meant.{same_one_shot}
 use Rattle.commands.specs.Leaving.{Saves}
 use Rattle.commands.specs.Saving.{SavesIts, SavesText}

@@ -7,7 +7,7 @@ use Rattle.delta_load.specs.Counting.{totals_of}
 use Rattle.delta_load.specs.Summary.{summary_of}
 use Rattle.delta_loop.specs.Return.{Begins}
 use Rattle.delta_output.specs.Spoken.{spoken}
-use Rattle.delta_runner.specs.CoreOneShot.{one_shot}
+use Rattle.delta_session.specs.Programs.{one_shot}
 use Rattle.delta_load.specs.LoadCore.{load_core}
 
 -- the line of a load: its items, its events and bytes, those of what the load's program puts out on it, and the last

@@ -24,17 +24,19 @@ use Rattle.delta_end.specs.declared.end.End.TheVariants.{Done, Open, FileFailed,
 use Rattle.delta_loop.specs.Meaning.{Meaning}
 use Rattle.delta_loop.specs.Loop.{IsWellEnded, Ran}
 use Rattle.delta_runner.specs.declared.runner.Runner.{Runner}
-use Rattle.delta_runner.specs.Standing.{IsOf, StandsFor}
+use Rattle.delta_session.specs.Programs.{IsRunning}
+use Rattle.delta_session.specs.Standing.{IsOf}
+use Rattle.delta_runner.specs.Standing.{StandsFor}
 
 module _ {M : Type 0} (seen : M → MachineView) (stands : M → List StreamEvent → Type 0) (runner : Runner M) where
   -- it stands for some program after some word
   abbrev pub StandsForSome : Type 0
-  StandsForSome = (P : Meaning) × (word : List StreamEvent) × StandsFor seen stands runner P word
+  StandsForSome = (P : Meaning) × (word : List StreamEvent) × StandsFor (IsRunning seen stands) runner P word
 
   -- this holds of what is kept of it and of some bytes of that: of the program that it runs, after the word that it took
   abbrev pub KeptAs : (KeptTree → List ℕ → Type 0) → Type 0
   KeptAs holds =
-      (P : Meaning) (c : CoreProgram) (word : List StreamEvent) → StandsFor seen stands runner P word → IsOf seen runner.session c → length word ≤ 2 ^ 41
+      (P : Meaning) (c : CoreProgram) (word : List StreamEvent) → StandsFor (IsRunning seen stands) runner P word → IsOf seen runner.session c → length word ≤ 2 ^ 41
       → (k : KeptTree) × (places : List ℕ) × IsKept c (input_of c word) k × (k.out ≡ output_left c (input_of c word)) × holds k (kept_bytes k places)
 
 -- what was written are these bytes of a state, of which there are no more than there may be, and the numbers of the state

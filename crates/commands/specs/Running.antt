@@ -10,7 +10,7 @@ use Rattle.checked_program.specs.Acceptance.{IsWritable, IsRefusedToWrite}
 use Rattle.delta_loop.specs.Meaning.{Meaning}
 use Rattle.delta_loop.specs.History.{IsUntouched}
 use Rattle.delta_loop.specs.Loop.{Ran}
-use Rattle.delta_output.specs.OneShot.{meaning_of}
+use Rattle.delta_output.specs.LoopMeaning.{meaning_of}
 use Rattle.output_laws.specs.TreeOneShot.{one_shot_of}
 
 -- the text is accepted, and this is what its program means to the loop: at each event, the frames of the increment

@@ -8,7 +8,7 @@ use Rattle.delta_end.specs.declared.end.End.{End}
 use Rattle.delta_end.specs.declared.end.End.TheVariants.{Refused, Memory}
 use Rattle.checked_program.specs.Acceptance.{IsWritable, IsRefusedToWrite}
 use Rattle.delta_loop.specs.History.{IsUntouched}
-use Rattle.delta_output.specs.OneShot.{meaning_of}
+use Rattle.delta_output.specs.LoopMeaning.{meaning_of}
 use Rattle.output_laws.specs.TreeOneShot.{one_shot_of}
 use Rattle.commands.specs.Leaving.{Saves}
 

@@ -1,17 +1,17 @@
 //! Runs a checked program, and leaves its state on a shelf.
 
-ghost use Rattle.std.specs.Prelude.{◌≡◌, ◌≤◌, ◌<◌, ℕ, List, Option, IsTrue, IfOk, IsErrOf, length};
+ghost use Rattle.std.specs.Prelude.{◌≤◌, ◌<◌, ℕ, List, Option, IsTrue, IfOk, IsErrOf};
 ghost use Rattle.stream_type.specs.StreamType.{reach_of};
 ghost use Rattle.port.specs.declared.link.Move.{Move};
 ghost use Rattle.event_frame.specs.Frames.{longest};
 ghost use Rattle.core_term.specs.CoreTerm.{CoreProgram, core_of, fits_of};
-ghost use Rattle.kept_state.specs.KeptBytes.{most_bytes};
 ghost use Rattle.delta_end.specs.End.{IsOfLoop, FileCause, ReadCause, WriteCause};
 ghost use Rattle.delta_loop.specs.Loop.{IsWellEnded, RanTo};
 ghost use Rattle.delta_loop.specs.Meaning.{Meaning};
-ghost use Rattle.delta_output.specs.OneShot.{meaning_of};
-ghost use Rattle.delta_runner.specs.CoreOneShot.{one_shot};
-ghost use Rattle.delta_runner.specs.Standing.{IsOf, StandsFor};
+ghost use Rattle.delta_output.specs.LoopMeaning.{meaning_of};
+ghost use Rattle.delta_session.specs.Programs.{IsRunning, one_shot};
+ghost use Rattle.delta_session.specs.Standing.{IsOf};
+ghost use Rattle.delta_runner.specs.Standing.{StandsFor};
 ghost use Rattle.commands.specs.Leaving.{StandsForSome, KeptAs, AreIts, AreTooMany, Saves};
 
 use core_term::Checked;
@@ -54,7 +54,7 @@ fn leave<M: Keeping, S: Shelf>(
     requires stands { IsWellEnded end → StandsForSome M.seen M.stands runner.now }
     requires end { IsOfLoop end }
     ensures left { (P : Meaning) (c : CoreProgram) (old new : Option (List Move)) (left0 left1 : Option (List ℕ)) → IsOf M.seen runner.now.session c
-        → RanTo (StandsFor M.seen M.stands) P old new left0 left1 runner.now end
+        → RanTo (StandsFor (IsRunning M.seen M.stands)) P old new left0 left1 runner.now end
         → Saves P c name.now old new left0 left1 (S.holds shelf.old) (S.holds shelf.new) result }
     ensures file { FileCause result (S.faults shelf.old) (S.faults shelf.new) }
     ensures read { (n m : ℕ) → ReadCause end n m → ReadCause result n m }

@@ -9,14 +9,15 @@ ghost use Rattle.event_word.specs.Canon.{canon};
 ghost use Rattle.event_word.specs.Word.{IsWord};
 ghost use Rattle.core_term.specs.CoreTerm.{core_of, fits_of};
 ghost use Rattle.core_term.specs.Meaning.{mean};
-ghost use Rattle.delta_state.specs.MachineView.{input_of, answer_to, IsCostly, IsDeep};
+ghost use Rattle.delta_state.specs.MachineView.{input_of};
 ghost use Rattle.delta_state.specs.Stands.{input_type};
+ghost use Rattle.delta_session.specs.OneShot.{said_to, IsCostly, IsDeep};
 ghost use Rattle.delta_session.specs.Standing.{Stands, WhereItStands, IsOpen};
 ghost use Rattle.commands.specs.Stopping.{StopsForCallsAt, StopsForLevelAt};
 
 use crate::fault::WordFault;
 use core_term::Checked;
-use delta_session::{FeedRefusal, OpenRefusal, Session};
+use delta_session::{Answers, FeedRefusal, OpenRefusal, Session};
 use delta_state::Machine;
 use event_word::Event;
 use std::alloc::Global;
@@ -32,20 +33,20 @@ fn append(said: &mut Vec<Event>, word: Vec<Event>) -> Result<(), Memory>
 }
 
 // Feeds an event that may come next, the one of this number, and appends what is answered.
-fn feed_one<M: Machine>(
+fn feed_one<A: Answers>(
     alloc: Global,
-    session: &mut Session<M>,
+    session: &mut Session<A>,
     event: Event,
     at: u64,
     said: &mut Vec<Event>,
 ) -> Result<(), WordFault>
-    requires open { IsOpen M.seen M.stands session.old }
+    requires open { IsOpen A.stands session.old }
     requires admitted { fault_of event (type_of session.old.rest) ≡ None }
     requires room { session.old.events < 2 ^ 42 }
-    ensures stands { OnOk result (WhereItStands M.seen M.stands session.old (λ c budget word. Stands M.seen M.stands session.new c budget (word ++ event ∷ []))) }
-    ensures said { OnOk result (WhereItStands M.seen M.stands session.old (λ c budget word. said.new.items ≡ said.old.items ++ canon (answer_to c word event))) }
-    ensures costly { (n : ℕ) → IsErrOf result (WordFault.Budget n) → (n ≡ at) × WhereItStands M.seen M.stands session.old (λ c budget word. IsCostly c budget word event) }
-    ensures deep { (n : ℕ) → IsErrOf result (WordFault.Deep n) → (n ≡ at) × WhereItStands M.seen M.stands session.old (λ c budget word. IsDeep c 1000 word event) }
+    ensures stands { OnOk result (WhereItStands A.stands session.old (λ course word. Stands A.stands session.new course (word ++ event ∷ []))) }
+    ensures said { OnOk result (WhereItStands A.stands session.old (λ course word. said.new.items ≡ said.old.items ++ canon (said_to course.gives word event))) }
+    ensures costly { (n : ℕ) → IsErrOf result (WordFault.Budget n) → (n ≡ at) × WhereItStands A.stands session.old (λ course word. IsCostly course.gives course.budget word event) }
+    ensures deep { (n : ℕ) → IsErrOf result (WordFault.Deep n) → (n ≡ at) × WhereItStands A.stands session.old (λ course word. IsDeep course.gives 1000 word event) }
 {
     match session.feed(alloc, event) {
         Ok(word) => Ok(append(said, word)?),

@@ -8,9 +8,9 @@ use Rattle.event_word.specs.Word.{pre}
 use Rattle.event_word.specs.Canon.{canon}
 use Rattle.core_term.specs.Meaning.{horizon, mean, calls_of, level_of}
 use Rattle.delta_state.specs.MachineView.{input_of}
-use Rattle.delta_output.specs.OneShot.{OneShot, said}
+use Rattle.delta_session.specs.OneShot.{OneShot, said}
 use Rattle.delta_output.specs.Spoken.{spoken_after}
-use Rattle.delta_runner.specs.CoreOneShot.{one_shot}
+use Rattle.delta_session.specs.Programs.{one_shot}
 use Rattle.delta_load.specs.Load.{load_type, load}
 use Rattle.delta_load.specs.LoadCore.{load_core}
 use Rattle.delta_load.specs.ProgramLaws.{LoadIsLight, LoadIsAnswered, CoreFitsLoad}

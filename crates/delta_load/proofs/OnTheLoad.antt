@@ -11,12 +11,12 @@ use Rattle.event_word.specs.Word.{IsWord, after, after_word}
 use Rattle.event_word.specs.Canon.{canon}
 use Rattle.event_word.proofs.Walks.{no_fault_is_admitted}
 use Rattle.core_term.specs.CoreTerm.{CoreProgram}
-use Rattle.delta_state.specs.MachineView.{MachineView, answer_to}
 use Rattle.delta_session.specs.declared.session.Session.{Session}
+use Rattle.delta_session.specs.Course.{Course}
 use Rattle.delta_session.specs.Standing.{Stands, IsOpen}
-use Rattle.delta_output.specs.OneShot.{OneShot, said, said_to}
+use Rattle.delta_session.specs.OneShot.{OneShot, said, said_to}
 use Rattle.delta_output.specs.Spoken.{spoken, spoken_after}
-use Rattle.delta_runner.specs.CoreOneShot.{one_shot}
+use Rattle.delta_session.specs.Programs.{one_shot, course_of}
 use Rattle.delta_load.specs.Load.{load_type, load}
 use Rattle.delta_load.proofs.Words.{is_word}
 use Rattle.delta_load.proofs.Places.{length-load}
@@ -75,9 +75,9 @@ module _ (start items i : ℕ) (x : StreamEvent) (is : slice_get (load start ite
       sym (spoken-append P (before ++ x ∷ []) rest) ∙ ap (spoken P) (append_assoc before (x ∷ []) rest ∙ sym load_parted) in
       subst IsLong whole (long-append (spoken P (before ++ x ∷ [])) (spoken_after P (before ++ x ∷ []) rest) (subst IsLong (sym (spoken-push P before x)) long))
 
-  module _ {M : Type 0} (seen : M → MachineView) (stands : M → List StreamEvent → Type 0) (session : Session M) (on : IsOnLoad seen stands session (take i (load start items))) where
-    pub open_here : IsOpen seen stands session
-    open_here = record { program = on.program; budget = 1000000; word = take i (load start items); standing = on.standing }
+  module _ {A : Type 0} (stands : A → Course → List StreamEvent → Type 0) (session : Session A) (on : IsOnLoad stands session (take i (load start items))) where
+    pub open_here : IsOpen stands session
+    open_here = record { course = course_of on.program 1000000; word = take i (load start items); standing = on.standing }
 
     pub admitted_here : fault_of x (type_of session.rest) ≡ None
     admitted_here =
@@ -97,39 +97,39 @@ pub load_whole : (start items i : ℕ) → 5 * items + 1 ≤ i → take i (load 
 load_whole start items i h = let len = length-load start 0 items in take_all i (load start items) (omega (arith, h, len))
 
 -- a session that began with nothing taken, and the totals of what came first, have come to this word with these totals
-pub record Goes {M : Type 0} (seen : M → MachineView) (stands : M → List StreamEvent → Type 0) (began : Session M) (first : Totals) (session : Session M) (totals : Totals) (word : List StreamEvent) : Type 0 where
-  pub on_load : IsOnLoad seen stands session word
-  pub stands_on : (c : CoreProgram) → Stands seen stands began c 1000000 [] → Stands seen stands session c 1000000 word
-  pub counted : (c : CoreProgram) → Stands seen stands began c 1000000 [] → first ≡ totals_of (spoken (one_shot c) []) → totals ≡ totals_of (spoken (one_shot c) word)
+pub record Goes {A : Type 0} (stands : A → Course → List StreamEvent → Type 0) (began : Session A) (first : Totals) (session : Session A) (totals : Totals) (word : List StreamEvent) : Type 0 where
+  pub on_load : IsOnLoad stands session word
+  pub stands_on : (c : CoreProgram) → Stands stands began (course_of c 1000000) [] → Stands stands session (course_of c 1000000) word
+  pub counted : (c : CoreProgram) → Stands stands began (course_of c 1000000) [] → first ≡ totals_of (spoken (one_shot c) []) → totals ≡ totals_of (spoken (one_shot c) word)
 
-module _ (start items i : ℕ) (x : StreamEvent) (is : slice_get (load start items) i ≡ Some x) {M : Type 0} (seen : M → MachineView) (stands : M → List StreamEvent → Type 0)
-    (began : Session M) (first : Totals) (old : Session M) (totals : Totals) (goes : Goes seen stands began first old totals (take i (load start items))) where
+module _ (start items i : ℕ) (x : StreamEvent) (is : slice_get (load start items) i ≡ Some x) {A : Type 0} (stands : A → Course → List StreamEvent → Type 0)
+    (began : Session A) (first : Totals) (old : Session A) (totals : Totals) (goes : Goes stands began first old totals (take i (load start items))) where
   abbrev before : List StreamEvent
   before = take i (load start items)
 
   -- an event on
-  pub goes_on : (new : Session M) (more : Totals)
-      → ((c : CoreProgram) (budget : ℕ) (word : List StreamEvent) → Stands seen stands old c budget word → Stands seen stands new c budget (word ++ x ∷ []))
-      → ((c : CoreProgram) (budget : ℕ) (word : List StreamEvent) → Stands seen stands old c budget word → (said_before : List StreamEvent) → totals ≡ totals_of said_before
-      → more ≡ totals_of (said_before ++ canon (answer_to c word x)))
-      → Goes seen stands began first new more (take (i + 1) (load start items))
+  pub goes_on : (new : Session A) (more : Totals)
+      → ((course : Course) (word : List StreamEvent) → Stands stands old course word → Stands stands new course (word ++ x ∷ []))
+      → ((course : Course) (word : List StreamEvent) → Stands stands old course word → (said_before : List StreamEvent) → totals ≡ totals_of said_before
+      → more ≡ totals_of (said_before ++ canon (said_to course.gives word x)))
+      → Goes stands began first new more (take (i + 1) (load start items))
   goes_on new more next count = record {
     on_load = record {
       program = goes.on_load.program;
-      standing = subst (λ (w : List StreamEvent). Stands seen stands new goes.on_load.program 1000000 w) (sym (load_turn start items i x is)) (next goes.on_load.program 1000000 before goes.on_load.standing);
+      standing = subst (λ (w : List StreamEvent). Stands stands new (course_of goes.on_load.program 1000000) w) (sym (load_turn start items i x is)) (next (course_of goes.on_load.program 1000000) before goes.on_load.standing);
       input = goes.on_load.input;
     };
-    stands_on = λ c s. subst (λ (w : List StreamEvent). Stands seen stands new c 1000000 w) (sym (load_turn start items i x is)) (next c 1000000 before (goes.stands_on c s));
+    stands_on = λ c s. subst (λ (w : List StreamEvent). Stands stands new (course_of c 1000000) w) (sym (load_turn start items i x is)) (next (course_of c 1000000) before (goes.stands_on c s));
     counted = λ c s e.
-        count c 1000000 before (goes.stands_on c s) (spoken (one_shot c) before) (goes.counted c s e)
+        count (course_of c 1000000) before (goes.stands_on c s) (spoken (one_shot c) before) (goes.counted c s e)
         ∙ ap totals_of (sym (spoken-push (one_shot c) before x) ∙ ap (spoken (one_shot c)) (sym (load_turn start items i x is)));
   }
 
   -- or stopped at it
-  pub long_here : ((c : CoreProgram) (budget : ℕ) (word : List StreamEvent) → Stands seen stands old c budget word → (said_before : List StreamEvent) → totals ≡ totals_of said_before
-      → IsLong (said_before ++ canon (answer_to c word x)))
-      → (c : CoreProgram) → Stands seen stands began c 1000000 [] → first ≡ totals_of (spoken (one_shot c) []) → IsLong (spoken (one_shot c) (load start items))
-  long_here long c s e = long_on start items i x is (one_shot c) (long c 1000000 before (goes.stands_on c s) (spoken (one_shot c) before) (goes.counted c s e))
+  pub long_here : ((course : Course) (word : List StreamEvent) → Stands stands old course word → (said_before : List StreamEvent) → totals ≡ totals_of said_before
+      → IsLong (said_before ++ canon (said_to course.gives word x)))
+      → (c : CoreProgram) → Stands stands began (course_of c 1000000) [] → first ≡ totals_of (spoken (one_shot c) []) → IsLong (spoken (one_shot c) (load start items))
+  long_here long c s e = long_on start items i x is (one_shot c) (long (course_of c 1000000) before (goes.stands_on c s) (spoken (one_shot c) before) (goes.counted c s e))
 
 -- what a session that has just opened said is counted first
 pub counted_first : (c : CoreProgram) (first : Totals) (word said_first : List StreamEvent) → first ≡ totals_of word → word ≡ said_first → said_first ≡ canon (said (one_shot c) []) → first ≡ totals_of (spoken (one_shot c) [])

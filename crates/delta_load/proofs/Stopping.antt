@@ -5,7 +5,7 @@ use Rattle.event_frame.specs.declared.version.Version.TheVariants.{V1}
 use Rattle.event_frame.specs.Frames.{frames}
 use Rattle.core_term.specs.CoreTerm.{CoreProgram}
 use Rattle.delta_output.specs.Spoken.{spoken}
-use Rattle.delta_runner.specs.CoreOneShot.{one_shot}
+use Rattle.delta_session.specs.Programs.{one_shot}
 use Rattle.delta_load.specs.Load.{value_of, load}
 use Rattle.delta_load.specs.Counting.{stream_bytes, IsLong}
 use Rattle.delta_load.specs.Stopping.{StopsForCalls, StopsForLevel}

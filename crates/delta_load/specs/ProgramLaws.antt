@@ -6,7 +6,7 @@ use Rattle.core_term.specs.Meaning.{calls_of, level_of}
 use Rattle.delta_state.specs.MachineView.{input_of}
 use Rattle.delta_state.specs.Stands.{input_type}
 use Rattle.delta_output.specs.Spoken.{spoken}
-use Rattle.delta_runner.specs.CoreOneShot.{one_shot}
+use Rattle.delta_session.specs.Programs.{one_shot}
 use Rattle.checked_program.specs.Acceptance.{IsAcceptedAs}
 use Rattle.delta_load.specs.Load.{load_type, load}
 use Rattle.delta_load.specs.LoadText.{load_text, load_tree}

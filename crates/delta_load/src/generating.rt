@@ -3,7 +3,7 @@
 ghost use Rattle.std.specs.Prelude.{◌≡◌, ◌≤◌, IfOk, string_bytes};
 ghost use Rattle.core_term.specs.CoreTerm.{core_of};
 ghost use Rattle.delta_output.specs.Spoken.{spoken};
-ghost use Rattle.delta_runner.specs.CoreOneShot.{one_shot};
+ghost use Rattle.delta_session.specs.Programs.{one_shot};
 ghost use Rattle.delta_load.specs.Load.{load};
 ghost use Rattle.delta_load.specs.Counting.{totals_of};
 ghost use Rattle.delta_load.specs.Summary.{summary_of};

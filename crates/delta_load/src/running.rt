@@ -1,16 +1,16 @@
 //! A program run on the load.
 
-ghost use Rattle.std.specs.Prelude.{◌≡◌, ◌≤◌, ◌<◌, ◌^◌, ◌++◌, ◌∷◌, [], ℕ, List, None, IsTrue, IfOk, OnOk, IsErrOf};
+ghost use Rattle.std.specs.Prelude.{◌≡◌, ◌≤◌, ◌<◌, ◌^◌, ◌++◌, ◌∷◌, [], List, None, IsTrue, IfOk, OnOk, IsErrOf};
 ghost use Rattle.stream_type.specs.StreamType.{type_of};
 ghost use Rattle.event_word.specs.StreamEvent.{StreamEvent};
 ghost use Rattle.event_word.specs.EventFault.{fault_of};
 ghost use Rattle.event_word.specs.Canon.{canon};
 ghost use Rattle.core_term.specs.CoreTerm.{CoreProgram, core_of, fits_of};
-ghost use Rattle.delta_state.specs.MachineView.{answer_to, IsCostly, IsDeep};
 ghost use Rattle.delta_state.specs.Stands.{input_type};
+ghost use Rattle.delta_session.specs.OneShot.{said_to, IsCostly, IsDeep};
 ghost use Rattle.delta_session.specs.Standing.{Stands, WhereItStands, IsOpen};
 ghost use Rattle.delta_output.specs.Spoken.{spoken};
-ghost use Rattle.delta_runner.specs.CoreOneShot.{one_shot};
+ghost use Rattle.delta_session.specs.Programs.{one_shot, course_of};
 ghost use Rattle.delta_load.specs.Load.{load_type, load};
 ghost use Rattle.delta_load.specs.Counting.{totals_of, IsLong};
 ghost use Rattle.delta_load.specs.Standing.{IsOnLoad};
@@ -19,7 +19,7 @@ ghost use Rattle.delta_load.specs.Stopping.{IsMet, StopsForCalls, StopsForLevel}
 use crate::generator::gen_event;
 use crate::totals::Totals;
 use core_term::Checked;
-use delta_session::{FeedRefusal, OpenRefusal, Session};
+use delta_session::{Answers, FeedRefusal, OpenRefusal, Session};
 use delta_state::Machine;
 use event_word::Event;
 use std::alloc::Global;
@@ -41,22 +41,22 @@ pub enum LoadFault {
 }
 
 // Feeds an event that may come next, and counts what is answered.
-fn feed_one<M: Machine>(
+fn feed_one<A: Answers>(
     alloc: Global,
-    session: &mut Session<M>,
+    session: &mut Session<A>,
     x: Event,
     totals: Totals,
 ) -> Result<Totals, LoadFault>
-    requires open { IsOpen M.seen M.stands session.old }
+    requires open { IsOpen A.stands session.old }
     requires admitted { fault_of x (type_of session.old.rest) ≡ None }
     requires room { session.old.events < 2 ^ 42 }
-    ensures stands { OnOk result (WhereItStands M.seen M.stands session.old (λ c budget word. Stands M.seen M.stands session.new c budget (word ++ x ∷ []))) }
-    ensures counted { IfOk result (λ t. WhereItStands M.seen M.stands session.old (λ c budget word.
-        (before : List StreamEvent) → totals ≡ totals_of before → t ≡ totals_of (before ++ canon (answer_to c word x)))) }
-    ensures costly { IsErrOf result LoadFault.Budget → WhereItStands M.seen M.stands session.old (λ c budget word. IsCostly c budget word x) }
-    ensures deep { IsErrOf result LoadFault.Deep → WhereItStands M.seen M.stands session.old (λ c budget word. IsDeep c 1000 word x) }
-    ensures long { IsErrOf result LoadFault.Long → WhereItStands M.seen M.stands session.old (λ c budget word.
-        (before : List StreamEvent) → totals ≡ totals_of before → IsLong (before ++ canon (answer_to c word x))) }
+    ensures stands { OnOk result (WhereItStands A.stands session.old (λ course word. Stands A.stands session.new course (word ++ x ∷ []))) }
+    ensures counted { IfOk result (λ t. WhereItStands A.stands session.old (λ course word.
+        (before : List StreamEvent) → totals ≡ totals_of before → t ≡ totals_of (before ++ canon (said_to course.gives word x)))) }
+    ensures costly { IsErrOf result LoadFault.Budget → WhereItStands A.stands session.old (λ course word. IsCostly course.gives course.budget word x) }
+    ensures deep { IsErrOf result LoadFault.Deep → WhereItStands A.stands session.old (λ course word. IsDeep course.gives 1000 word x) }
+    ensures long { IsErrOf result LoadFault.Long → WhereItStands A.stands session.old (λ course word.
+        (before : List StreamEvent) → totals ≡ totals_of before → IsLong (before ++ canon (said_to course.gives word x))) }
 {
     match session.feed(alloc, x) {
         Ok(word) => match totals.with_word(&word) {
@@ -72,21 +72,21 @@ fn feed_one<M: Machine>(
 }
 
 // Feeds the whole load to a session that has taken nothing yet, and counts what is answered with what came first.
-fn feed_load<M: Machine>(
+fn feed_load<A: Answers>(
     alloc: Global,
-    session: &mut Session<M>,
+    session: &mut Session<A>,
     first: Totals,
     start: u64,
     items: u64,
 ) -> Result<Totals, LoadFault>
-    requires begun { IsOnLoad M.seen M.stands session.old [] }
+    requires begun { IsOnLoad A.stands session.old [] }
     requires start { start ≤ 999999 }
     requires items { items ≤ 10000000 }
-    ensures counted { IfOk result (λ t. (c : CoreProgram) → Stands M.seen M.stands session.old c 1000000 [] → first ≡ totals_of (spoken (one_shot c) [])
+    ensures counted { IfOk result (λ t. (c : CoreProgram) → Stands A.stands session.old (course_of c 1000000) [] → first ≡ totals_of (spoken (one_shot c) [])
         → t ≡ totals_of (spoken (one_shot c) (load start items))) }
-    ensures costly { IsErrOf result LoadFault.Budget → (c : CoreProgram) → Stands M.seen M.stands session.old c 1000000 [] → IsMet (IsCostly c 1000000) (load start items) }
-    ensures deep { IsErrOf result LoadFault.Deep → (c : CoreProgram) → Stands M.seen M.stands session.old c 1000000 [] → IsMet (IsDeep c 1000) (load start items) }
-    ensures long { IsErrOf result LoadFault.Long → (c : CoreProgram) → Stands M.seen M.stands session.old c 1000000 [] → first ≡ totals_of (spoken (one_shot c) [])
+    ensures costly { IsErrOf result LoadFault.Budget → (c : CoreProgram) → Stands A.stands session.old (course_of c 1000000) [] → IsMet (IsCostly (one_shot c) 1000000) (load start items) }
+    ensures deep { IsErrOf result LoadFault.Deep → (c : CoreProgram) → Stands A.stands session.old (course_of c 1000000) [] → IsMet (IsDeep (one_shot c) 1000) (load start items) }
+    ensures long { IsErrOf result LoadFault.Long → (c : CoreProgram) → Stands A.stands session.old (course_of c 1000000) [] → first ≡ totals_of (spoken (one_shot c) [])
         → IsLong (spoken (one_shot c) (load start items)) }
 {
     let mut totals = first;

@@ -19,7 +19,7 @@ use Rattle.delta_tree.specs.SyntaxTree.{ProgramTree}
 use Rattle.core_term.specs.CoreTerm.{CoreProgram}
 use Rattle.delta_state.specs.MachineView.{input_of}
 use Rattle.delta_state.specs.Stands.{input_type, output_left}
-use Rattle.delta_session.specs.Standing.{CanRun}
+use Rattle.delta_session.specs.Programs.{CanRun, one_shot}
 use Rattle.kept_state.specs.KeptTree.{KeptTree}
 use Rattle.kept_state.specs.KeptMeaning.{input_kept}
 use Rattle.kept_state.specs.KeptBytes.{most_bytes}
@@ -40,8 +40,8 @@ use Rattle.delta_loop.specs.Output.{up_to_fault, accepted, accepted_after, outpu
 use Rattle.delta_loop.specs.Loop.{IsWellEnded}
 use Rattle.delta_loop.specs.Answer.{Adds}
 use Rattle.delta_loop.proofs.Outputs.{accepted-append}
-use Rattle.delta_output.specs.OneShot.{OneShot, meaning_of}
-use Rattle.delta_runner.specs.CoreOneShot.{one_shot}
+use Rattle.delta_session.specs.OneShot.{OneShot}
+use Rattle.delta_output.specs.LoopMeaning.{meaning_of}
 use Rattle.output_laws.specs.TreeOneShot.{one_shot_of}
 use Rattle.output_laws.proofs.Meant.{same_one_shot}
 use Rattle.kept_runner.specs.KeptOneShot.{meaning_since}

@@ -28,7 +28,7 @@ use Rattle.delta_loop.specs.Return.{IsWithinLimit}
 use Rattle.delta_loop.specs.Loop.{Ran, IsWellEnded}
 use Rattle.delta_loop.specs.Answer.{Adds, ReadsWell, IsGood, IsCheap, WroteAll}
 use Rattle.delta_loop.proofs.Completeness.{wrote_all}
-use Rattle.delta_output.specs.OneShot.{meaning_of}
+use Rattle.delta_output.specs.LoopMeaning.{meaning_of}
 use Rattle.output_laws.specs.TreeOneShot.{one_shot_of}
 use Rattle.commands.specs.Running.{RanIts}
 use Rattle.commands.specs.Leaving.{Way, IsSaved}

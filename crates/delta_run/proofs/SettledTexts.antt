@@ -10,7 +10,7 @@ use Rattle.delta_end.specs.Status.{IsStatus}
 use Rattle.checked_program.proofs.OneAnswer.{accepted_is_one}
 use Rattle.delta_loop.specs.Meaning.{Meaning}
 use Rattle.delta_loop.specs.Loop.{Ran}
-use Rattle.delta_output.specs.OneShot.{meaning_of}
+use Rattle.delta_output.specs.LoopMeaning.{meaning_of}
 use Rattle.output_laws.specs.TreeOneShot.{one_shot_of}
 use Rattle.commands.specs.Running.{RanIts}
 use Rattle.delta_run.specs.Text.{RanText}

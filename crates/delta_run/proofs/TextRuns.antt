@@ -18,7 +18,7 @@ use Rattle.delta_loop.specs.Loop.{Ran}
 use Rattle.delta_loop.specs.Answer.{Adds, ReadsWell}
 use Rattle.delta_loop.proofs.Returning.{adds_none, ran_prompt, ran_reads, returned, unread}
 use Rattle.delta_loop.proofs.Completeness.{good_end, good_status}
-use Rattle.delta_output.specs.OneShot.{meaning_of}
+use Rattle.delta_output.specs.LoopMeaning.{meaning_of}
 use Rattle.output_laws.specs.TreeOneShot.{one_shot_of}
 use Rattle.commands.specs.Running.{RanIts, RunsText}
 use Rattle.delta_run.specs.Text.{RanText, RunsPromptly, RunsIts, RunsMoves, RunsWell}

@@ -26,7 +26,7 @@ use Rattle.checked_program.specs.Acceptance.{IsWritable}
 use Rattle.delta_loop.specs.History.{IsUntouched}
 use Rattle.delta_loop.specs.Loop.{IsWellEnded}
 use Rattle.delta_loop.specs.Answer.{Adds, IsGood, IsCheap, WroteAll}
-use Rattle.delta_output.specs.OneShot.{meaning_of}
+use Rattle.delta_output.specs.LoopMeaning.{meaning_of}
 use Rattle.output_laws.specs.TreeOneShot.{one_shot_of}
 use Rattle.commands.specs.Saving.{SavesText}
 use Rattle.delta_run.specs.Text.{RunsMoves}

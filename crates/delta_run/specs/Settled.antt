@@ -12,7 +12,7 @@ use Rattle.delta_loop.specs.Meaning.{Meaning}
 use Rattle.delta_loop.specs.Finding.{finding}
 use Rattle.delta_loop.specs.Output.{accepted, due}
 use Rattle.delta_loop.specs.Answer.{Adds}
-use Rattle.delta_output.specs.OneShot.{meaning_of}
+use Rattle.delta_output.specs.LoopMeaning.{meaning_of}
 use Rattle.output_laws.specs.TreeOneShot.{one_shot_of}
 
 -- the input was refused, or it ended where it may end, or where more is awaited, or it is too long

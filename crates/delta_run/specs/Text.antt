@@ -12,7 +12,7 @@ use Rattle.delta_loop.specs.History.{IsUntouched}
 use Rattle.delta_loop.specs.Output.{due}
 use Rattle.delta_loop.specs.Prompt.{IsPrompt}
 use Rattle.delta_loop.specs.Answer.{AtReturn, IsComplete}
-use Rattle.delta_output.specs.OneShot.{meaning_of}
+use Rattle.delta_output.specs.LoopMeaning.{meaning_of}
 use Rattle.output_laws.specs.TreeOneShot.{one_shot_of}
 use Rattle.commands.specs.Running.{IsMeant, RunsText}
 

@@ -7,8 +7,8 @@ ghost use Rattle.event_frame.specs.Frames.{longest};
 ghost use Rattle.delta_loop.specs.declared.stopping.Stop.{Stop};
 ghost use Rattle.delta_loop.specs.Stopping.{StopsFor};
 ghost use Rattle.delta_loop.specs.Meaning.{HasBegun};
-ghost use Rattle.delta_output.specs.OneShot.{meaning_of};
-ghost use Rattle.delta_runner.specs.CoreOneShot.{one_shot};
+ghost use Rattle.delta_output.specs.LoopMeaning.{meaning_of};
+ghost use Rattle.delta_session.specs.Programs.{one_shot};
 
 use crate::runner::{self, BeginFault, Runner};
 use core_term::Checked;

@@ -6,8 +6,8 @@ ghost use Rattle.core_term.specs.CoreTerm.{core_of, fits_of};
 ghost use Rattle.event_frame.specs.Frames.{longest};
 ghost use Rattle.delta_end.specs.End.{ReadCause, WriteCause};
 ghost use Rattle.delta_loop.specs.Loop.{Ran};
-ghost use Rattle.delta_output.specs.OneShot.{meaning_of};
-ghost use Rattle.delta_runner.specs.CoreOneShot.{one_shot};
+ghost use Rattle.delta_output.specs.LoopMeaning.{meaning_of};
+ghost use Rattle.delta_session.specs.Programs.{one_shot};
 
 use crate::begins::Begins;
 use crate::runner::BeginFault;

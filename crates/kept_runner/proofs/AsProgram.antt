@@ -13,7 +13,7 @@ use Rattle.core_term.specs.CoreTerm.{CoreProgram}
 use Rattle.core_term.specs.Meaning.{mean, calls_of, level_of}
 use Rattle.delta_state.specs.MachineView.{input_of, answer_to, IsCostly, IsDeep}
 use Rattle.delta_state.specs.Stands.{input_type, output_left}
-use Rattle.delta_session.specs.Standing.{CanRun}
+use Rattle.delta_session.specs.Programs.{CanRun}
 use Rattle.event_word.specs.Admits.{Admits}
 use Rattle.state_steps.proofs.LongerWords.{event_follows, prefix_with_event}
 use Rattle.state_steps.proofs.RunnablePrograms.{mean_derives}
@@ -23,7 +23,9 @@ use Rattle.kept_state.specs.Laws.{IsKept, input_since, event_since}
 use Rattle.kept_state.proofs.KeptSteps.{kept_derives}
 use Rattle.machine_kept.specs.SinceView.{answer_since, IsCostlySince, IsDeepSince}
 use Rattle.kept_runner.specs.SessionLaws.{IsAsProgram, GoesOnAsProgram}
-use Rattle.kept_runner.proofs.KeptGrowth.{runnable, said_grows}
+use Rattle.delta_session.proofs.Growth.{revises_nothing}
+use Rattle.kept_runner.specs.KeptOneShot.{one_shot_kept}
+use Rattle.kept_runner.proofs.KeptGrowth.{runnable, since_grows}
 
 -- what is left after two words, one after the other
 after_word-append : (v w : List StreamEvent) (s : StreamType) → after_word (v ++ w) s ≡ after_word w (after_word v s)
@@ -74,7 +76,7 @@ module _ (c : CoreProgram) (can : CanRun c) (k : KeptTree) (before : List Stream
     with_event = prefix_with_event (input_kept c k) word x comes admits
 
     grows : IsPart k.out (mean_kept c k (input_since c k word)) (mean_kept c k (input_since c k (word ++ x ∷ [])))
-    grows = said_grows c can k kept.is_typed word comes x admits
+    grows = revises_nothing (one_shot_kept c k) (since_grows c can k kept.is_typed) word (x ∷ []) both
 
     -- what the program says to the event is what the kept state says
     answers : answer_since c k word x ≡ answer_to c (before ++ word) x

@@ -9,18 +9,17 @@ use Rattle.event_frame.specs.Frames.{frames}
 use Rattle.core_term.specs.CoreTerm.{CoreProgram}
 use Rattle.delta_state.specs.MachineView.{input_of}
 use Rattle.delta_state.specs.Stands.{input_type, output_left}
-use Rattle.delta_session.specs.Standing.{CanRun}
+use Rattle.delta_session.specs.Programs.{CanRun, one_shot}
 use Rattle.kept_state.specs.KeptTree.{KeptTree}
 use Rattle.kept_state.specs.KeptMeaning.{input_kept}
 use Rattle.kept_state.specs.Laws.{IsKept}
 use Rattle.kept_runner.proofs.AsProgram.{goes_on_as_program}
 use Rattle.delta_loop.specs.Output.{answers_after, output}
 use Rattle.delta_loop.proofs.Outputs.{output-append}
-use Rattle.delta_output.specs.OneShot.{meaning_of}
-use Rattle.delta_runner.specs.CoreOneShot.{one_shot}
+use Rattle.delta_output.specs.LoopMeaning.{meaning_of}
 use Rattle.kept_runner.specs.KeptOneShot.{meaning_since}
 use Rattle.kept_runner.specs.OutputLaws.{RunsJoin}
-use Rattle.kept_runner.proofs.Stepping.{first_is_nothing}
+use Rattle.kept_runner.proofs.KeptGrowth.{first_is_nothing}
 
 module _ (c : CoreProgram) (k : KeptTree) (v : Version) (budget later : ℕ) (before : List StreamEvent) (can : CanRun c) (came : IsWord (input_type c) before) (kept : IsKept c (input_of c before) k)
     (left : k.out ≡ output_left c (input_of c before)) where

@@ -16,8 +16,8 @@ use Rattle.delta_end.specs.declared.end.InputFault.TheVariants.{Event}
 use Rattle.delta_loop.specs.Meaning.{Meaning}
 use Rattle.delta_loop.specs.Output.{due, output}
 use Rattle.delta_loop.specs.Finding.{finding}
-use Rattle.delta_output.specs.OneShot.{meaning_of}
-use Rattle.delta_runner.specs.CoreOneShot.{one_shot}
+use Rattle.delta_output.specs.LoopMeaning.{meaning_of}
+use Rattle.delta_session.specs.Programs.{one_shot}
 use Rattle.kept_runner.specs.KeptOneShot.{meaning_since}
 
 -- `main(x : Int . Int) : Int . Int = x`

@@ -16,13 +16,14 @@ use Rattle.core_term.specs.CoreTerm.{CoreProgram, var_term}
 use Rattle.delta_state.specs.StateTree.{LaterTree, var_state}
 use Rattle.delta_state.specs.Stands.{depth_after}
 use Rattle.delta_session.specs.declared.refusal.Cause.TheVariants.{Memory}
+use Rattle.delta_session.specs.declared.session.Life.TheVariants.{Closed}
+use Rattle.delta_session.specs.declared.session.Session.{Session}
+use Rattle.delta_session.specs.Standing.{HasTaken}
 use Rattle.kept_state.specs.KeptTree.{KeptTree}
 use Rattle.kept_state.specs.KeptTyping.{IsTypedKept}
 use Rattle.kept_state.specs.KeptMeaning.{input_kept}
 use Rattle.machine_kept.specs.SinceView.{answer_since}
-use Rattle.kept_runner.specs.declared.session.Life.TheVariants.{Closed}
-use Rattle.kept_runner.specs.declared.session.Resumed.{Resumed}
-use Rattle.kept_runner.specs.SessionStanding.{HasTaken}
+use Rattle.kept_runner.specs.SinceCourse.{course_since}
 
 -- `main(x : Int . Int) : Int . Int = x`
 abbrev two_numbers : CoreProgram
@@ -65,8 +66,8 @@ half_to_five : canon (answer_since two_numbers half_way (mark ∷ []) five) ≡ 
 half_to_five = refl
 
 -- one that took the mark and was closed at the number has taken the mark alone, its second event
-abbrev closed_at_five : Resumed ℕ
+abbrev closed_at_five : Session ℕ
 closed_at_five = record { life = Closed Memory; rest = IntType; output = IntType; events = 2 }
 
-closed_has_taken : HasTaken closed_at_five two_numbers half_way (mark ∷ [])
+closed_has_taken : HasTaken closed_at_five (course_since two_numbers half_way 1000) (mark ∷ [])
 closed_has_taken = record { rest_is = refl; count = refl }

@@ -9,12 +9,13 @@ use Rattle.core_term.specs.CoreTerm.{CoreProgram}
 use Rattle.kept_state.specs.KeptTree.{KeptTree}
 use Rattle.kept_state.specs.KeptMeaning.{input_kept, mean_kept, calls_kept, level_kept}
 use Rattle.delta_loop.specs.Meaning.{Meaning}
-use Rattle.delta_output.specs.OneShot.{OneShot, meaning_of}
+use Rattle.delta_session.specs.OneShot.{OneShot}
+use Rattle.delta_output.specs.LoopMeaning.{meaning_under}
 
 -- what it gives, the calls that it makes, and the greatest level of one
 abbrev pub one_shot_kept : CoreProgram → KeptTree → OneShot
 one_shot_kept c k = record { input = input_kept c k; result = k.out; gives = mean_kept c k; calls = calls_kept c k; level = level_kept c k }
 
--- what it means to the loop, in a version and with so many calls at each event: what it gives means, without a header
+-- what it means to the loop, in a version and with so many calls at each event
 abbrev pub meaning_since : Version → ℕ → CoreProgram → KeptTree → Meaning
-meaning_since v budget c k = record (meaning_of v budget (one_shot_kept c k)) { version = None }
+meaning_since v budget c k = meaning_under None v budget (one_shot_kept c k)

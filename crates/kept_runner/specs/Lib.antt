@@ -1,6 +1,5 @@
 -- Definitions that the contracts cite.
-pub mod SessionStanding
-pub mod SessionLaws
 pub mod KeptOneShot
-pub mod RunnerStanding
+pub mod SinceCourse
+pub mod SessionLaws
 pub mod OutputLaws

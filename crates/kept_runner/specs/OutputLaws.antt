@@ -13,16 +13,15 @@ use Rattle.event_frame.specs.Frames.{frames}
 use Rattle.core_term.specs.CoreTerm.{CoreProgram}
 use Rattle.delta_state.specs.MachineView.{input_of}
 use Rattle.delta_state.specs.Stands.{input_type, output_left}
-use Rattle.delta_session.specs.Standing.{CanRun}
+use Rattle.delta_session.specs.Programs.{CanRun, one_shot}
 use Rattle.kept_state.specs.KeptTree.{KeptTree}
 use Rattle.kept_state.specs.KeptTyping.{IsTypedKept}
 use Rattle.kept_state.specs.KeptMeaning.{input_kept}
 use Rattle.kept_state.specs.Laws.{IsKept}
 use Rattle.delta_loop.specs.Output.{output}
-use Rattle.delta_output.specs.OneShot.{meaning_of}
+use Rattle.delta_output.specs.LoopMeaning.{meaning_of}
 use Rattle.delta_output.specs.Spoken.{spoken}
 use Rattle.delta_output.specs.Spoken as spoken_words
-use Rattle.delta_runner.specs.CoreOneShot.{one_shot}
 use Rattle.kept_runner.specs.KeptOneShot.{one_shot_kept, meaning_since}
 
 -- what is written is the frames of the events that are put out, without a header, whoever wrote the kept state

@@ -11,7 +11,7 @@ use Rattle.event_word.specs.Word.{IsWord, after_word}
 use Rattle.core_term.specs.CoreTerm.{CoreProgram}
 use Rattle.delta_state.specs.MachineView.{input_of, answer_to, IsCostly, IsDeep}
 use Rattle.delta_state.specs.Stands.{input_type, output_left}
-use Rattle.delta_session.specs.Standing.{CanRun}
+use Rattle.delta_session.specs.Programs.{CanRun}
 use Rattle.kept_state.specs.KeptTree.{KeptTree}
 use Rattle.kept_state.specs.KeptMeaning.{input_kept}
 use Rattle.kept_state.specs.Laws.{IsKept}

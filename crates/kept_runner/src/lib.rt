@@ -1,12 +1,12 @@
-//! A program that goes on from a kept state, over any machine that can: its session, which takes events one by one and
-//! answers each; that session to the loop, with the frames of what it answers; and the run of it over a link.
+//! A program that goes on from a kept state, over any machine that can: that machine as what a session runs, its session
+//! and its runner, the run of it over a link, and the laws that tie it to the program of which the state was kept.
 #![tactic(auto)]
 
 pub mod laws;
-mod runner;
+mod resuming;
 mod running;
-mod session;
+mod woken;
 
-pub use runner::{ResumedRunner, begin};
+pub use resuming::{begin, resume};
 pub use running::run_kept;
-pub use session::Resumed;
+pub use woken::Woken;

@@ -10,7 +10,7 @@ ghost use Rattle.delta_end.specs.End.{ReadCause, WriteCause};
 ghost use Rattle.delta_loop.specs.Loop.{Ran};
 ghost use Rattle.kept_runner.specs.KeptOneShot.{meaning_since};
 
-use crate::runner::begin;
+use crate::resuming::begin;
 use core_term::Checked;
 use delta_end::End;
 use delta_keep::Kept;

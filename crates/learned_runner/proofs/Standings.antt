@@ -1,5 +1,5 @@
 -- What a run keeps, wherever it stands, is what machines keep: so what is proved of sessions of machines holds of it.
-use Rattle.std.proofs.Common.{◌≡◌, ℕ, ◌≤◌, List, refl, true, sym, subst}
+use Rattle.std.proofs.Common.{◌≡◌, ℕ, ◌≤◌, List, refl, true, ap, sym, subst, ◌∙◌, arith}
 use Rattle.stream_type.specs.StreamType.{StreamType, null_of, reach_of}
 use Rattle.stream_prefix.specs.StreamPrefix.{is_maximal, IsPrefix}
 use Rattle.event_word.specs.StreamEvent.{StreamEvent, IsWithin}
@@ -16,9 +16,10 @@ use Rattle.delta_state.specs.MachineView.{MachineView, StandsAfter, answer_to, i
 use Rattle.delta_state.specs.Stands.{input_type, output_left}
 use Rattle.machine_parts.specs.AwaitedTree.{AwaitedTree, place_in}
 use Rattle.machine_kept.specs.Keeping.{KeepsTidy}
-use Rattle.delta_session.specs.Standing.{CanRun, IsAt}
-use Rattle.delta_session.proofs.Growth.{answer_is_prefix, left_falls, left_is_narrow}
-use Rattle.delta_session.proofs.WholeOutput.{whole_at_end}
+use Rattle.delta_session.specs.OneShot.{Grows}
+use Rattle.delta_session.specs.Programs.{CanRun, one_shot}
+use Rattle.delta_session.proofs.Growth.{left_falls, next_comes, said_fits}
+use Rattle.delta_session.proofs.RunningPrograms.{program_grows, ends_whole}
 use Rattle.delta_runner.proofs.Stepping.{answer_within}
 
 -- how machines are seen that keep this
@@ -44,34 +45,27 @@ module _ (c : CoreProgram) (budget : ℕ) (s : StateTree) (a : AwaitedTree) (inp
   next_admits x admits = subst (λ (t : StreamType). Admits t x) k.below.keeps.keeps.is_input admits
 
   module _ (can : CanRun c) where
-    is_at : IsAt (λ (v : MachineView). v) StandsAfter (seen_with c budget s a events spent) input output c budget word
-    is_at = record {
-      can_run = can;
-      program = refl;
-      budget_is = refl;
-      state = stands_after;
-      comes = k.below.keeps.keeps.is_word;
-      rest_is = k.below.keeps.keeps.is_input;
-      output_is = k.below.keeps.keeps.is_output;
-    }
+    grows : Grows (one_shot c)
+    grows = program_grows c can
 
     -- once the whole of the input has come, what was said is whole
     pub is_whole : null_of input ≡ true → is_maximal (mean c (input_of c word)) ≡ true
-    is_whole = whole_at_end (λ (v : MachineView). v) StandsAfter (λ v w h. h) (seen_with c budget s a events spent) input output c budget word is_at
+    is_whole ended = ends_whole (seen_with c budget s a events spent) word can stands_after (ap null_of (sym k.below.keeps.keeps.is_input) ∙ ended)
 
     -- what is left of the output's type has no longer paths than frames have
     pub is_narrow : reach_of output ≤ 63
-    is_narrow = subst (λ (t : StreamType). reach_of t ≤ 63) (sym k.below.keeps.keeps.is_output) (left_is_narrow c can word k.below.keeps.keeps.is_word)
+    is_narrow =
+        let falls = left_falls (one_shot c) grows word k.below.keeps.keeps.is_word in
+        let narrow : reach_of (output_left c (input_of c word)) ≤ 63 = omega (arith, falls, can.narrow) in
+        subst (λ (t : StreamType). reach_of t ≤ 63) (sym k.below.keeps.keeps.is_output) narrow
 
     module _ (x : StreamEvent) (admits : Admits input x) where
       -- the answer to an event is of what is left of the output's type,
       pub fits : IsPrefix output (answer_to c word x)
       fits =
           subst (λ (t : StreamType). IsPrefix t (answer_to c word x)) (sym k.below.keeps.keeps.is_output)
-          (answer_is_prefix c can word k.below.keeps.keeps.is_word x (next_admits x admits))
+          (said_fits (one_shot c) grows word x (next_comes (one_shot c) grows word x k.below.keeps.keeps.is_word (next_admits x admits)))
 
       -- and short enough for the frames of a version
       pub within : (v : Version) → reach_of c.main.result ≤ longest v → IsWithin (longest v) (canon (answer_to c word x))
-      within v short =
-          answer_within v c can word x short (output_left c (input_of c word))
-          (answer_is_prefix c can word k.below.keeps.keeps.is_word x (next_admits x admits)) (left_falls c can word k.below.keeps.keeps.is_word)
+      within v short = answer_within v (one_shot c) grows short word x k.below.keeps.keeps.is_word (next_admits x admits)

@@ -7,7 +7,7 @@ use Rattle.event_word.specs.Canon.{canon}
 use Rattle.event_frame.specs.declared.version.Version.{Version}
 use Rattle.event_frame.specs.Frames.{frames, longest}
 use Rattle.delta_state.specs.MachineView.{answer_to}
-use Rattle.delta_session.specs.Standing.{CanRun}
+use Rattle.delta_session.specs.Programs.{CanRun}
 use Rattle.delta_code.specs.declared.machine.Coded.{Coded}
 use Rattle.delta_code.specs.CodedView.{program_of, CodedStands}
 

@@ -9,10 +9,9 @@ use Rattle.event_word.specs.StreamEvent.{StreamEvent}
 use Rattle.event_frame.specs.declared.version.Version.{Version}
 use Rattle.event_frame.specs.Frames.{longest}
 use Rattle.core_term.specs.CoreTerm.{CoreProgram}
-use Rattle.delta_session.specs.Standing.{CanRun}
+use Rattle.delta_session.specs.Programs.{CanRun, one_shot}
 use Rattle.delta_loop.specs.Meaning.{Meaning}
-use Rattle.delta_output.specs.OneShot.{meaning_of}
-use Rattle.delta_runner.specs.CoreOneShot.{one_shot}
+use Rattle.delta_output.specs.LoopMeaning.{meaning_of}
 use Rattle.machine_kept.specs.Keeping.{KeepsTidy}
 use Rattle.filled_states.specs.Shape.{filled}
 use Rattle.delta_code.specs.declared.machine.Coded.{Coded}

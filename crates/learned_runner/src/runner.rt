@@ -13,8 +13,8 @@ ghost use Rattle.stream_prefix.specs.Tree.{prefix_of};
 ghost use Rattle.delta_loop.specs.declared.stopping.Stop.{Stop};
 ghost use Rattle.delta_loop.specs.Stopping.{StopsFor};
 ghost use Rattle.delta_loop.specs.Meaning.{Meaning, Stands, HasBegun, IsCostly, IsDeep};
-ghost use Rattle.delta_output.specs.OneShot.{meaning_of};
-ghost use Rattle.delta_runner.specs.CoreOneShot.{one_shot};
+ghost use Rattle.delta_output.specs.LoopMeaning.{meaning_of};
+ghost use Rattle.delta_session.specs.Programs.{one_shot};
 ghost use Rattle.delta_code.specs.CodedView.{program_of};
 ghost use Rattle.learned_runner.specs.Standing.{StandsFor, IsOfSame, StandsAsBefore, HasTaken};
 

@@ -16,9 +16,9 @@ use Rattle.delta_meaning.proofs.WholePrograms.{core_keeps_meaning}
 use Rattle.delta_meaning.proofs.KeptTypes.{elaborated_has_types}
 use Rattle.delta_elab.specs.Accepted.{IsAccepted}
 use Rattle.delta_elab.proofs.Accepting.{accepted_grows, accepted_is_whole}
-use Rattle.delta_output.specs.OneShot.{OneShot, Grows}
+use Rattle.delta_session.specs.OneShot.{OneShot, Grows}
 use Rattle.delta_output.proofs.Speaking as speaking
-use Rattle.delta_runner.specs.CoreOneShot.{one_shot}
+use Rattle.delta_session.specs.Programs.{one_shot}
 use Rattle.output_laws.specs.TreeOneShot.{one_shot_of}
 use Rattle.output_laws.specs.Laws.{OutputIsSpoken, SpokenIsMeant, OrderDoesNotMatter, NothingIsRevised, WholeInWholeOut}
 

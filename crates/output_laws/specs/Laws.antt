@@ -7,7 +7,7 @@ use Rattle.event_word.specs.Word.{IsWord}
 use Rattle.delta_tree.specs.SyntaxTree.{ProgramTree}
 use Rattle.core_term.specs.CoreTerm.{CoreProgram}
 use Rattle.delta_elab.specs.Accepted.{IsAccepted}
-use Rattle.delta_output.specs.OneShot.{left_of, said, calls_on}
+use Rattle.delta_session.specs.OneShot.{left_of, said, calls_on}
 use Rattle.delta_output.specs.Spoken as spoken
 use Rattle.output_laws.specs.TreeOneShot.{one_shot_of}
 

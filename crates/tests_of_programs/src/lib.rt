@@ -1,5 +1,6 @@
 //! Tests of programs, with ample memory: written types, elaboration, typing, the one-shot meaning, which texts are accepted,
-//! which texts are derivations of them, and their bounds.
+//! which texts are derivations of them, their bounds, and kept states: in bytes, as states of the compiled machine, and read
+//! for a program.
 #![tactic(auto)]
 
 #[cfg(test)]
@@ -12,6 +13,18 @@ mod derivations;
 mod elaboration;
 #[cfg(test)]
 mod evaluation;
+#[cfg(test)]
+mod kept_bytes;
+#[cfg(test)]
+mod kept_contexts;
+#[cfg(test)]
+mod kept_deep;
+#[cfg(test)]
+mod kept_loads;
+#[cfg(test)]
+mod kept_saved;
+#[cfg(test)]
+mod kept_woken;
 #[cfg(test)]
 mod nesting;
 #[cfg(test)]

@@ -7,7 +7,7 @@ use crate::sessions::{opened, said_to};
 use checked_program::{accept, dismiss};
 use core_term::{Checked, fits};
 use delta_code::Coded;
-use delta_session::Session;
+use delta_session::{Answers, Session};
 use delta_state::Machine;
 use event_text::read_line;
 use event_word::Event;
@@ -15,13 +15,13 @@ use std::alloc::Global;
 use std::test::Fail;
 
 /// What is said to the last of these lines, or None where one isn't taken.
-pub fn said_at_last<M: Machine>(
+pub fn said_at_last<A: Answers>(
     alloc: Global,
-    session: &mut Session<M>,
+    session: &mut Session<A>,
     lines: &[&[u8]],
 ) -> Option<Vec<Event>>
-    requires kept { IsKept M.seen M.stands session.old }
-    ensures kept { IsKept M.seen M.stands session.new }
+    requires kept { IsKept A.stands session.old }
+    ensures kept { IsKept A.stands session.new }
 {
     let mut said = Vec::new(alloc);
     for line in lines {

@@ -9,7 +9,7 @@ use checked_program::{accept, dismiss};
 use core_term::{Checked, fits};
 use delta_code::Coded;
 use delta_load::{LOAD_TEXT, gen_event};
-use delta_session::Session;
+use delta_session::{Answers, Session};
 use delta_state::Machine;
 use std::alloc::Global;
 use std::test::Fail;
@@ -17,9 +17,9 @@ use std::test::Fail;
 const ITEMS: u64 = 10_000;
 
 // Feeds the load's event of a number, and answers how many states there are then.
-fn count<M: Machine>(alloc: Global, session: &mut Session<M>, i: u64) -> Result<u64, Fail>
-    requires kept { IsKept M.seen M.stands session.old }
-    ensures kept { IsKept M.seen M.stands session.new }
+fn count<A: Answers>(alloc: Global, session: &mut Session<A>, i: u64) -> Result<u64, Fail>
+    requires kept { IsKept A.stands session.old }
+    ensures kept { IsKept A.stands session.new }
 {
     let Some(x) = gen_event(1, ITEMS, i) else {
         return Ok(0);
@@ -32,14 +32,14 @@ fn count<M: Machine>(alloc: Global, session: &mut Session<M>, i: u64) -> Result<
 }
 
 // Feeds the load's events of these numbers, and answers the greatest number of states after the last event of an item.
-fn greatest<M: Machine>(
+fn greatest<A: Answers>(
     alloc: Global,
-    session: &mut Session<M>,
+    session: &mut Session<A>,
     from: u64,
     below: u64,
 ) -> Result<u64, Fail>
-    requires kept { IsKept M.seen M.stands session.old }
-    ensures kept { IsKept M.seen M.stands session.new }
+    requires kept { IsKept A.stands session.old }
+    ensures kept { IsKept A.stands session.new }
 {
     let mut most = 0;
     for i in from..below {

@@ -9,7 +9,7 @@ use checked_program::{accept, dismiss};
 use core_term::{Checked, fits};
 use delta_code::Coded;
 use delta_load::{LOAD_TEXT, gen_event};
-use delta_session::Session;
+use delta_session::{Answers, Session};
 use delta_state::Machine;
 use std::alloc::Global;
 use std::test::Fail;
@@ -24,16 +24,16 @@ pub struct Kept {
 }
 
 // Feeds the events of these items of the load, of which each has five.
-fn feed_items<M: Machine>(
+fn feed_items<A: Answers>(
     alloc: Global,
-    session: &mut Session<M>,
+    session: &mut Session<A>,
     from: u64,
     to: u64,
 ) -> Option<Kept>
-    requires kept { IsKept M.seen M.stands session.old }
+    requires kept { IsKept A.stands session.old }
     requires items { from ≤ 50 }
     requires more { to ≤ 50 }
-    ensures kept { IsKept M.seen M.stands session.new }
+    ensures kept { IsKept A.stands session.new }
 {
     let mut kept = Kept {
         greatest: 0,
@@ -50,8 +50,8 @@ fn feed_items<M: Machine>(
 
 // Whether as many states are kept after the fortieth item as after the tenth, and no more after an event of the ten
 // items up to the one than after one of the ten items after the other; None where an event isn't taken.
-fn stays_as_small<M: Machine>(alloc: Global, session: &mut Session<M>) -> Option<bool>
-    requires { IsKept M.seen M.stands session.old }
+fn stays_as_small<A: Answers>(alloc: Global, session: &mut Session<A>) -> Option<bool>
+    requires { IsKept A.stands session.old }
 {
     feed_items(alloc, session, 0, 9)?;
     let tenth = feed_items(alloc, session, 9, 10)?;
@@ -101,14 +101,14 @@ const SESSION: [&[u8]; 8] = [
 ];
 
 // Feeds these events so many times, and answers how many states are kept then, or None where an event isn't taken.
-fn feed_often<M: Machine>(
+fn feed_often<A: Answers>(
     alloc: Global,
-    session: &mut Session<M>,
+    session: &mut Session<A>,
     lines: &[&[u8]],
     count: u64,
 ) -> Option<u64>
-    requires kept { IsKept M.seen M.stands session.old }
-    ensures kept { IsKept M.seen M.stands session.new }
+    requires kept { IsKept A.stands session.old }
+    ensures kept { IsKept A.stands session.new }
 {
     for _i in 0..count {
         said_at_last(alloc, session, lines)?;
@@ -118,8 +118,8 @@ fn feed_often<M: Machine>(
 
 // Whether as many states are kept after a thousand times these events as after a hundred; None where an event of 1,500
 // times isn't taken.
-fn stays_level<M: Machine>(alloc: Global, session: &mut Session<M>, lines: &[&[u8]]) -> Option<bool>
-    requires { IsKept M.seen M.stands session.old }
+fn stays_level<A: Answers>(alloc: Global, session: &mut Session<A>, lines: &[&[u8]]) -> Option<bool>
+    requires { IsKept A.stands session.old }
 {
     let hundredth = feed_often(alloc, session, lines, 100)?;
     let thousandth = feed_often(alloc, session, lines, 900)?;

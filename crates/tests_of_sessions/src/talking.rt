@@ -2,10 +2,11 @@
 
 ghost use Rattle.std.specs.Prelude.{IsTrue, IfOk};
 ghost use Rattle.core_term.specs.CoreTerm.{core_of, fits_of};
+ghost use Rattle.delta_session.specs.Programs.{IsRunning};
 ghost use Rattle.delta_session.specs.Standing.{IsKept};
 
 use core_term::Checked;
-use delta_session::{FeedRefusal, OpenRefusal, Session};
+use delta_session::{Answers, FeedRefusal, OpenRefusal, Session};
 use delta_state::Machine;
 use event_text::{read_line, write_line};
 use event_word::Event;
@@ -42,9 +43,9 @@ fn has_lines(alloc: Global, word: &[Event], lines: &str) -> Result<bool, Fail> {
 }
 
 // Feeds a line to a session, and answers whether that is what it says to it.
-fn feed<M: Machine>(alloc: Global, session: &mut Session<M>, turn: Turn) -> Result<bool, Fail>
-    requires kept { IsKept M.seen M.stands session.old }
-    ensures kept { IsKept M.seen M.stands session.new }
+fn feed<A: Answers>(alloc: Global, session: &mut Session<A>, turn: Turn) -> Result<bool, Fail>
+    requires kept { IsKept A.stands session.old }
+    ensures kept { IsKept A.stands session.new }
 {
     if session.events() >= ROOM {
         return Ok(false);
@@ -58,13 +59,13 @@ fn feed<M: Machine>(alloc: Global, session: &mut Session<M>, turn: Turn) -> Resu
 }
 
 // Feeds lines to a session, and answers whether that is what it says to each.
-fn feed_all<M: Machine>(
+fn feed_all<A: Answers>(
     alloc: Global,
-    session: &mut Session<M>,
+    session: &mut Session<A>,
     turns: &[Turn],
 ) -> Result<bool, Fail>
-    requires kept { IsKept M.seen M.stands session.old }
-    ensures kept { IsKept M.seen M.stands session.new }
+    requires kept { IsKept A.stands session.old }
+    ensures kept { IsKept A.stands session.new }
 {
     let mut all = true;
     for turn in turns {
@@ -75,13 +76,13 @@ fn feed_all<M: Machine>(
 }
 
 // Whether a session that said this first goes on as the talk does, and stands so at its end.
-fn goes_on<M: Machine>(
+fn goes_on<A: Answers>(
     alloc: Global,
-    session: &mut Session<M>,
+    session: &mut Session<A>,
     first: &[Event],
     talk: &Talk,
 ) -> Result<bool, Fail>
-    requires kept { IsKept M.seen M.stands session.old }
+    requires kept { IsKept A.stands session.old }
 {
     let begins = match talk.opening {
         Ok(lines) => has_lines(alloc, first, lines)?,
@@ -100,7 +101,7 @@ pub fn open<M: Machine>(
     budget: u64,
 ) -> Result<(Session<M>, Vec<Event>), OpenRefusal>
     requires { IsTrue (fits_of (core_of checked.now)) }
-    ensures { IfOk result (λ r. IsKept M.seen M.stands r.0) }
+    ensures { IfOk result (λ r. IsKept (IsRunning M.seen M.stands) r.0) }
 {
     Session::<M>::open(alloc, checked, budget.min(1_000_000))
 }

@@ -1,13 +1,21 @@
 -- What is left is that of the run, whose machine is of the program that it began with.
 use Rattle.std.proofs.Common.{inl, sym, refl, subst, ap, Err, ◌∙◌}
+use Rattle.event_frame.specs.Reading.{whole}
 use Rattle.core_term.specs.CoreTerm.{core_of}
 use Rattle.delta_loop.specs.Stopping.{StopsFor}
-use Rattle.delta_output.specs.OneShot.{meaning_of}
-use Rattle.delta_runner.specs.CoreOneShot.{one_shot}
+use Rattle.delta_output.specs.LoopMeaning.{meaning_of}
+use Rattle.delta_session.specs.Programs.{one_shot}
 use Rattle.delta_runner.proofs.Stepping.{ran_not}
 use Rattle.commands.specs.Leaving.{Way}
 use Rattle.commands.proofs.Leaving.{changes_nothing, saves_nothing}
 use Rattle.commands.proofs.keeping.save_checked.Goals as goal
+
+pub leave-requires-clause-stands : goal.leave-requires-clause-stands
+leave-requires-clause-stands g c well =
+    let P = meaning_of c.args.version c.args.budget (one_shot (core_of c.args.c.now)) in
+    let begun = rw (sym c.deref.ensures.value) at c.in-Ok.ensures.begun in
+    let to = c.run_machine-end.ensures.ran P begun in
+    (P, whole to.ran.input, to.state well)
 
 pub returns-in-Ok-clause-saved : goal.returns-in-Ok-clause-saved
 returns-in-Ok-clause-saved g c =

@@ -8,6 +8,7 @@ use Rattle.event_word.specs.Word.{pre}
 use Rattle.core_term.specs.CoreTerm.{core_of}
 use Rattle.core_term.specs.Meaning.{mean}
 use Rattle.delta_state.specs.MachineView.{input_of, IsCostly, IsDeep}
+use Rattle.delta_session.specs.Programs.{IsRunning, course_of, one_shot}
 use Rattle.delta_session.specs.Standing.{Stands}
 use Rattle.commands.specs.Stopping.{StopsForCallsAt, StopsForLevelAt}
 use Rattle.commands.proofs.OnTheWord.{Says, says_first, admitted_here, says_on, stands_on, met_at, said_whole}
@@ -22,12 +23,12 @@ loop-at-init g c =
     let core = core_of c.args.checked.now in
     record {
       stands = c.in-Ok.ensures.stands;
-      says = subst (Says core []) (sym c.in-Ok.ensures.answer) (says_first core c.in-Ok.ensures.stands.at.can_run);
+      says = subst (Says (one_shot core) []) (sym c.in-Ok.ensures.answer) (says_first (one_shot core) c.in-Ok.ensures.stands.at.state.goes_on.grows);
     }
 
 pub feed_one-requires-clause-admitted : goal.feed_one-requires-clause-admitted
 feed_one-requires-clause-admitted g c =
-    admitted_here c.args.word.now c.loop-at.at c.index-word-at.result c.loop-at-test.true c.index-word-at.is g.M.Machine.seen g.M.Machine.stands c.loop-at.session (core_of c.args.checked.now) c.args.budget c.loop-at.invariant.stands
+    admitted_here c.args.word.now c.loop-at.at c.index-word-at.result c.loop-at-test.true c.index-word-at.is (IsRunning g.M.Machine.seen g.M.Machine.stands) c.loop-at.session (course_of (core_of c.args.checked.now) c.args.budget) c.loop-at.invariant.stands
     c.requires.word
 
 pub returns-in_err-feed_one-clause-costly : goal.returns-in_err-feed_one-clause-costly
@@ -38,7 +39,7 @@ returns-in_err-feed_one-clause-costly g c =
     let costly = c.in_err-feed_one.ensures.costly n (still_stopped _ _ stopped) in
     subst (StopsForCallsAt core c.args.budget c.args.word.now) (sym costly.0)
     (inr (met_at c.args.word.now c.loop-at.at c.index-word-at.result c.loop-at-test.true c.index-word-at.is (IsCostly core c.args.budget)
-    (costly.1 core c.args.budget (take c.loop-at.at c.args.word.now) c.loop-at.invariant.stands))))
+    (costly.1 (course_of core c.args.budget) (take c.loop-at.at c.args.word.now) c.loop-at.invariant.stands))))
 
 pub returns-in_err-feed_one-clause-deep : goal.returns-in_err-feed_one-clause-deep
 returns-in_err-feed_one-clause-deep g c =
@@ -48,7 +49,7 @@ returns-in_err-feed_one-clause-deep g c =
     let deep = c.in_err-feed_one.ensures.deep n (still_stopped _ _ stopped) in
     subst (StopsForLevelAt core 1000 c.args.word.now) (sym deep.0)
     (inr (met_at c.args.word.now c.loop-at.at c.index-word-at.result c.loop-at-test.true c.index-word-at.is (IsDeep core 1000)
-    (deep.1 core c.args.budget (take c.loop-at.at c.args.word.now) c.loop-at.invariant.stands))))
+    (deep.1 (course_of core c.args.budget) (take c.loop-at.at c.args.word.now) c.loop-at.invariant.stands))))
 
 pub loop-at-preserved : goal.loop-at-preserved
 loop-at-preserved g c =
@@ -56,10 +57,10 @@ loop-at-preserved g c =
     let before = take c.loop-at.at c.args.word.now in
     let here = c.loop-at.invariant in
     record {
-      stands = stands_on c.args.word.now c.loop-at.at c.index-word-at.result c.loop-at-test.true c.index-word-at.is g.M.Machine.seen g.M.Machine.stands c.loop-at.session core c.args.budget here.stands _
-          (c.in_ok-feed_one.ensures.stands core c.args.budget before here.stands);
-      says = says_on c.args.word.now c.loop-at.at c.index-word-at.result c.loop-at-test.true c.index-word-at.is g.M.Machine.seen g.M.Machine.stands c.loop-at.session core c.args.budget here.stands c.requires.word _ _ here.says
-          (c.in_ok-feed_one.ensures.said core c.args.budget before here.stands);
+      stands = stands_on c.args.word.now c.loop-at.at c.index-word-at.result c.loop-at-test.true c.index-word-at.is (IsRunning g.M.Machine.seen g.M.Machine.stands) c.loop-at.session (course_of core c.args.budget) here.stands _
+          (c.in_ok-feed_one.ensures.stands (course_of core c.args.budget) before here.stands);
+      says = says_on c.args.word.now c.loop-at.at c.index-word-at.result c.loop-at-test.true c.index-word-at.is (IsRunning g.M.Machine.seen g.M.Machine.stands) c.loop-at.session (course_of core c.args.budget) here.stands c.requires.word here.stands.at.state.goes_on.grows _ _ here.says
+          (c.in_ok-feed_one.ensures.said (course_of core c.args.budget) before here.stands);
     }
 
 pub returns-clause-means : goal.returns-clause-means
@@ -67,7 +68,7 @@ returns-clause-means g c =
     let core = core_of c.args.checked.now in
     let word = c.args.word.now in
     let all : take c.loop-at.at word ≡ word = take_all c.loop-at.at word c.loop-at-test.false in
-    let says = subst (λ (w : List StreamEvent). Says core w c.loop-at.said.items) all c.loop-at.invariant.says in
+    let says = subst (λ (w : List StreamEvent). Says (one_shot core) w c.loop-at.said.items) all c.loop-at.invariant.says in
     let read : pre (type_of c.output.result.now) c.deref.result.now ≡ mean core (input_of core word) = ap₂ pre c.output.ensures c.deref.ensures.value ∙ says.means in
     c.in_ok-prefix_of.ensures.value ∙ read
 
@@ -76,5 +77,5 @@ returns-clause-whole g c ended =
     let core = core_of c.args.checked.now in
     let word = c.args.word.now in
     let all : take c.loop-at.at word ≡ word = take_all c.loop-at.at word c.loop-at-test.false in
-    let standing = subst (λ (w : List StreamEvent). Stands g.M.Machine.seen g.M.Machine.stands c.loop-at.session core c.args.budget w) all c.loop-at.invariant.stands in
-    said_whole g.M.Machine.seen g.M.Machine.stands g.met.M.Machine.stands_after c.loop-at.session core c.args.budget word standing _ (returns-clause-means g c) ended
+    let standing = subst (λ (w : List StreamEvent). Stands (IsRunning g.M.Machine.seen g.M.Machine.stands) c.loop-at.session (course_of core c.args.budget) w) all c.loop-at.invariant.stands in
+    said_whole (IsRunning g.M.Machine.seen g.M.Machine.stands) (λ m course word running. running.goes_on) c.loop-at.session (course_of core c.args.budget) word standing _ (returns-clause-means g c) ended

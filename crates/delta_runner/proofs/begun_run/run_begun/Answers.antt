@@ -2,8 +2,8 @@
 use Rattle.std.proofs.Common.{List, ℕ, Some, rules, sym, subst}
 use Rattle.core_term.specs.CoreTerm.{core_of}
 use Rattle.delta_loop.specs.Meaning.{HasBegun}
-use Rattle.delta_output.specs.OneShot.{meaning_of}
-use Rattle.delta_runner.specs.CoreOneShot.{one_shot}
+use Rattle.delta_output.specs.LoopMeaning.{meaning_of}
+use Rattle.delta_session.specs.Programs.{one_shot}
 use Rattle.delta_runner.proofs.Stepping.{ran_not}
 use Rattle.delta_runner.proofs.begun_run.run_begun.Goals as goal
 

@@ -8,7 +8,8 @@ use Rattle.core_term.specs.CoreTerm.{core_of}
 use Rattle.core_term.specs.FreeNames.{IsCore}
 use Rattle.core_term.specs.Typing.{IsTypedCore}
 use Rattle.event_word.specs.Canon.{canon}
-use Rattle.delta_session.proofs.Growth.{fits_narrow, starts_prefix}
+use Rattle.delta_session.specs.Programs.{one_shot}
+use Rattle.delta_session.proofs.RunningPrograms.{fits_narrow, program_grows, starts_prefix}
 use Rattle.delta_runner.proofs.Stepping.{first_within}
 use Rattle.learned_runner.proofs.runner.first_frames.Goals as goal
 
@@ -25,8 +26,8 @@ canon-requires-clause-reach c =
 pub word_frames-requires : goal.word_frames-requires
 word_frames-requires c =
     let same = c.core.ensures.program in
-    first_within c.args.version (core_of c.args.c.now)
-    (record {
+    first_within c.args.version (one_shot (core_of c.args.c.now))
+    (program_grows (core_of c.args.c.now) record {
       core = subst (λ (k : Core). IsCore (core_of k)) same c.core.ensures.core;
       typed = subst (λ (k : Core). IsTypedCore (core_of k)) same c.core.ensures.typed;
       narrow = fits_narrow (core_of c.args.c.now) c.requires.fits;

@@ -3,4 +3,4 @@ use Rattle.delta_session.specs.Standing.{IsKept}
 use Rattle.tests_of_sessions.proofs.sizes.feed_items.Given as goal
 
 abbrev pub invariant-loop-i : goal.invariant-loop-i
-invariant-loop-i g l = IsKept g.M.Machine.seen g.M.Machine.stands l.session
+invariant-loop-i g l = IsKept g.A.Answers.stands l.session

@@ -1,0 +1,243 @@
+//! Bytes that are read as kept states of a program, and others that are told apart from these.
+
+use crate::kept_bytes::ONE;
+use checked_program::{accept, dismiss};
+use core_term::Checked;
+use delta_keep::{Kept, KeptState, dismiss as dismiss_kept};
+use kept_check::{KeepFault, load};
+use std::alloc::Global;
+use std::test::Fail;
+use stream_type::Memory;
+
+// One stream of numbers, as it comes: the program of `ONE`.
+const SAME: &[u8] = b"main(x : Int) : Int = x";
+
+// Two streams of numbers.
+const TWO: &[u8] = b"main(x : Int, y : Int) : Int = x";
+
+// A case that holds what comes before its subject's side.
+const CASE: &[u8] =
+    b"main(a : Int; (y : Int, w : 1 + 1)) : Int = let x = (((), y) : 1 || Int) in case w of { inl u => let (p, q) = x in wait q in a | inr u => a }";
+
+// It before any event: x is held with its `1` whole, and of a nothing has come.
+const HELD: &[u8] = &[
+    68, 83, 84, 1, 0, 0, 0, 0, 0, 0, 0, 0, 0, 0, 0, 3, 2, 2, 5, 1, 1, 0, 0, 0, 1, 0, 2, 4, 0, 0, 0,
+    3, 4, 0, 2, 2, 0, 0, 1, 0, 0, 0, 1, 7, 0, 0, 0, 2, 2, 0, 0, 0, 3, 0, 0, 0, 2, 5, 1, 1, 8, 0, 0,
+    0, 3, 4, 1, 2, 5, 2, 3, 0, 0, 0, 0, 2, 3, 0, 0, 0, 4, 0, 0, 0, 1, 11, 0, 0, 0, 5, 0, 0, 0, 6,
+    0, 0, 0, 3, 0, 0, 0, 1, 15, 0, 0, 0, 6, 2, 0, 0, 0, 1, 0, 0, 0, 0, 0, 0, 0, 0, 0, 61, 9, 0, 0,
+    0, 0, 0, 0, 0, 0, 0, 7, 0, 0, 0, 1, 0, 0, 0, 0, 0, 0, 0, 0, 0, 61, 9, 0, 0, 0, 0, 0, 0,
+];
+
+// A call.
+const CALL: &[u8] = b"fun same(u : Int) : Int = u main(x : Int) : Int = same(x)";
+
+// It before any event: the body of the function on its argument.
+const FRAME: &[u8] = &[
+    68, 83, 84, 1, 0, 0, 0, 0, 0, 0, 0, 0, 0, 0, 0, 1, 2, 0, 0, 0, 0, 2, 10, 0, 0, 0, 1, 0, 0, 0,
+    0, 2, 1, 0, 0, 0, 1, 1, 0, 0, 0, 0,
+];
+
+// Whether the kept state has the name numbered 0 as its state.
+fn is_first_name(k: &Kept) -> bool {
+    matches!(&*k.state, KeptState::Var(x) if x.0 == 0)
+}
+
+// Whether the bytes are read as a kept state of the program with this core, whose state is that name.
+fn core_loads_name(alloc: Global, c: &Checked, bytes: &[u8]) -> bool {
+    match load(alloc, c, bytes) {
+        Ok(k) => {
+            let found = is_first_name(&k);
+            dismiss_kept(k);
+            found
+        }
+        Err(_) => false,
+    }
+}
+
+// The same of the program of a text.
+fn loads_name(alloc: Global, text: &[u8], bytes: &[u8]) -> Result<bool, Fail> {
+    match accept(alloc, text) {
+        Ok(accepted) => {
+            let found = core_loads_name(alloc, &accepted.checked, bytes);
+            dismiss(accepted);
+            Ok(found)
+        }
+        Err(fault) => Err(fault.into()),
+    }
+}
+
+#[test]
+fn a_name_is_read(rt: HostRuntime) -> Result<(), Fail> {
+    assert!(rt; loads_name(rt.alloc(), SAME, ONE)?);
+    Ok(())
+}
+
+// What is wrong with bytes for the program with this core, if they aren't read.
+fn fault(alloc: Global, c: &Checked, bytes: &[u8]) -> Option<KeepFault> {
+    match load(alloc, c, bytes) {
+        Ok(k) => {
+            dismiss_kept(k);
+            None
+        }
+        Err(fault) => Some(fault),
+    }
+}
+
+// The same of the program of a text.
+fn told(alloc: Global, text: &[u8], bytes: &[u8]) -> Result<Option<KeepFault>, Fail> {
+    match accept(alloc, text) {
+        Ok(accepted) => {
+            let found = fault(alloc, &accepted.checked, bytes);
+            dismiss(accepted);
+            Ok(found)
+        }
+        Err(fault) => Err(fault.into()),
+    }
+}
+
+#[test]
+fn what_was_kept_is_read(rt: HostRuntime) -> Result<(), Fail> {
+    assert!(rt; told(rt.alloc(), SAME, ONE)?.is_none());
+    assert!(rt; told(rt.alloc(), CASE, HELD)?.is_none());
+    assert!(rt; told(rt.alloc(), CALL, FRAME)?.is_none());
+    Ok(())
+}
+
+#[test]
+fn another_programs_state_is_refused(rt: HostRuntime) -> Result<(), Fail> {
+    assert!(rt; told(rt.alloc(), CASE, ONE)? == Some(KeepFault::Untyped(0)));
+    assert!(rt; told(rt.alloc(), SAME, HELD)? == Some(KeepFault::Untyped(0)));
+    assert!(rt; told(rt.alloc(), TWO, ONE)? == Some(KeepFault::Untyped(0)));
+    Ok(())
+}
+
+#[test]
+fn a_byte_is_missing(rt: HostRuntime) -> Result<(), Fail> {
+    assert!(rt; told(rt.alloc(), SAME, &ONE[..26])? == Some(KeepFault::Form(26)));
+    Ok(())
+}
+
+// The bytes, of which one is set to a value.
+fn changed(alloc: Global, bytes: &[u8], at: usize, value: u8) -> Result<Vec<u8>, Memory> {
+    let mut next = bytes.to_vec(alloc)?;
+    if at < next.len() {
+        next[at] = value;
+    }
+    Ok(next)
+}
+
+// What is wrong with these for the program of a text.
+fn told_changed(
+    alloc: Global,
+    text: &[u8],
+    bytes: &[u8],
+    at: usize,
+    value: u8,
+) -> Result<Option<KeepFault>, Fail> {
+    told(alloc, text, &changed(alloc, bytes, at, value)?)
+}
+
+// A byte of the first state, what it is set to, and what is wrong then.
+const FAULTS: &[(usize, u8, KeepFault)] = &[
+    (21, 1, KeepFault::Untyped(0)),
+    (3, 2, KeepFault::Version(2)),
+    (26, 1, KeepFault::Untyped(0)),
+    (4, 255, KeepFault::Untyped(0)),
+    (16, 1, KeepFault::Untyped(0)),
+    (20, 1, KeepFault::Form(21)),
+    (22, 11, KeepFault::Form(22)),
+];
+
+#[test]
+fn the_first_fault_is_told(rt: HostRuntime) -> Result<(), Fail> {
+    for (at, value, wanted) in FAULTS {
+        assert!(rt; told_changed(rt.alloc(), SAME, ONE, *at, *value)?.as_ref() == Some(wanted));
+    }
+    Ok(())
+}
+
+// A byte of the held state, what it is set to, and the number of the state that isn't typed then.
+const UNTYPED: &[(usize, u8, u32)] = &[
+    // a parameter is bound again
+    (31, 0, 0),
+    // the type of x isn't a pair
+    (32, 3, 1),
+    // the end of a stream of numbers
+    (37, 2, 2),
+    // a name that isn't there, and one of another type
+    (42, 9, 3),
+    (42, 2, 3),
+    // another name holds something
+    (55, 9, 4),
+    // what is held is of another type, and of another one is left
+    (58, 2, 4),
+    // the name of a branch is bound before
+    (80, 3, 4),
+    // code that isn't deep enough
+    (121, 60, 4),
+];
+
+#[test]
+fn the_first_untyped_state_is_told(rt: HostRuntime) -> Result<(), Fail> {
+    for (at, value, number) in UNTYPED {
+        let told = told_changed(rt.alloc(), CASE, HELD, *at, *value)?;
+        assert!(rt; told == Some(KeepFault::Untyped(*number)));
+    }
+    Ok(())
+}
+
+// The same of the state of a call: the argument, the body, the parameter's type, its name.
+const UNTYPED_OF_A_CALL: &[(usize, u8, u32)] = &[(36, 7, 1), (41, 7, 2), (31, 1, 1), (30, 5, 2)];
+
+#[test]
+fn the_first_untyped_state_of_a_call_is_told(rt: HostRuntime) -> Result<(), Fail> {
+    for (at, value, number) in UNTYPED_OF_A_CALL {
+        let told = told_changed(rt.alloc(), CALL, FRAME, *at, *value)?;
+        assert!(rt; told == Some(KeepFault::Untyped(*number)));
+    }
+    Ok(())
+}
+
+// Whether what is wrong is told with a place among so many bytes, if anything is.
+fn is_told_within(fault: Option<KeepFault>, count: usize) -> bool {
+    match fault {
+        None => true,
+        Some(KeepFault::Memory) => false,
+        Some(KeepFault::Form(at)) => at <= count as u64,
+        Some(KeepFault::Untyped(number)) => (number as usize) < count,
+        Some(KeepFault::Version(n)) => n != 1,
+    }
+}
+
+// Whether it is so with each byte set to a value, one after the other, for the program with this core.
+fn core_tells(alloc: Global, c: &Checked, bytes: &[u8], value: u8) -> Result<bool, Fail> {
+    for at in 0..bytes.len() {
+        let next = changed(alloc, bytes, at, value)?;
+        if !is_told_within(fault(alloc, c, &next), bytes.len()) {
+            return Ok(false);
+        }
+    }
+    Ok(true)
+}
+
+// The same for the program of a text.
+fn are_told(alloc: Global, text: &[u8], bytes: &[u8], value: u8) -> Result<bool, Fail> {
+    match accept(alloc, text) {
+        Ok(accepted) => {
+            let found = core_tells(alloc, &accepted.checked, bytes, value);
+            dismiss(accepted);
+            found
+        }
+        Err(fault) => Err(fault.into()),
+    }
+}
+
+#[test]
+fn each_byte_may_be_another(rt: HostRuntime) -> Result<(), Fail> {
+    for value in [0, 1, 2, 3, 7, 11, 128, 255] {
+        assert!(rt; are_told(rt.alloc(), SAME, ONE, value)?);
+        assert!(rt; are_told(rt.alloc(), CASE, HELD, value)?);
+        assert!(rt; are_told(rt.alloc(), CALL, FRAME, value)?);
+    }
+    Ok(())
+}
