@@ -1,17 +1,14 @@
 -- What is behind the end of a run that goes on, and behind a refusal.
-use Rattle.std.proofs.Common.{◌≡◌, ◌⊎◌, inl, inr, ℕ, List, Option, Some, Err, take, subst}
+use Rattle.std.proofs.Common.{◌≡◌, inl, inr, ℕ, List, Option, Some, Err, take, subst}
 use Rattle.port.specs.declared.link.Move.{Move}
 use Rattle.event_frame.specs.declared.version.Version.{Version}
-use Rattle.delta_tree.specs.SyntaxTree.{ProgramTree}
 use Rattle.core_term.specs.CoreTerm.{CoreProgram}
-use Rattle.delta_keep.specs.declared.kept.Kept.{Kept}
 use Rattle.kept_check.specs.declared.fault.KeepFault.{KeepFault}
 use Rattle.kept_check.specs.declared.fault.KeepFault.TheVariants as fault
 use Rattle.kept_check.specs.Loading.{TellsKeepFault, RefusesNone}
 use Rattle.delta_end.specs.declared.objection.Objection.TheVariants.{Derivation, Bound, Table, State}
 use Rattle.delta_end.specs.declared.end.End.{End}
 use Rattle.delta_end.specs.declared.end.End.TheVariants.{Done, Usage, Refused, Input, Budget, Deep, Open, FileFailed, ReadFailed, WriteFailed, Memory, Long, Objected}
-use Rattle.checked_program.specs.Acceptance.{IsWritable}
 use Rattle.delta_loop.specs.History.{IsUntouched}
 use Rattle.delta_loop.specs.Answer.{Adds, ReadsWell}
 use Rattle.delta_loop.proofs.Returning.{adds_none, ran_reads, unread}

@@ -1,5 +1,5 @@
 -- From a run that gathers an input to the evaluation of it.
-use Rattle.std.proofs.Common.{◌≡◌, ◌∙◌, ◌⊎◌, inl, inr, ℕ, ◌<◌, ◌≤◌, List, [], ◌∷◌, ◌++◌, Bool, true, false, Option, Some, None, Result, Ok, Err, length, take, ◌^◌, refl, sym, ap, subst, arith, append-nil}
+use Rattle.std.proofs.Common.{◌≡◌, ◌∙◌, ◌⊎◌, inl, inr, ℕ, ◌<◌, ◌≤◌, List, [], ◌∷◌, ◌++◌, Bool, true, false, Option, Result, Ok, Err, length, take, ◌^◌, refl, sym, ap, subst, arith, append-nil}
 use Rattle.std.specs.Prelude.{IfErr}
 use Rattle.stream_type.specs.StreamType.{StreamType, null_of}
 use Rattle.stream_prefix.specs.StreamPrefix.{StreamPrefix, IsPrefix}
@@ -15,7 +15,6 @@ use Rattle.event_frame.specs.Reading.{whole}
 use Rattle.delta_tree.specs.SyntaxTree.{ProgramTree}
 use Rattle.core_term.specs.CoreTerm.{CoreProgram}
 use Rattle.core_term.specs.Run.{Run}
-use Rattle.core_term.specs.Meaning.{mean as core_mean}
 use Rattle.core_term.proofs.TypedRuns.{mean_is_typed}
 use Rattle.delta_meaning.specs.SourceMeaning.{mean, calls_of}
 use Rattle.delta_meaning.specs.declared.refusal.EvalRefusal.{EvalRefusal}
@@ -34,7 +33,7 @@ use Rattle.delta_loop.proofs.Opening.{fresh}
 use Rattle.delta_loop.proofs.Lefts.{loses_nothing}
 use Rattle.delta_loop.proofs.Limits.{within_limit, within_other}
 use Rattle.commands.specs.Gathering.{gathering, Gathers}
-use Rattle.commands.specs.Evaluating.{input_of, meaning, calls_on, evaluation, left, ends_well, end_of, IsWhole, MayEnd, Evaluates}
+use Rattle.commands.specs.Evaluating.{input_of, calls_on, evaluation, left, ends_well, end_of, IsWhole, MayEnd, Evaluates}
 use Rattle.commands.specs.declared.gathering.Gathering.{Gathering}
 use Rattle.delta_loop.proofs.Unstopped.{no_costly, no_deep}
 use Rattle.commands.proofs.Gathered.{due_none, is_word, accepts_all, makes_no_calls}

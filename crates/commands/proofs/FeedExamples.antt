@@ -1,5 +1,5 @@
 -- Worked examples: two tables of one column, what is wrong with such tables, and a program that gives one of them.
-use Rattle.std.proofs.Common.{◌≡◌, pos, List, [], ◌∷◌, Some, None, refl, codes}
+use Rattle.std.proofs.Common.{◌≡◌, pos, [], ◌∷◌, Some, None, refl, codes}
 use Rattle.stream_type.specs.StreamType.{int, par, star}
 use Rattle.stream_prefix.specs.StreamPrefix.{int_full, par_both, star_done, star_rest}
 use Rattle.event_word.specs.declared.event.Step.TheVariants.{Left, Right}

@@ -7,6 +7,7 @@ pub mod SaveTexts
 pub mod Places
 pub mod Ends
 pub mod Faults
+pub mod DerivedEnds
 pub mod ReadOff
 pub mod BoundTexts
 pub mod SentLines

@@ -7,20 +7,16 @@ use Rattle.delta_meaning.specs.SourceBody.{main_of}
 use Rattle.delta_meaning.specs.SourceMeaning.{mean}
 use Rattle.table_feed.specs.declared.fault.FeedFault.{FeedFault}
 use Rattle.table_feed.specs.declared.fault.FeedFault.TheVariants as fault
-use Rattle.table_feed.specs.Mixing.{mixed_word}
 use Rattle.table_feed.specs.Rows.{text_of}
 use Rattle.table_feed.proofs.CanonicalWords.{canons_are_words}
 use Rattle.table_feed.proofs.MixedWords.{mixed_spells}
-use Rattle.event_word.specs.Canon.{canon}
-use Rattle.event_word.specs.Word.{IsWord, pre}
 use Rattle.stream_prefix.specs.StreamPrefix.{StreamPrefix}
 use Rattle.delta_end.specs.declared.objection.Objection.{Objection}
-use Rattle.delta_end.specs.declared.end.End.{End}
 use Rattle.delta_end.specs.declared.end.End.TheVariants.{Objected}
 use Rattle.checked_program.specs.Acceptance.{IsAcceptedAs}
 use Rattle.checked_program.proofs.OneAnswer.{accepted_is_one}
-use Rattle.commands.specs.Tables.{Takes, IsWrong, told_as, given_text, tables_fault, tables_word}
-use Rattle.commands.specs.Feeding.{input_of, IsFed, IsUnfed}
+use Rattle.commands.specs.Tables.{Takes, IsWrong, told_as, given_text}
+use Rattle.commands.specs.Feeding.{input_of}
 use Rattle.commands.specs.FeedLaws.{FedIsOne, UnfedIsOne, FedIsNotRefused, EachOrderGivesIt}
 use Rattle.commands.proofs.WholeTables.{are_prefixes, word_means}
 

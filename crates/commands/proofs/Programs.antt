@@ -2,7 +2,6 @@
 use Rattle.std.proofs.Common.{◌≡◌, inl, inr, ℕ, pred, List, [], ◌++◌, Option, refl, sym, subst, ap, append-nil, ◌∙◌}
 use Rattle.stream_type.specs.StreamType.{StreamType}
 use Rattle.stream_prefix.specs.StreamPrefix.{StreamPrefix}
-use Rattle.event_word.specs.StreamEvent.{StreamEvent}
 use Rattle.delta_tree.specs.SyntaxTree.{ProgramTree}
 use Rattle.core_term.specs.CoreTerm.{CoreProgram}
 use Rattle.core_term.specs.Meaning.{mean, calls_of, level_of}
@@ -20,7 +19,7 @@ use Rattle.delta_end.specs.declared.end.End.TheVariants.{Done, Usage, Refused, I
 use Rattle.delta_end.specs.End.{WriteCause}
 use Rattle.checked_program.specs.Acceptance.{IsAcceptedAs}
 use Rattle.commands.specs.Tables.{Takes, IsWrong, told_as, given_text, tables_word, IsCostlyAt, IsDeepAt, OfTables}
-use Rattle.commands.specs.Feeding.{input_of, IsFed, IsUnfed, IsStopped, Spends, Sinks, Tells, TellsFront, IsOfFeed}
+use Rattle.commands.specs.Feeding.{input_of, IsFed, Spends, Sinks, Tells, TellsFront, IsOfFeed}
 use Rattle.commands.specs.Given.{AreHeld, EndsRunning, EndsUnwritten, GivesText, IsUnwritten}
 
 -- what is said of a program: its types, what it gives, its calls and their levels

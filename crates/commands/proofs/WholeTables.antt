@@ -1,19 +1,18 @@
 -- Good tables as whole prefixes side by side, and what can be wrong with a table.
-use Rattle.std.proofs.Common.{◌≡◌, ℕ, ◌+◌, ◌≤◌, Bool, true, false, ◌&&◌, List, [], ◌∷◌, length, map, Option, Some, None, refl, sym, ap, ap₂, ◌∙◌, subst, arith}
+use Rattle.std.proofs.Common.{◌≡◌, ℕ, ◌+◌, Bool, true, false, ◌&&◌, List, [], ◌∷◌, length, Option, Some, None, refl, sym, ap, ◌∙◌, subst}
 use Rattle.std.specs.Prelude.{⊤, nat_le, ◌==◌, option_map, if◌then◌else◌}
 use Rattle.stream_type.specs.StreamType.{StreamType, eps, one, int, cat, par, sum, star}
 use Rattle.stream_prefix.specs.StreamPrefix.{IsPrefix, is_maximal}
 use Rattle.event_word.specs.Word.{pre}
-use Rattle.event_word.specs.Canon.{canon}
 use Rattle.hist_value.specs.HistType.{past}
 use Rattle.hist_value.specs.HistValue.{HasType}
 use Rattle.hist_value.proofs.WholeLaws.{full_is_prefix, full_is_maximal}
 use Rattle.core_term.specs.Parts.{par_left, par_right}
 use Rattle.table_feed.specs.declared.fault.FeedFault.{FeedFault}
 use Rattle.table_feed.specs.declared.fault.FeedFault.TheVariants as fault
-use Rattle.table_feed.specs.RowType.{IsRowType, AreTables, row_type, columns_of}
+use Rattle.table_feed.specs.RowType.{IsRowType, AreTables, columns_of}
 use Rattle.table_feed.specs.Tables.{table_of, table_value, table_fault, records_fault, record_fault, records_of, bad_column, or_else}
-use Rattle.table_feed.specs.Mixing.{ArePrefixes, beside, mixed_word}
+use Rattle.table_feed.specs.Mixing.{ArePrefixes, beside}
 use Rattle.table_feed.proofs.Values.{columns-item_type, table_is_value}
 use Rattle.table_feed.proofs.Faults.{first_none, second_none}
 use Rattle.table_feed.proofs.CanonicalWords.{canons_are_mixed}

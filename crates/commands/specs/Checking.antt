@@ -1,5 +1,5 @@
 -- How the check of a text ends.
-use Rattle.std.specs.Prelude.{⊤, ℕ, List, None, Some}
+use Rattle.std.specs.Prelude.{⊤, ℕ, List, Some}
 use Rattle.delta_tree.specs.SyntaxTree.{ProgramTree}
 use Rattle.core_term.specs.CoreTerm.{CoreProgram}
 use Rattle.delta_end.specs.declared.end.End.{End}

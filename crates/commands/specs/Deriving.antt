@@ -6,7 +6,7 @@ use Rattle.delta_end.specs.declared.objection.DerivationName.{DerivationName}
 use Rattle.delta_end.specs.declared.objection.DerivationName.TheVariants as name
 use Rattle.delta_end.specs.declared.objection.Objection.TheVariants.{Derivation}
 use Rattle.delta_end.specs.declared.end.End.{End}
-use Rattle.delta_end.specs.declared.end.End.TheVariants.{Done, Refused, Memory, Objected}
+use Rattle.delta_end.specs.declared.end.End.TheVariants.{Done, Refused, FileFailed, Memory, Objected}
 use Rattle.checked_program.specs.Acceptance.{IsElaboratedAs, IsUnelaborated}
 use Rattle.delta_derive.specs.declared.fault.DeriveFault.TheVariants as fault
 use Rattle.delta_derive.specs.FirstFault.{first_fault, IsValidText}
@@ -55,3 +55,8 @@ Derives text proof (Refused (Some why)) = IsUnelaborated text why
 Derives text proof (Objected (Derivation why at)) = IsUnderived text proof why at
 Derives text proof Memory = ⊤
 Derives text proof _ = ⊥
+
+-- where files have these texts; nothing is said where one of them failed
+abbrev pub DerivesText : List ℕ → List ℕ → End → Type 0
+DerivesText text proof FileFailed = Unit {0}
+DerivesText text proof end = Derives text proof end

@@ -1,14 +1,10 @@
 -- The laws of tables that are fed: what is told of a text and of tables is one, and no schedule occurs in it.
-use Rattle.std.specs.Prelude.{◌≡◌, ◌≤◌, ℕ, List, length}
-use Rattle.stream_type.specs.StreamType.{reach_of}
+use Rattle.std.specs.Prelude.{◌≡◌, ℕ, List}
 use Rattle.event_word.specs.Word.{IsWord, pre}
-use Rattle.core_term.specs.CoreTerm.{CoreProgram}
-use Rattle.delta_tree.specs.SyntaxTree.{ProgramTree}
-use Rattle.delta_meaning.specs.SourceBody.{main_of}
 use Rattle.delta_meaning.specs.SourceMeaning.{mean}
 use Rattle.delta_end.specs.declared.objection.Objection.{Objection}
 use Rattle.table_feed.specs.Rows.{text_of}
-use Rattle.commands.specs.Tables.{Takes, tables_word}
+use Rattle.commands.specs.Tables.{tables_word}
 use Rattle.commands.specs.Feeding.{input_of, IsFed, IsUnfed}
 
 -- the text that is written for a text and for tables is one, whatever the order of their events

@@ -1,5 +1,5 @@
 -- What the command that resumes does with a text, by how it ended.
-use Rattle.std.specs.Prelude.{◌≡◌, ◌⊎◌, ℕ, List, Option, Some, None}
+use Rattle.std.specs.Prelude.{◌⊎◌, ℕ, List, Option, Some, None}
 use Rattle.port.specs.declared.link.Move.{Move}
 use Rattle.event_frame.specs.declared.version.Version.{Version}
 use Rattle.delta_tree.specs.SyntaxTree.{ProgramTree}

@@ -26,7 +26,7 @@ mod word_run;
 
 pub use bounding::bound_source;
 pub use checking::check_source;
-pub use derivation::{core_of_text, derive_core};
+pub use derivation::derive_source;
 pub use evaluating::eval_source;
 pub use fault::WordFault;
 pub use feeding::feed_source;

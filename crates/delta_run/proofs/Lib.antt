@@ -17,4 +17,5 @@ pub mod SavedTexts
 pub mod ResumedTexts
 pub mod JoinedRuns
 pub mod Evaluated
+pub mod Doing
 pub mod Owing

@@ -5,7 +5,8 @@ use Rattle.delta_end.specs.Status.{IsStill}
 use Rattle.delta_loop.specs.History.{IsUntouched}
 use Rattle.delta_run.specs.Outside.{Outside}
 use Rattle.delta_run.specs.Text.{OfFile}
-use Rattle.delta_run.specs.Derived.{DerivesText, PassesDerived, RefusesUnderived, RefusesUnelaborated}
+use Rattle.commands.specs.Deriving.{DerivesText}
+use Rattle.delta_run.specs.Derived.{PassesDerived, RefusesUnderived, RefusesUnelaborated}
 
 pub record Derivations (file proof : List ℕ) (before after : Outside) (end : End) (status : ℕ) : Type 0 where
   -- the link isn't touched

@@ -1,16 +1,9 @@
--- What the check of a derivation did, by how it ended.
+-- What the check of a derivation gives, by its status.
 use Rattle.std.specs.Prelude.{◌≡◌, ◌⊎◌, ℕ, List}
-use Rattle.delta_end.specs.declared.end.End.{End}
-use Rattle.delta_end.specs.declared.end.End.TheVariants.{FileFailed}
 use Rattle.delta_end.specs.declared.objection.DerivationName.{DerivationName}
 use Rattle.program_refusal.specs.declared.refusal.Refusal.{Refusal}
 use Rattle.checked_program.specs.Acceptance.{IsUnelaborated}
-use Rattle.commands.specs.Deriving.{IsDerived, IsUnderived, Derives}
-
--- where the files have these texts; nothing is said where one of them failed
-abbrev pub DerivesText : List ℕ → List ℕ → End → Type 0
-DerivesText text proof FileFailed = Unit {0}
-DerivesText text proof end = Derives text proof end
+use Rattle.commands.specs.Deriving.{IsDerived, IsUnderived}
 
 -- a derivation of the text's program gives status 0, or 8
 abbrev pub PassesDerived : List ℕ → List ℕ → ℕ → Type 0

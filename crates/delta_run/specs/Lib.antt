@@ -14,6 +14,7 @@ pub mod Fed
 pub mod Saved
 pub mod Resumed
 pub mod Evaluated
+pub mod Does
 pub mod Outside
 pub mod Ends
 pub mod Runs

@@ -1,21 +1,15 @@
 //! Does what a command line asks for.
 
-ghost use Rattle.std.specs.Prelude.{◌≡◌, ◌≢◌, ◌⊎◌, ◌<◌, ◌≤◌, ◌^◌, [], List, ℕ, Some, None, true, length, map, string_bytes};
+ghost use Rattle.std.specs.Prelude.{◌≡◌, ◌≢◌, ◌⊎◌, ◌<◌, ◌≤◌, ◌^◌, ℕ, map, string_bytes};
 ghost use Rattle.delta_end.specs.declared.end.End.{End};
-ghost use Rattle.delta_words.specs.declared.task.Version.{Version as WrittenVersion};
-ghost use Rattle.delta_words.specs.CommandTask.{run, eval, check, print, text, frames, gen, bound, derive, feed, save, resume};
-ghost use Rattle.command_text.specs.Conversion.{frames_of_lines, Ran as Converted};
-ghost use Rattle.command_text.specs.Lines.{lines_of_frames};
-ghost use Rattle.delta_loop.specs.Loop.{Ran as Lined};
+ghost use Rattle.delta_words.specs.CommandTask.{CommandTask};
 ghost use Rattle.delta_run.specs.Printed.{PrintedText};
-ghost use Rattle.delta_run.specs.Generated.{GeneratedLine};
 ghost use Rattle.delta_run.specs.Checked.{ChecksText};
 ghost use Rattle.delta_run.specs.Bounded.{BoundedText};
-ghost use Rattle.delta_run.specs.Derived.{DerivesText};
+ghost use Rattle.commands.specs.Deriving.{DerivesText};
 ghost use Rattle.delta_run.specs.Fed.{FedText};
 ghost use Rattle.delta_run.specs.Evaluated.{EvaluatedText};
-ghost use Rattle.delta_run.specs.Saved.{SavedText, ChangesState};
-ghost use Rattle.delta_run.specs.Resumed.{ResumedText};
+ghost use Rattle.delta_run.specs.Does.{Does};
 ghost use Rattle.delta_run.specs.CommandLine.{Asks, AskNothing, AskForNoState, frames_of};
 ghost use Rattle.delta_end.specs.End.{FileCause, ReadCause, WriteCause};
 ghost use Rattle.delta_loop.specs.Answer.{Adds, ReadsWell};
@@ -25,8 +19,8 @@ ghost use Rattle.delta_run.specs.Text.{OfFile, RanText};
 use crate::kept::{resume_file, save_file};
 use command_text::{write_frames, write_lines};
 use commands::{
-    bound_source, check_source, core_of_text, derive_core, eval_source, feed_source, gen_load,
-    print_source, run_source,
+    bound_source, check_source, derive_source, eval_source, feed_source, gen_load, print_source,
+    run_source,
 };
 use delta_end::End;
 use delta_runner::Begins;
@@ -123,17 +117,8 @@ fn derive_file<S: Shelf>(alloc: Global, file: &str, proof: &str, shelf: &mut S) 
     ensures read { (count : ℕ) → ReadCause result count count }
     ensures write { (count : ℕ) → WriteCause result count count }
 {
-    let text = match shelf.read(file) {
-        Ok(text) => text,
-        Err(IoFault::Memory) => return End::Memory,
-        Err(IoFault::Failed) => return End::FileFailed,
-    };
-    let core = match core_of_text(alloc, &text) {
-        Ok(core) => core,
-        Err(end) => return end,
-    };
-    match shelf.read(proof) {
-        Ok(steps) => derive_core(alloc, core, &steps),
+    match shelf.read(file) {
+        Ok(text) => derive_source(alloc, &text, proof, shelf),
         Err(IoFault::Memory) => End::Memory,
         Err(IoFault::Failed) => End::FileFailed,
     }
@@ -212,35 +197,8 @@ pub fn run_command<B: Begins, M: Machine, K: Keeping, S: Shelf, L: Link>(
     ensures usage { result ≡ End.Usage → AskNothing words.now }
     ensures command { AskNothing words.now → ((result ≡ End.Usage) ⊎ (result ≡ End.Memory)) × IsUntouched (L.log link.old) (L.log link.new) (L.left link.old) (L.left link.new) }
     ensures reads { Adds (L.log link.old) (L.log link.new) (ReadsWell result) }
-    ensures ran { (file : List ℕ) (budget : ℕ) (v : WrittenVersion) → Asks words.now (run file budget v)
-        → OfFile (S.holds shelf.old) file (λ text. RanText text budget (frames_of v) (L.log link.old) (L.log link.new) (L.left link.old) (L.left link.new) result) }
-    ensures framed { (v : WrittenVersion) → Asks words.now (frames v)
-        → ((result ≡ End.Memory) × IsUntouched (L.log link.old) (L.log link.new) (L.left link.old) (L.left link.new))
-        ⊎ Converted (frames_of_lines (frames_of v)) (L.log link.old) (L.log link.new) (L.left link.old) (L.left link.new) result }
-    ensures lined { Asks words.now text → ((result ≡ End.Memory) × IsUntouched (L.log link.old) (L.log link.new) (L.left link.old) (L.left link.new))
-        ⊎ Lined lines_of_frames (L.log link.old) (L.log link.new) (L.left link.old) (L.left link.new) result }
-    ensures printed { (file : List ℕ) → Asks words.now (print file) → OfFile (S.holds shelf.old) file (λ text. PrintedText text (L.log link.old) (L.log link.new) result) }
-    ensures unread { (file : List ℕ) → Asks words.now (print file) → L.left link.new ≡ L.left link.old }
-    ensures checked { (file : List ℕ) → Asks words.now (check file) → OfFile (S.holds shelf.old) file (λ text. ChecksText text result) }
-    ensures checking { (file : List ℕ) → Asks words.now (check file) → IsUntouched (L.log link.old) (L.log link.new) (L.left link.old) (L.left link.new) }
-    ensures evaluated { (file : List ℕ) (budget : ℕ) (v : WrittenVersion) → Asks words.now (eval file budget v)
-        → OfFile (S.holds shelf.old) file (λ text. EvaluatedText text budget (frames_of v) (L.log link.old) (L.log link.new) (L.left link.old) (L.left link.new) result) }
-    ensures generated { (start items : ℕ) → Asks words.now (gen start items) → GeneratedLine start items (L.log link.old) (L.log link.new) result }
-    ensures bounded { (file : List ℕ) → Asks words.now (bound file) → OfFile (S.holds shelf.old) file (λ text. BoundedText text (L.log link.old) (L.log link.new) result) }
-    ensures bounding { (file : List ℕ) → Asks words.now (bound file) → L.left link.new ≡ L.left link.old }
-    ensures derived { (file proof : List ℕ) → Asks words.now (derive file proof)
-        → OfFile (S.holds shelf.old) file (λ text. OfFile (S.holds shelf.old) proof (λ steps. DerivesText text steps result)) }
-    ensures derivation { (file proof : List ℕ) → Asks words.now (derive file proof) → IsUntouched (L.log link.old) (L.log link.new) (L.left link.old) (L.left link.new) }
-    ensures fed { (file schedule : List ℕ) (names : List (List ℕ)) (budget : ℕ) → Asks words.now (feed file schedule names budget)
-        → OfFile (S.holds shelf.old) file (λ text. FedText (S.holds shelf.old) text schedule names budget (L.log link.old) (L.log link.new) result) }
-    ensures feeding { (file schedule : List ℕ) (names : List (List ℕ)) (budget : ℕ) → Asks words.now (feed file schedule names budget) → L.left link.new ≡ L.left link.old }
-    ensures generating { (start items : ℕ) → Asks words.now (gen start items) → L.left link.new ≡ L.left link.old }
-    ensures saved { (file state : List ℕ) (budget : ℕ) (v : WrittenVersion) → Asks words.now (save file state budget v) → OfFile (S.holds shelf.old) file
-        (λ text. SavedText text budget (frames_of v) state (L.log link.old) (L.log link.new) (L.left link.old) (L.left link.new) (S.holds shelf.old) (S.holds shelf.new) result) }
-    ensures resumed { (file state : List ℕ) (budget : ℕ) (v : WrittenVersion) → Asks words.now (resume file state budget v) → OfFile (S.holds shelf.old) file
-        (λ text. ResumedText text budget (frames_of v) (S.holds shelf.old) state (L.log link.old) (L.log link.new) (L.left link.old) (L.left link.new) result) }
-    ensures changes { (file state : List ℕ) (budget : ℕ) (v : WrittenVersion) → Asks words.now (save file state budget v)
-        → ChangesState result (S.holds shelf.old) (S.holds shelf.new) state }
+    ensures does { (task : CommandTask) → Asks words.now task
+        → Does (S.holds shelf.old) (S.holds shelf.new) (L.log link.old) (L.log link.new) (L.left link.old) (L.left link.new) result task }
     ensures held { AskForNoState words.now → S.holds shelf.new ≡ S.holds shelf.old }
     ensures file { FileCause result (S.faults shelf.old) (S.faults shelf.new) }
     ensures read { ReadCause result (L.read_faults link.old) (L.read_faults link.new) }

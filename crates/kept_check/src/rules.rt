@@ -31,6 +31,7 @@ use delta_check::{Scope, before, stream_type};
 use delta_keep::{Argument, HeldName, KeptState, Waiting};
 use hist_value::past;
 use std::alloc::Global;
+use std::slice;
 use stream_type::{Memory, Ty, null, same};
 
 /// Whether a state follows the rule of its own form, whatever its parts are: `FollowsRule` in the specs
@@ -321,10 +322,10 @@ fn is_good_behind(
 {
     match past(judge.alloc, t) {
         Ok(value) => {
-            let values = [(x, value)];
-            let inner = Scope::Valued(&values, scope);
+            let known = (x, value);
+            let inner = Scope::Valued(slice::from_ref(&known), scope);
             let good = is_good(judge, &inner, l, &[x], r);
-            drop(values);
+            drop(known);
             good
         }
         Err(_) => Err(Memory),

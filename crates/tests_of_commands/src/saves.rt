@@ -21,13 +21,19 @@ const ENDS: &[usize] = &[4, 6, 17, 19, 21, 32, 34];
 const DOUBLED: &[u8] =
     b"DEV1\0\x15\x01\x03\x11\0\0\0\0\0\0\0\x06\0\x14\0\x15\x01\x03\x11\0\0\0\0\0\0\0\x08\0\x14\0\x16";
 
+// Two numbers in turn, as they come.
+const TWO: &[u8] = b"main(x : Int . Int) : Int . Int = x";
+
+// The frames of `F int 4`, `cut` and `int 5`, and where the first two of them end.
+const BOTH: &[u8] = b"DEV1\x01\x03\x11\0\0\0\0\0\0\0\x04\0\x14\0\x11\0\0\0\0\0\0\0\x05";
+
+const ENDS_OF_TWO: &[usize] = &[4, 15, 17];
+
 // One number, as it comes.
 const SAME: &[u8] = b"main(x : Int) : Int = x";
 
 // What is kept of it before any event: its types, and its name as its state.
-const FRESH: &[u8] = &[
-    68, 83, 84, 1, 0, 0, 0, 0, 0, 0, 0, 0, 0, 0, 0, 1, 2, 0, 0, 0, 0, 2, 1, 0, 0, 0, 0,
-];
+const FRESH: &[u8] = b"DST\x01\0\0\0\0\0\0\0\0\0\0\0\x01\x02\0\0\0\0\x02\x01\0\0\0\0";
 
 // The frame of the number 4.
 const FOUR: &[u8] = b"DEV1\0\x11\0\0\0\0\0\0\0\x04";
@@ -98,24 +104,49 @@ fn holds(shelf: &mut MemShelf, name: &str, bytes: &[u8]) -> bool {
 
 // Whether a run over the feed up to a place, and one that goes on from what it leaves, write together what one run
 // writes, and change no other file.
-fn join(alloc: Global, place: usize) -> Result<bool, Fail> {
-    let feed = FEED;
+fn join(
+    alloc: Global,
+    text: &[u8],
+    feed: &[u8],
+    place: usize,
+    output: &[u8],
+) -> Result<bool, Fail> {
     let (before, rest) = feed.split_at(place.min(feed.len()));
-    let mut shelf = shelf_of(alloc, DOUBLE, b"")?;
+    let mut shelf = shelf_of(alloc, text, b"")?;
     let mut first = answer_to(alloc, "save program state", &mut shelf, before)?;
     let rest = behind_header(alloc, rest)?;
     let second = answer_to(alloc, "resume program state", &mut shelf, &rest)?;
     first.bytes.extend_from_slice(&second.bytes)?;
     let ended = first.status == 6 && second.status == 0 && second.note.is_empty();
-    let others = holds(&mut shelf, "other", b"other") && holds(&mut shelf, "program", DOUBLE);
-    Ok(ended && others && first.bytes.as_slice() == DOUBLED)
+    let others = holds(&mut shelf, "other", b"other") && holds(&mut shelf, "program", text);
+    Ok(ended && others && first.bytes.as_slice() == output)
 }
 
 #[test]
 fn a_feed_is_cut_anywhere(rt: HostRuntime) -> Result<(), Fail> {
     for place in ENDS {
-        assert!(rt; join(rt.alloc(), *place)?, "{place}");
+        assert!(rt; join(rt.alloc(), DOUBLE, FEED, *place, DOUBLED)?, "{place}");
     }
+    for place in ENDS_OF_TWO {
+        assert!(rt; join(rt.alloc(), TWO, BOTH, *place, BOTH)?, "{place}");
+    }
+    Ok(())
+}
+
+// What is kept of the program of one number once it came: nothing is left of the input or of the output.
+const FINISHED: &[u8] = b"DST\x01\0\0\0\0\0\0\0\x01\0\0\0\x01\0\0\0\0\0\0\0\0";
+
+// Whether a run of that program ends so and leaves these bytes.
+fn leaves(alloc: Global, input: &[u8], status: u8, state: &[u8]) -> Result<bool, Fail> {
+    let mut shelf = shelf_of(alloc, SAME, b"before")?;
+    let answer = answer_to(alloc, "save program state", &mut shelf, input)?;
+    Ok(answer.status == status && holds(&mut shelf, "state", state))
+}
+
+#[test]
+fn what_goes_on_and_what_is_done_is_kept(rt: HostRuntime) -> Result<(), Fail> {
+    assert!(rt; leaves(rt.alloc(), b"DEV1", 6, FRESH)?);
+    assert!(rt; leaves(rt.alloc(), FOUR, 0, FINISHED)?);
     Ok(())
 }
 
@@ -162,22 +193,18 @@ const ROWS: &[Row] = &[
     },
     // The type of the output is another.
     Row {
-        state: &[
-            68, 83, 84, 1, 0, 0, 0, 0, 0, 0, 0, 0, 0, 0, 0, 1, 2, 0, 0, 0, 0, 1, 1, 0, 0, 0, 0,
-        ],
+        state: b"DST\x01\0\0\0\0\0\0\0\0\0\0\0\x01\x02\0\0\0\0\x01\x01\0\0\0\0",
         note: b"delta: state refused: Untyped at 0\n",
         ..REFUSED
     },
     Row {
-        state: &[68, 83, 84, 2],
+        state: b"DST\x02",
         note: b"delta: state refused: Version at 2\n",
         ..REFUSED
     },
     // The last byte is missing.
     Row {
-        state: &[
-            68, 83, 84, 1, 0, 0, 0, 0, 0, 0, 0, 0, 0, 0, 0, 1, 2, 0, 0, 0, 0, 2, 1, 0, 0, 0,
-        ],
+        state: b"DST\x01\0\0\0\0\0\0\0\0\0\0\0\x01\x02\0\0\0\0\x02\x01\0\0\0",
         note: b"delta: state refused: Form at 26\n",
         ..REFUSED
     },

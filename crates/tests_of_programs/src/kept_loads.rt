@@ -20,22 +20,20 @@ const CASE: &[u8] =
     b"main(a : Int; (y : Int, w : 1 + 1)) : Int = let x = (((), y) : 1 || Int) in case w of { inl u => let (p, q) = x in wait q in a | inr u => a }";
 
 // It before any event: x is held with its `1` whole, and of a nothing has come.
-const HELD: &[u8] = &[
-    68, 83, 84, 1, 0, 0, 0, 0, 0, 0, 0, 0, 0, 0, 0, 3, 2, 2, 5, 1, 1, 0, 0, 0, 1, 0, 2, 4, 0, 0, 0,
-    3, 4, 0, 2, 2, 0, 0, 1, 0, 0, 0, 1, 7, 0, 0, 0, 2, 2, 0, 0, 0, 3, 0, 0, 0, 2, 5, 1, 1, 8, 0, 0,
-    0, 3, 4, 1, 2, 5, 2, 3, 0, 0, 0, 0, 2, 3, 0, 0, 0, 4, 0, 0, 0, 1, 11, 0, 0, 0, 5, 0, 0, 0, 6,
-    0, 0, 0, 3, 0, 0, 0, 1, 15, 0, 0, 0, 6, 2, 0, 0, 0, 1, 0, 0, 0, 0, 0, 0, 0, 0, 0, 61, 9, 0, 0,
-    0, 0, 0, 0, 0, 0, 0, 7, 0, 0, 0, 1, 0, 0, 0, 0, 0, 0, 0, 0, 0, 61, 9, 0, 0, 0, 0, 0, 0,
-];
+const HELD: &[u8] = b"\
+    DST\x01\0\0\0\0\0\0\0\0\0\0\0\x03\x02\x02\x05\x01\x01\0\0\0\x01\0\x02\x04\0\0\0\x03\x04\
+    \0\x02\x02\0\0\x01\0\0\0\x01\x07\0\0\0\x02\x02\0\0\0\x03\0\0\0\x02\x05\x01\x01\x08\0\0\0\
+    \x03\x04\x01\x02\x05\x02\x03\0\0\0\0\x02\x03\0\0\0\x04\0\0\0\x01\x0b\0\0\0\x05\0\0\0\x06\
+    \0\0\0\x03\0\0\0\x01\x0f\0\0\0\x06\x02\0\0\0\x01\0\0\0\0\0\0\0\0\0\x3d\x09\0\0\0\0\0\0\0\
+    \0\0\x07\0\0\0\x01\0\0\0\0\0\0\0\0\0\x3d\x09\0\0\0\0\0\0";
 
 // A call.
 const CALL: &[u8] = b"fun same(u : Int) : Int = u main(x : Int) : Int = same(x)";
 
 // It before any event: the body of the function on its argument.
-const FRAME: &[u8] = &[
-    68, 83, 84, 1, 0, 0, 0, 0, 0, 0, 0, 0, 0, 0, 0, 1, 2, 0, 0, 0, 0, 2, 10, 0, 0, 0, 1, 0, 0, 0,
-    0, 2, 1, 0, 0, 0, 1, 1, 0, 0, 0, 0,
-];
+const FRAME: &[u8] = b"\
+    DST\x01\0\0\0\0\0\0\0\0\0\0\0\x01\x02\0\0\0\0\x02\x0a\0\0\0\x01\0\0\0\0\x02\x01\0\0\0\
+    \x01\x01\0\0\0\0";
 
 // Whether the kept state has the name numbered 0 as its state.
 fn is_first_name(k: &Kept) -> bool {
@@ -209,27 +207,15 @@ fn is_told_within(fault: Option<KeepFault>, count: usize) -> bool {
     }
 }
 
-// Whether it is so with each byte set to a value, one after the other, for the program with this core.
-fn core_tells(alloc: Global, c: &Checked, bytes: &[u8], value: u8) -> Result<bool, Fail> {
+// Whether it is so with each byte set to a value, one after the other, for the program of a text.
+fn are_told(alloc: Global, text: &[u8], bytes: &[u8], value: u8) -> Result<bool, Fail> {
     for at in 0..bytes.len() {
-        let next = changed(alloc, bytes, at, value)?;
-        if !is_told_within(fault(alloc, c, &next), bytes.len()) {
+        let fault = told_changed(alloc, text, bytes, at, value)?;
+        if !is_told_within(fault, bytes.len()) {
             return Ok(false);
         }
     }
     Ok(true)
-}
-
-// The same for the program of a text.
-fn are_told(alloc: Global, text: &[u8], bytes: &[u8], value: u8) -> Result<bool, Fail> {
-    match accept(alloc, text) {
-        Ok(accepted) => {
-            let found = core_tells(alloc, &accepted.checked, bytes, value);
-            dismiss(accepted);
-            found
-        }
-        Err(fault) => Err(fault.into()),
-    }
 }
 
 #[test]

@@ -1,6 +1,6 @@
-//! Kept states and their bytes, which were put together by hand.
+//! A kept state and its bytes, which were put together by hand.
 
-use crate::kept_bytes::{ONE, saves_to};
+use crate::kept_bytes::saves_to;
 use bunch::Name;
 use core_term::{Node, Term};
 use delta_keep::{HeldName, Kept, KeptState, Known, Waiting, dismiss};
@@ -10,26 +10,10 @@ use stream_prefix::Prefix;
 use stream_type::{Memory, Ty, cat, star};
 
 // A wait for `1 . Int` of which nothing has come, and code that sees a list with the number -1, after seven events.
-const WAIT: &[u8] = &[
-    68, 83, 84, 1, 0, 0, 0, 0, 0, 0, 0, 7, 0, 0, 0, 1, 3, 1, 2, 0, 0, 0, 2, 0, 1, 2, 9, 0, 0, 0, 3,
-    2, 0, 0, 0, 1, 0, 0, 0, 3, 3, 1, 2, 6, 1, 0, 0, 0, 11, 8, 0, 0, 0, 1, 0, 0, 0, 7, 6, 2, 5, 0,
-    0, 0, 1, 1, 255, 255, 255, 255, 255, 255, 255, 255, 32, 0, 0, 0, 0, 0, 0, 0,
-];
-
-// `main(x : Int) : Int = x` before any event.
-fn one_kept(alloc: Global) -> Result<Kept, Memory> {
-    let mut ins = Vec::new(alloc);
-    ins.push(Ty::Int)?;
-    let out = Box::new(alloc, Ty::Int)?;
-    let state = Box::new(alloc, KeptState::Var(Name(0)))?;
-    Ok(Kept {
-        events: 0,
-        ins,
-        cuts: Vec::new(alloc),
-        out,
-        state,
-    })
-}
+const WAIT: &[u8] = b"\
+    DST\x01\0\0\0\0\0\0\0\x07\0\0\0\x01\x03\x01\x02\0\0\0\x02\0\x01\x02\x09\0\0\0\x03\x02\0\
+    \0\0\x01\0\0\0\x03\x03\x01\x02\x06\x01\0\0\0\x0b\x08\0\0\0\x01\0\0\0\x07\x06\x02\x05\0\0\
+    \0\x01\x01\xff\xff\xff\xff\xff\xff\xff\xff\x20\0\0\0\0\0\0\0";
 
 // A list of the number -1.
 fn list(alloc: Global) -> Result<Box<Value>, Memory> {
@@ -106,11 +90,6 @@ fn saves(alloc: Global, kept: Result<Kept, Memory>, bytes: &[u8]) -> bool {
         }
         Err(Memory) => false,
     }
-}
-
-#[test]
-fn a_name_is_saved(rt: HostRuntime) {
-    assert!(rt; saves(rt.alloc(), one_kept(rt.alloc()), ONE));
 }
 
 #[test]

@@ -1,5 +1,5 @@
 //! Tests of whole runs, with ample memory: what is left where bytes are hostile or what is outside fails, each name that a
-//! note can have (the examples of `docs/REFUSALS.md`), runs that leave their state and go on from it, and the load.
+//! note can have (the examples of `docs/REFUSALS.md`), and the load.
 #![tactic(auto)]
 
 #[cfg(test)]
@@ -18,9 +18,5 @@ mod long_load;
 mod outside;
 #[cfg(test)]
 mod refusals;
-#[cfg(test)]
-mod resumes;
-#[cfg(test)]
-mod saves;
 #[cfg(test)]
 mod tables;

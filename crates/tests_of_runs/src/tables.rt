@@ -438,9 +438,7 @@ pub const DERIVE: Given<'static> = Given {
 pub const RESUME: Given<'static> = Given {
     words: "resume program proof",
     text: b"main(x : Int) : Int = x",
-    proof: &[
-        68, 83, 84, 1, 0, 0, 0, 0, 0, 0, 0, 0, 0, 0, 0, 1, 2, 0, 0, 0, 0, 2, 1, 0, 0, 0, 0,
-    ],
+    proof: b"DST\x01\0\0\0\0\0\0\0\0\0\0\0\x01\x02\0\0\0\0\x02\x01\0\0\0\0",
     input: b"DEV1\0\x11\0\0\0\0\0\0\0\x04",
     ..GIVEN
 };

@@ -1,7 +1,7 @@
 -- What is said is a prefix of the output's type.
-use Rattle.std.proofs.Common.{◌∙◌, sym, subst}
+use Rattle.std.proofs.Common.{sym, subst}
 use Rattle.stream_type.specs.StreamType.{StreamType}
-use Rattle.stream_prefix.specs.StreamPrefix.{StreamPrefix, IsPrefix}
+use Rattle.stream_prefix.specs.StreamPrefix.{IsPrefix}
 use Rattle.stream_prefix.specs.Tree.{prefix_of}
 use Rattle.event_word.specs.Word.{pre}
 use Rattle.stream_prefix.proofs.Derivations.{is_prefix}

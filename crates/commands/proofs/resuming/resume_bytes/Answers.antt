@@ -1,7 +1,7 @@
 -- The run is that of the state that was read, and what is told has a small place.
 use Rattle.core_term.specs.CoreTerm.{core_of}
 use Rattle.delta_keep.specs.KeptView.{kept_of, places_kept}
-use Rattle.commands.proofs.Ends.{is_small, goes_on, refuses, resumes_reads, resumes_usage}
+use Rattle.commands.proofs.Ends.{is_small, goes_on, resumes_reads, resumes_usage}
 use Rattle.commands.proofs.resuming.resume_bytes.Goals as goal
 
 pub fault_end-requires : goal.fault_end-requires
