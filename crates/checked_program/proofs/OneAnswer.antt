@@ -1,10 +1,9 @@
 -- Texts have one answer: one program with one core, or one refusal.
 use Rattle.std.specs.Prelude.{slice_get}
-use Rattle.std.proofs.Common.{◌≡◌, ◌∙◌, ◌⊎◌, inl, inr, ◌≤◌, ◌<◌, ℕ, List, Option, Some, None, Result, Ok, Err, refl, sym, ap, ap₂, subst, arith}
+use Rattle.std.proofs.Common.{◌≡◌, ◌∙◌, inl, inr, ℕ, List, Option, Some, None, Ok, Err, sym, ap, ap₂, arith}
 use Rattle.hist_value.specs.Refusal.{HistRefusal}
 use Rattle.stream_type.specs.StreamType.{reach_of}
 use Rattle.event_frame.specs.declared.version.Version.{Version}
-use Rattle.event_frame.specs.Frames.{longest}
 use Rattle.delta_tree.specs.SyntaxTree.{ProgramTree}
 use Rattle.core_term.specs.CoreTerm.{CoreProgram}
 use Rattle.core_term.specs.TypeFaults.{Cause, first_fault}
@@ -17,9 +16,8 @@ use Rattle.program_refusal.specs.declared.refusal.RefusalName.TheVariants.{WideO
 use Rattle.program_text.specs.ProgramText.{IsTextOf, IsRefusedFor}
 use Rattle.program_text.proofs.OneAnswer.{program_is_one, programs_are_not_refused}
 use Rattle.program_text.proofs.OneAnswer.{refusal_is_one as text_refusal_is_one}
-use Rattle.delta_elab.specs.Accepted.{IsAccepted}
 use Rattle.checked_program.specs.Naming.{refusal, refusal_of, name_of_rule}
-use Rattle.checked_program.specs.Acceptance.{IsAcceptedAs, IsMisnamed, IsMistyped, IsRefusedAs, IsElaboratedAs, IsUnelaborated, IsTooWide, IsWritable, IsRefusedToWrite}
+use Rattle.checked_program.specs.Acceptance.{IsMisnamed, IsMistyped, IsElaboratedAs, IsUnelaborated, IsTooWide, IsWritable, IsRefusedToWrite}
 use Rattle.checked_program.specs.Laws.{AcceptedIsOne, RefusalIsOne, AcceptedIsNotRefused, CoreIsJudged, WritingIsJudged}
 
 -- a program elaborates to one core

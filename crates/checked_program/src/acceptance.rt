@@ -1,6 +1,7 @@
 //! The way from a text to its checked core.
 
-ghost use Rattle.std.specs.Prelude.{◌≡◌, ℕ, List, IfOk, IfErr};
+ghost use Rattle.std.specs.Prelude.{◌≡◌, ◌≤◌, ℕ, List, IfOk, IfErr};
+ghost use Rattle.stream_type.specs.StreamType.{size_of};
 ghost use Rattle.delta_tree.specs.SyntaxTree.{ProgramTree};
 ghost use Rattle.delta_tree.specs.Tree.{program_of as tree_of};
 ghost use Rattle.core_term.specs.CoreTerm.{core_of, core_places};
@@ -65,13 +66,24 @@ pub fn accept(alloc: Global, text: &[u8]) -> Result<Accepted, TextFault>
     ensures places { IfOk result (λ a. core_places a.checked ≡ program_places (tree_of a.program)) }
     ensures refused { IfErr result (λ fault. IsFaultOf (IsRefusedAs text.now) fault) }
 {
-    let program = match program_of(alloc, text) {
-        Ok(program) => program,
-        Err(fault) => return Err(fault),
-    };
+    match program_of(alloc, text) {
+        Ok(program) => with_core(alloc, program),
+        Err(fault) => Err(fault),
+    }
+}
+
+// A program that is typed, with its checked core, or what its text is refused for.
+fn with_core(alloc: Global, program: Program) -> Result<Accepted, TextFault>
+    ensures accepted { (text : List ℕ) → IsTextOf text (tree_of program) → IfOk result (λ a. IsAcceptedAs text (tree_of a.program) (core_of a.checked)) }
+    ensures places { IfOk result (λ a. core_places a.checked ≡ program_places (tree_of a.program)) }
+    ensures refused { (text : List ℕ) → IsTextOf text (tree_of program) → IfErr result (λ fault. IsFaultOf (IsRefusedAs text) fault) }
+{
     match typed(alloc, &program) {
         Ok(checked) => Ok(Accepted { program, checked }),
-        Err(fault) => Err(refusal_for(&fault)),
+        Err(fault) => {
+            drop(program);
+            Err(refusal_for(&fault))
+        }
     }
 }
 
@@ -81,14 +93,24 @@ pub fn accept_to_write(alloc: Global, text: &[u8], version: Version) -> Result<A
     ensures accepted { IfOk result (λ a. IsWritable text.now version (tree_of a.program) (core_of a.checked)) }
     ensures refused { IfErr result (λ fault. IsFaultOf (IsRefusedToWrite text.now version) fault) }
 {
-    let accepted = match accept(alloc, text) {
-        Ok(accepted) => accepted,
-        Err(fault) => return Err(fault),
-    };
+    match accept(alloc, text) {
+        Ok(accepted) => written_by(accepted, version),
+        Err(fault) => Err(fault),
+    }
+}
+
+// What was accepted, where frames of the version can have each path of its output.
+fn written_by(accepted: Accepted, version: Version) -> Result<Accepted, TextFault>
+    requires { size_of (core_of accepted.checked).main.result ≤ 4096 }
+    ensures accepted { (text : List ℕ) → IsAcceptedAs text (tree_of accepted.program) (core_of accepted.checked) → IfOk result (λ a. IsWritable text version (tree_of a.program) (core_of a.checked)) }
+    ensures refused { (text : List ℕ) → IsAcceptedAs text (tree_of accepted.program) (core_of accepted.checked) → IfErr result (λ fault. IsFaultOf (IsRefusedToWrite text version) fault) }
+{
     if reach(accepted.checked.output()) > u32::from(version.longest()) {
+        let at = accepted.program.main.at;
+        dismiss(accepted);
         return Err(TextFault::Refused(Refusal {
             name: RefusalName::WideOutput,
-            at: accepted.program.main.at,
+            at,
         }));
     }
     Ok(accepted)

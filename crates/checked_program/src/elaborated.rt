@@ -34,12 +34,15 @@ pub fn elaborate_text(alloc: Global, text: &[u8]) -> Result<Core, TextFault>
     ensures nodes { IfOk result (λ c. HasFewNodes (core_of c)) }
     ensures refused { IfErr result (λ fault. IsFaultOf (IsUnelaborated text.now) fault) }
 {
-    let program = match program_of(alloc, text) {
-        Ok(program) => program,
-        Err(fault) => return Err(fault),
-    };
-    match elaborate(alloc, &program) {
-        Ok(core) => Ok(core),
-        Err(fault) => Err(refusal_for_names(&fault)),
+    match program_of(alloc, text) {
+        Ok(program) => {
+            let core = elaborate(alloc, &program);
+            drop(program);
+            match core {
+                Ok(core) => Ok(core),
+                Err(fault) => Err(refusal_for_names(&fault)),
+            }
+        }
+        Err(fault) => Err(fault),
     }
 }

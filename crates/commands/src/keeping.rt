@@ -100,7 +100,10 @@ pub fn save_checked<M: Keeping, L: Link, S: Shelf>(
         Ok((runner, first)) => {
             let mut runner = runner;
             let end = run_machine(alloc, &mut runner, Some(version), &first, link);
-            leave(alloc, &runner, end, name, shelf)
+            drop(first);
+            let left = leave(alloc, &runner, end, name, shelf);
+            drop(runner);
+            left
         }
         Err(BeginFault::Memory) => End::Memory,
         Err(BeginFault::Stopped(why)) => stop_first(version, why, link),

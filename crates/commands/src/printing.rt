@@ -18,14 +18,17 @@ fn canonical_text_of(alloc: Global, text: &[u8]) -> Result<String, End>
     ensures ended { IfErr result (λ end. Prints text.now [] end) }
     ensures written { IfErr result (λ end. (count : ℕ) → WriteCause end count count) }
 {
-    let program = match program_of(alloc, text) {
-        Ok(program) => program,
-        Err(TextFault::Memory) => return Err(End::Memory),
-        Err(TextFault::Refused(why)) => return Err(End::Refused(Some(why))),
-    };
-    match print(alloc, &program) {
-        Ok(printed) => Ok(printed),
-        Err(_) => Err(End::Memory),
+    match program_of(alloc, text) {
+        Ok(program) => {
+            let printed = print(alloc, &program);
+            drop(program);
+            match printed {
+                Ok(printed) => Ok(printed),
+                Err(_) => Err(End::Memory),
+            }
+        }
+        Err(TextFault::Memory) => Err(End::Memory),
+        Err(TextFault::Refused(why)) => Err(End::Refused(Some(why))),
     }
 }
 

@@ -77,16 +77,18 @@ pub fn run_word<M: Machine>(
     ensures costly { (at : ℕ) → IsErrOf result (WordFault.Budget at) → StopsForCallsAt (core_of checked.now) budget word.now at }
     ensures deep { (at : ℕ) → IsErrOf result (WordFault.Deep at) → StopsForLevelAt (core_of checked.now) 1000 word.now at }
 {
-    let (session, said) = match Session::<M>::open(alloc, checked, budget) {
-        Ok(opened) => opened,
-        Err(OpenRefusal::Memory) => return Err(WordFault::Memory),
-        Err(OpenRefusal::Budget(_)) => return Err(WordFault::Budget(0)),
-        Err(OpenRefusal::Deep(_)) => return Err(WordFault::Deep(0)),
-    };
-    let mut session = session;
-    let mut said = said;
-    for (at, event) in word.iter().enumerate() {
-        feed_one(alloc, &mut session, *event, at as u64, &mut said)?;
+    match Session::<M>::open(alloc, checked, budget) {
+        Ok((session, said)) => {
+            let mut session = session;
+            let mut said = said;
+            for (at, event) in word.iter().enumerate() {
+                feed_one(alloc, &mut session, *event, at as u64, &mut said)?;
+            }
+            drop(session);
+            Ok(event_word::prefix_of(alloc, checked.output(), &said)?)
+        }
+        Err(OpenRefusal::Memory) => Err(WordFault::Memory),
+        Err(OpenRefusal::Budget(_)) => Err(WordFault::Budget(0)),
+        Err(OpenRefusal::Deep(_)) => Err(WordFault::Deep(0)),
     }
-    Ok(event_word::prefix_of(alloc, checked.output(), &said)?)
 }

@@ -10,8 +10,8 @@ use Rattle.commands.specs.Leaving.{Way}
 use Rattle.commands.proofs.Leaving.{changes_nothing, saves_nothing}
 use Rattle.commands.proofs.keeping.save_checked.Goals as goal
 
-pub leave-requires-clause-stands : goal.leave-requires-clause-stands
-leave-requires-clause-stands g c well =
+pub leave-left-requires-clause-stands : goal.leave-left-requires-clause-stands
+leave-left-requires-clause-stands g c well =
     let P = meaning_of c.args.version c.args.budget (one_shot (core_of c.args.c.now)) in
     let begun = rw (sym c.deref.ensures.value) at c.in-Ok.ensures.begun in
     let to = c.run_machine-end.ensures.ran P begun in
@@ -21,7 +21,7 @@ pub returns-in-Ok-clause-saved : goal.returns-in-Ok-clause-saved
 returns-in-Ok-clause-saved g c =
     let core = core_of c.args.c.now in
     let begun = rw (sym c.deref.ensures.value) at c.in-Ok.ensures.begun in
-    c.leave.ensures.left (meaning_of c.args.version c.args.budget (one_shot core)) core _ _ _ _ (c.run_machine-end.ensures.program core c.in-Ok.ensures.program)
+    c.leave-left.ensures.left (meaning_of c.args.version c.args.budget (one_shot core)) core _ _ _ _ (c.run_machine-end.ensures.program core c.in-Ok.ensures.program)
     (c.run_machine-end.ensures.ran (meaning_of c.args.version c.args.budget (one_shot core)) begun)
 
 pub returns-in-Err-Memory-clause-saved : goal.returns-in-Err-Memory-clause-saved

@@ -31,22 +31,22 @@ feed_one-requires-clause-admitted g c =
     admitted_here c.args.word.now c.loop-at.at c.index-word-at.result c.loop-at-test.true c.index-word-at.is (IsRunning g.M.Machine.seen g.M.Machine.stands) c.loop-at.session (course_of (core_of c.args.checked.now) c.args.budget) c.loop-at.invariant.stands
     c.requires.word
 
-pub returns-in_err-feed_one-clause-costly : goal.returns-in_err-feed_one-clause-costly
-returns-in_err-feed_one-clause-costly g c =
+pub returns-in_err-feed_one-in-Ok-clause-costly : goal.returns-in_err-feed_one-in-Ok-clause-costly
+returns-in_err-feed_one-in-Ok-clause-costly g c =
     let core = core_of c.args.checked.now in
     let exit = err_from_is_err_and c.from_residual.result c.from_residual.ensures.1 in
     rw (exit.1, exit.2) (λ n stopped.
-    let costly = c.in_err-feed_one.ensures.costly n (still_stopped _ _ stopped) in
+    let costly = c.in_err-feed_one-in-Ok.ensures.costly n (still_stopped _ _ stopped) in
     subst (StopsForCallsAt core c.args.budget c.args.word.now) (sym costly.0)
     (inr (met_at c.args.word.now c.loop-at.at c.index-word-at.result c.loop-at-test.true c.index-word-at.is (IsCostly core c.args.budget)
     (costly.1 (course_of core c.args.budget) (take c.loop-at.at c.args.word.now) c.loop-at.invariant.stands))))
 
-pub returns-in_err-feed_one-clause-deep : goal.returns-in_err-feed_one-clause-deep
-returns-in_err-feed_one-clause-deep g c =
+pub returns-in_err-feed_one-in-Ok-clause-deep : goal.returns-in_err-feed_one-in-Ok-clause-deep
+returns-in_err-feed_one-in-Ok-clause-deep g c =
     let core = core_of c.args.checked.now in
     let exit = err_from_is_err_and c.from_residual.result c.from_residual.ensures.1 in
     rw (exit.1, exit.2) (λ n stopped.
-    let deep = c.in_err-feed_one.ensures.deep n (still_stopped _ _ stopped) in
+    let deep = c.in_err-feed_one-in-Ok.ensures.deep n (still_stopped _ _ stopped) in
     subst (StopsForLevelAt core 1000 c.args.word.now) (sym deep.0)
     (inr (met_at c.args.word.now c.loop-at.at c.index-word-at.result c.loop-at-test.true c.index-word-at.is (IsDeep core 1000)
     (deep.1 (course_of core c.args.budget) (take c.loop-at.at c.args.word.now) c.loop-at.invariant.stands))))
@@ -58,24 +58,24 @@ loop-at-preserved g c =
     let here = c.loop-at.invariant in
     record {
       stands = stands_on c.args.word.now c.loop-at.at c.index-word-at.result c.loop-at-test.true c.index-word-at.is (IsRunning g.M.Machine.seen g.M.Machine.stands) c.loop-at.session (course_of core c.args.budget) here.stands _
-          (c.in_ok-feed_one.ensures.stands (course_of core c.args.budget) before here.stands);
+          (c.in_ok-feed_one-in-Ok.ensures.stands (course_of core c.args.budget) before here.stands);
       says = says_on c.args.word.now c.loop-at.at c.index-word-at.result c.loop-at-test.true c.index-word-at.is (IsRunning g.M.Machine.seen g.M.Machine.stands) c.loop-at.session (course_of core c.args.budget) here.stands c.requires.word here.stands.at.state.goes_on.grows _ _ here.says
-          (c.in_ok-feed_one.ensures.said (course_of core c.args.budget) before here.stands);
+          (c.in_ok-feed_one-in-Ok.ensures.said (course_of core c.args.budget) before here.stands);
     }
 
-pub returns-clause-means : goal.returns-clause-means
-returns-clause-means g c =
+pub returns-in_ok-prefix_of-in-Ok-clause-means : goal.returns-in_ok-prefix_of-in-Ok-clause-means
+returns-in_ok-prefix_of-in-Ok-clause-means g c =
     let core = core_of c.args.checked.now in
     let word = c.args.word.now in
     let all : take c.loop-at.at word ≡ word = take_all c.loop-at.at word c.loop-at-test.false in
     let says = subst (λ (w : List StreamEvent). Says (one_shot core) w c.loop-at.said.items) all c.loop-at.invariant.says in
     let read : pre (type_of c.output.result.now) c.deref.result.now ≡ mean core (input_of core word) = ap₂ pre c.output.ensures c.deref.ensures.value ∙ says.means in
-    c.in_ok-prefix_of.ensures.value ∙ read
+    c.in_ok-prefix_of-in-Ok.ensures.value ∙ read
 
-pub returns-clause-whole : goal.returns-clause-whole
-returns-clause-whole g c ended =
+pub returns-in_ok-prefix_of-in-Ok-clause-whole : goal.returns-in_ok-prefix_of-in-Ok-clause-whole
+returns-in_ok-prefix_of-in-Ok-clause-whole g c ended =
     let core = core_of c.args.checked.now in
     let word = c.args.word.now in
     let all : take c.loop-at.at word ≡ word = take_all c.loop-at.at word c.loop-at-test.false in
     let standing = subst (λ (w : List StreamEvent). Stands (IsRunning g.M.Machine.seen g.M.Machine.stands) c.loop-at.session (course_of core c.args.budget) w) all c.loop-at.invariant.stands in
-    said_whole (IsRunning g.M.Machine.seen g.M.Machine.stands) (λ m course word running. running.goes_on) c.loop-at.session (course_of core c.args.budget) word standing _ (returns-clause-means g c) ended
+    said_whole (IsRunning g.M.Machine.seen g.M.Machine.stands) (λ m course word running. running.goes_on) c.loop-at.session (course_of core c.args.budget) word standing _ (returns-in_ok-prefix_of-in-Ok-clause-means g c) ended
