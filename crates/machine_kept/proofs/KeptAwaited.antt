@@ -22,8 +22,8 @@ use Rattle.main_steps.proofs.SplitLists.{Lists, over_lists, later_lists}
 use Rattle.machine_parts.specs.AwaitedTree.{stream_awaited, both_awaited, turns_awaited, still_entries, entries_on, awaited_after, marks_of, place_in}
 use Rattle.kept_state.specs.KeptPlace.{semi_count, first_cuts, second_cuts, rest_bunch, split_rest, split_rest_after}
 use Rattle.kept_state.proofs.RestBunches.{outside, rest_types, rest_names}
+use Rattle.kept_state.specs.KeptSince.{cuts_since}
 use Rattle.machine_kept.specs.KeptAwaiting.{awaited_left, awaited_type}
-use Rattle.machine_kept.specs.SinceView.{cuts_since}
 use Rattle.machine_kept.proofs.PaddedLists.{Padded, no_name, same_name, left_out, padded_both, padded_names, types_outside_both, prefixes_outside_both, types_padded, prefixes_padded}
 
 -- as many marks as the first part has semicolons, and the others

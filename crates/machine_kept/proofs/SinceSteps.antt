@@ -1,5 +1,5 @@
 -- What a machine keeps that goes on from a kept state: at the beginning, after an event, and once its state is put
--- into a simpler form.
+-- into a simpler form. So it can be kept again.
 use Rattle.std.proofs.Common.{◌≡◌, ◌∙◌, ℕ, suc, true, ◌+◌, ◌<◌, ◌≤◌, ◌^◌, List, [], ◌∷◌, ◌++◌, length, ap, ap₂, sym, subst, arith, length-append}
 use Rattle.stream_type.specs.StreamType.{StreamType, eps}
 use Rattle.stream_prefix.specs.StreamPrefix.{StreamPrefix, emp, der, join}
@@ -31,12 +31,18 @@ use Rattle.machine_parts.specs.AwaitedTree.{AwaitedTree, entries_on, awaited_aft
 use Rattle.machine_parts.proofs.StandingTrees.{above_from_below}
 use Rattle.kept_state.specs.KeptTree.{KeptTree}
 use Rattle.kept_state.specs.KeptTyping.{types_kept, context_kept, IsTypedKept}
-use Rattle.kept_state.specs.KeptMeaning.{input_kept, split_kept, split_kept_after, calls_kept, level_kept, types_since, output_since, rest_run_kept, rest_mean_kept, next_kept}
-use Rattle.kept_state.specs.Laws.{input_since, event_since, StandsForKeptAfter, GoesOnKeptWith}
+use Rattle.kept_state.specs.KeptNames.{IsTidy}
+use Rattle.kept_state.specs.KeptMeaning.{input_kept, split_kept, split_kept_after, calls_kept, level_kept, types_since, output_since, rest_run_kept, rest_mean_kept, next_kept, StandsForKept}
+use Rattle.kept_state.specs.KeptSince.{place_kept, place_since, kept_since}
+use Rattle.kept_state.specs.Laws.{input_since, event_since, StandsForKeptAfter, GoesOnKeptWith, IsKeptSince}
 use Rattle.kept_state.proofs.RestSplits.{rest_empty, rest_after_derives}
 use Rattle.kept_state.proofs.KeptSteps.{kept_derives, resumes_word, goes_on_kept_word}
+use Rattle.kept_state.proofs.KeptAgain.{keeps_again}
+use Rattle.kept_state.proofs.TidyPrograms.{stays_tidy}
+use Rattle.kept_state.proofs.TidyKeptStates.{typed_is_tidy}
+use Rattle.names_kept.proofs.SimplerNames.{simpler_is_tidy}
 use Rattle.machine_kept.specs.KeptAwaiting.{awaited_kept}
-use Rattle.machine_kept.specs.SinceView.{place_kept, place_since, answer_since, IsCostlySince, IsDeepSince}
+use Rattle.machine_kept.specs.SinceView.{answer_since, IsCostlySince, IsDeepSince}
 use Rattle.machine_kept.specs.Keeping.{KeepsSince}
 use Rattle.machine_kept.proofs.KeptAwaited.{after_nothing, after_both, values_in_turn, types_later, prefixes_later, place_after, place_first}
 use Rattle.machine_kept.proofs.SimplerSince.{kept_outside, simpler_stands_since}
@@ -80,6 +86,7 @@ resumes_with c runnable k typed budget within d s a input output events e f g h 
       is_place = ap place_in (g ∙ sym (after_nothing c.main.params (types_kept c k) k.cuts)) ∙ place_is c runnable k typed (word_derives (input_kept c k) [] tt);
       in_budget = let n : 0 ≤ budget = omega arith in n;
       in_limit = within;
+      tidy = subst (λ (t : StateTree). IsTidy (leaf_names c.main.params) t) (sym f) (typed_is_tidy c k typed);
     }
 
 module _ (c : CoreProgram) (budget : ℕ) (s : StateTree) (a : AwaitedTree) (input output : StreamType) (events spent : ℕ) (k : KeptTree) (w : List StreamEvent) (x : StreamEvent) (keeps : KeepsSince c budget s a input output events spent k w) (admits : Admits (after_word w (input_kept c k)) x) where
@@ -168,6 +175,8 @@ module _ (c : CoreProgram) (budget : ℕ) (s : StateTree) (a : AwaitedTree) (inp
           is_place = ap place_in then ∙ place_is c keeps.runnable k keeps.is_typed (word_derives (input_kept c k) (w ++ x ∷ []) goes_on.is_word);
           in_budget = subst (λ (m : ℕ). spent' ≤ m) (sym b) (subst (λ (m : ℕ). m ≤ budget) (sym j) few);
           in_limit = subst (λ (m : ℕ). m ≤ 1000000) (sym b) keeps.in_limit;
+          tidy = subst (λ (t : StateTree). IsTidy (leaf_names c.main.params) t) (sym is_state)
+              (stays_tidy c (leaf_names c.main.params) s (types_held (entries_on a (one_of x input))) output (prefixes_held (entries_on a (one_of x input))) keeps.runnable keeps.tidy);
         }
       where
         then : a' ≡ awaited_after (awaited_kept c k) (input_since c k (w ++ x ∷ []))
@@ -194,4 +203,21 @@ keeps_simpler_since c budget s t a input output events spent k word keeps simple
   is_place = keeps.is_place;
   in_budget = keeps.in_budget;
   in_limit = keeps.in_limit;
+  tidy = simpler_is_tidy (leaf_names c.main.params) output s t keeps.tidy simpler;
 }
+
+-- what is kept of it goes on just as the kept state: its place, its output, its count and its state
+pub is_kept_again : (c : CoreProgram) (budget : ℕ) (s : StateTree) (a : AwaitedTree) (input output : StreamType) (events spent : ℕ) (k : KeptTree) (word : List StreamEvent) → KeepsSince c budget s a input output events spent k word → events ≤ 2 ^ 41
+    → (l : KeptTree) → l.events ≡ events → place_kept l ≡ place_in a → l.out ≡ output → l.state ≡ s → IsKeptSince c k (input_since c k word) l
+is_kept_again c budget s a input output events spent k word h few l e f g i =
+    subst (λ (m : KeptTree). IsKeptSince c k (input_since c k word) m) (sym same)
+    (keeps_again c k (input_since c k word) events s h.runnable h.is_typed (is_prefix (word_derives (input_kept c k) word h.is_word)) few stands h.tidy)
+  where
+    stands : StandsForKept c k (depth_after events) (input_since c k word) s
+    stands = subst (λ (n : ℕ). StandsForKept c k (depth_after n) (input_since c k word) s) (sym h.is_count) h.stands_for
+
+    same : l ≡ kept_since c k (input_since c k word) events s
+    same =
+        let place = f ∙ h.is_place in
+        let out = g ∙ h.is_output in
+        λ j. record { events = e j; ins = (place j).ins; cuts = (place j).cuts; out = out j; state = i j }

@@ -27,11 +27,11 @@ use Rattle.machine_bounds.proofs.BelowBounds.{simpler_below, begins_below_with, 
 use Rattle.kept_state.specs.KeptTree.{KeptTree}
 use Rattle.kept_state.specs.KeptNames.{IsTidy}
 use Rattle.kept_state.specs.KeptMeaning.{kept_at}
+use Rattle.kept_state.specs.KeptSince.{place_kept}
 use Rattle.kept_state.specs.Laws.{IsKept}
 use Rattle.kept_state.proofs.KeptPrograms.{keeps}
 use Rattle.kept_state.proofs.TidyPrograms.{first_is_tidy, stays_tidy}
 use Rattle.names_kept.proofs.SimplerNames.{simpler_is_tidy}
-use Rattle.machine_kept.specs.SinceView.{place_kept}
 use Rattle.machine_kept.specs.Keeping.{KeepsTidy}
 
 -- a machine begins with what it has to keep, in terms of what it holds then,

@@ -13,9 +13,9 @@ use Rattle.kept_state.specs.KeptTree.{KeptTree}
 use Rattle.kept_state.specs.KeptNames.{IsTidy}
 use Rattle.kept_state.specs.KeptTyping.{IsTypedKept}
 use Rattle.kept_state.specs.KeptMeaning.{input_kept, output_since}
+use Rattle.kept_state.specs.KeptSince.{place_since}
 use Rattle.kept_state.specs.Laws.{input_since, StandsForKeptAfter}
 use Rattle.machine_kept.specs.KeptAwaiting.{awaited_kept}
-use Rattle.machine_kept.specs.SinceView.{place_since}
 
 -- after the word, a machine keeps all that machines have to and that bounds what it holds, and its names are apart
 pub record KeepsTidy (c : CoreProgram) (budget : ℕ) (s : StateTree) (a : AwaitedTree) (input output : StreamType) (events spent : ℕ)
@@ -38,3 +38,5 @@ pub record KeepsSince (c : CoreProgram) (budget : ℕ) (s : StateTree) (a : Awai
   pub is_place : place_in a ≡ place_since c k (input_since c k word)
   pub in_budget : spent ≤ budget
   pub in_limit : budget ≤ 1000000
+  -- the names of its state are apart, so that it can be kept again
+  pub tidy : IsTidy (leaf_names c.main.params) s

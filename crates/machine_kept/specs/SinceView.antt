@@ -5,39 +5,21 @@
 --   its program after some word. It stands for the kept state after the word of what came since, and what it owes is
 --   told by the meaning of the kept state. These definitions are those of a machine that stands for its program
 --   (`MachineView` in `delta_state`), read on a kept state.
-use Rattle.std.specs.Prelude.{ℕ, ◌+◌, ◌<◌, ◌≤◌, ◌≡◌, ◌^◌, Bool, true, false, List, [], ◌∷◌, ◌++◌, length, map}
-use Rattle.stream_prefix.specs.StreamPrefix.{StreamPrefix, par_both, cat_fst, cat_both}
+use Rattle.std.specs.Prelude.{ℕ, ◌+◌, ◌<◌, ◌≤◌, ◌≡◌, ◌^◌, List, [], ◌∷◌, ◌++◌, length}
+use Rattle.stream_prefix.specs.StreamPrefix.{StreamPrefix}
 use Rattle.stream_prefix.specs.Increment.{increment}
-use Rattle.bunch.specs.BunchTree.{BunchTree, comma, semi, leaf_names}
 use Rattle.event_word.specs.StreamEvent.{StreamEvent}
 use Rattle.event_word.specs.Admits.{Admits}
 use Rattle.event_word.specs.Word.{IsWord, after_word}
 use Rattle.core_term.specs.CoreTerm.{CoreProgram}
 use Rattle.delta_state.specs.StateTree.{StateTree}
 use Rattle.delta_state.specs.PlainState.{without_marks}
-use Rattle.delta_state.specs.PlaceTree.{PlaceTree}
 use Rattle.delta_state.specs.MachineView.{MachineView}
 use Rattle.kept_state.specs.KeptTree.{KeptTree}
-use Rattle.kept_state.specs.KeptPlace.{first_cuts, second_cuts}
 use Rattle.kept_state.specs.KeptTyping.{IsTypedKept}
-use Rattle.kept_state.specs.KeptMeaning.{input_kept, mean_kept, calls_kept, level_kept, types_since}
+use Rattle.kept_state.specs.KeptMeaning.{input_kept, mean_kept, calls_kept, level_kept}
+use Rattle.kept_state.specs.KeptSince.{place_since}
 use Rattle.kept_state.specs.Laws.{input_since, StandsForKeptAfter}
-
--- the place of a kept state
-abbrev pub place_kept : KeptTree → PlaceTree
-place_kept k = record { ins = k.ins; cuts = k.cuts }
-
--- the marks of a bunch once p has come, where these had come before
-abbrev pub cuts_since : BunchTree → List Bool → StreamPrefix → List Bool
-cuts_since (comma a b) cuts (par_both p q) = cuts_since a (first_cuts a cuts) p ++ cuts_since b (second_cuts a cuts) q
-cuts_since (semi a b) (true ∷ cuts) p = true ∷ (first_cuts a cuts ++ cuts_since b (second_cuts a cuts) p)
-cuts_since (semi a b) (false ∷ cuts) (cat_fst p) = false ∷ (cuts_since a (first_cuts a cuts) p ++ second_cuts a cuts)
-cuts_since (semi a b) (false ∷ cuts) (cat_both p q) = true ∷ (cuts_since a (first_cuts a cuts) p ++ cuts_since b (second_cuts a cuts) q)
-cuts_since b cuts p = cuts
-
--- the place of a kept state, gone on by p
-abbrev pub place_since : CoreProgram → KeptTree → StreamPrefix → PlaceTree
-place_since c k p = record { ins = map (types_since c k p) (leaf_names c.main.params); cuts = cuts_since c.main.params k.cuts p }
 
 -- a machine that is seen so stands for the kept state after the word: its state does, its place is that of the kept
 -- state gone on by the word, it has taken as many events as that had and the word has, and at the last of them it

@@ -9,9 +9,11 @@ ghost use Rattle.delta_state.specs.MachineView.{input_of};
 ghost use Rattle.delta_state.specs.Stands.{output_left};
 ghost use Rattle.kept_state.specs.KeptTree.{KeptTree};
 ghost use Rattle.kept_state.specs.KeptTyping.{IsTypedKept};
-ghost use Rattle.kept_state.specs.Laws.{IsKept};
+ghost use Rattle.kept_state.specs.KeptMeaning.{output_since};
+ghost use Rattle.kept_state.specs.KeptSince.{place_kept};
+ghost use Rattle.kept_state.specs.Laws.{input_since, IsKept, IsKeptSince};
 ghost use Rattle.delta_keep.specs.KeptView.{kept_of};
-ghost use Rattle.machine_kept.specs.SinceView.{place_kept, StandsSince, AwaitsSince, MayTakeSince, answer_since, IsCostlySince, IsDeepSince};
+ghost use Rattle.machine_kept.specs.SinceView.{StandsSince, AwaitsSince, MayTakeSince, answer_since, IsCostlySince, IsDeepSince};
 
 use core_term::Checked;
 use delta_keep::Kept;
@@ -27,9 +29,10 @@ pub trait Keeping: Machine {
     /// It stands for the kept state after this word. A machine may ask more of itself than the law below.
     ghost since: { Self → KeptTree → List StreamEvent → Type 0 };
 
-    /// What is to be kept of it. Where it stands for its program after a word of at most 2^41 events, what is
-    /// kept is typed and goes on just as the program (`IsKept` in `kept_state`), and its output's type is what is left of
-    /// the program's. Its only error is want of memory.
+    /// What is to be kept of it. Where it stands for its program after a word, or for a kept state after what came since,
+    /// and has taken at most 2^41 events in all, what is kept is typed and goes on just as the program does, or as that state
+    /// (`IsKept` and `IsKeptSince` in `kept_state`), and its output's type is what is left of theirs. Its only error is want
+    /// of memory.
     fn to_kept(&self, alloc: Global) -> Result<Kept, Memory>
         ensures events { IfOk result (λ k. (kept_of k).events ≡ (Self.seen self.now).events) }
         ensures place { IfOk result (λ k. place_kept (kept_of k) ≡ (Self.seen self.now).place) }
@@ -37,7 +40,11 @@ pub trait Keeping: Machine {
         ensures kept { IfOk result (λ k. (word : List StreamEvent) → Self.stands self.now word → (Self.seen self.now).events ≤ 2 ^ 41
             → IsKept (Self.seen self.now).program (input_of (Self.seen self.now).program word) (kept_of k)) }
         ensures output { IfOk result (λ k. (word : List StreamEvent) → Self.stands self.now word
-            → (kept_of k).out ≡ output_left (Self.seen self.now).program (input_of (Self.seen self.now).program word)) };
+            → (kept_of k).out ≡ output_left (Self.seen self.now).program (input_of (Self.seen self.now).program word)) }
+        ensures kept_again { IfOk result (λ l. (k : KeptTree) (word : List StreamEvent) → since self.now k word → (Self.seen self.now).events ≤ 2 ^ 41
+            → IsKeptSince (Self.seen self.now).program k (input_since (Self.seen self.now).program k word) (kept_of l)) }
+        ensures output_again { IfOk result (λ l. (k : KeptTree) (word : List StreamEvent) → since self.now k word
+            → (kept_of l).out ≡ output_since (Self.seen self.now).program k (input_since (Self.seen self.now).program k word)) };
 
     /// A machine that goes on from what was kept of a run of the program, or of whatever is typed for it. The budget
     /// is the number of calls that it may make at each event. Its only error is want of memory.
