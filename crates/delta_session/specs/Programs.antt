@@ -19,6 +19,10 @@ one_shot c = record { input = input_type c; result = c.main.result; gives = mean
 abbrev pub course_of : CoreProgram → ℕ → Course
 course_of c budget = record { gives = one_shot c; before = 0; budget = budget }
 
+-- the second machine's program is the first one's
+abbrev pub IsOfSameProgram : {M : Type 0} → (M → MachineView) → M → M → Type 0
+IsOfSameProgram seen old new = (c : CoreProgram) → (seen old).program ≡ c → (seen new).program ≡ c
+
 -- a program that can run: it is typed, and no path of its output has more than 63 steps
 pub record CanRun (c : CoreProgram) : Type 0 where
   pub core : IsCore c

@@ -22,12 +22,15 @@ pub trait Answers: Sized + Drop {
     /// It stands for this course after this word.
     ghost stands: { Self → Course → List StreamEvent → Type 0 };
 
+    /// The second runs what the first ran.
+    ghost same: { Self → Self → Type 0 };
+
     /// Takes an event, and answers what is said to it. After a refusal the machine is spent: it can only be dropped.
     /// `Budget` and `Deep` come only where this event alone makes more calls than the budget, or all that has come
     /// then makes one at a level above 1,000.
     fn answer(&mut self, alloc: Global, x: &Event) -> Result<Prefix, StepRefusal>
         requires { MayAnswer stands self.old x.now }
-        ensures program { OnOk result ((seen self.new).program ≡ (seen self.old).program) }
+        ensures same { OnOk result (same self.old self.new) }
         ensures stands { OnOk result (WhereItAwaits stands self.old x.now (λ course word. stands self.new course (word ++ x.now ∷ []))) }
         ensures answer { IfOk result (λ p. WhereItAwaits stands self.old x.now (λ course word. prefix_of p ≡ said_to course.gives word x.now)) }
         ensures costly { (n : ℕ) → IsErrOf result (StepRefusal.Budget n) → WhereItAwaits stands self.old x.now (λ course word. (n ≡ course.budget) × IsCostly course.gives n word x.now) }
@@ -45,4 +48,9 @@ pub trait Answers: Sized + Drop {
 
     /// Where it stands for a course after a word, that goes on.
     ghost goes_on: { (m : Self) (course : Course) (word : List StreamEvent) → stands m course word → GoesOn course word };
+
+    /// It runs what it runs, and so it is over more than one event.
+    ghost same_at_first: { (m : Self) → same m m };
+
+    ghost same_throughout: { (a b c : Self) → same a b → same b c → same a c };
 }

@@ -4,14 +4,14 @@ ghost use Rattle.std.specs.Prelude.{◌≡◌, ◌≤◌, [], None, IsTrue, IfOk
 ghost use Rattle.stream_type.specs.StreamType.{type_of, reach_of};
 ghost use Rattle.core_term.specs.CoreTerm.{core_of, fits_of};
 ghost use Rattle.event_frame.specs.Frames.{longest};
-ghost use Rattle.delta_session.specs.Standing.{Stands, HasTaken, IsOf};
+ghost use Rattle.delta_session.specs.Standing.{Stands, HasTaken};
 ghost use Rattle.kept_state.specs.KeptTyping.{IsTypedKept};
 ghost use Rattle.kept_state.specs.KeptMeaning.{input_kept};
 ghost use Rattle.delta_keep.specs.KeptView.{kept_of};
 ghost use Rattle.delta_loop.specs.Meaning.{HasBegun};
 ghost use Rattle.delta_runner.specs.Standing.{StandsFor};
 ghost use Rattle.kept_runner.specs.KeptOneShot.{meaning_since};
-ghost use Rattle.kept_runner.specs.SinceCourse.{IsSince, course_since};
+ghost use Rattle.kept_runner.specs.SinceCourse.{IsSince, IsFrom, course_since};
 
 use crate::woken::Woken;
 use core_term::{Checked, Core};
@@ -36,41 +36,43 @@ fn input_left(alloc: Global, c: &Core, k: &Kept) -> Result<Ty, Memory>
 /// A session that goes on from what was kept of a run of the program, or of whatever is typed for it, before anything
 /// more has come; nothing is said then. The budget is the number of calls that it may make at each event. Its only
 /// error is want of memory.
-pub fn resume<M: Keeping>(
+pub fn resume<'a, M: Keeping>(
     alloc: Global,
     c: &Checked,
-    k: &Kept,
+    k: &'a Kept,
     budget: u64,
-) -> Result<Session<Woken<M>>, Memory>
+) -> Result<Session<Woken<'a, M>>, Memory>
     requires fits { IsTrue (fits_of (core_of c.now)) }
     requires typed { IsTypedKept (core_of c.now) (kept_of k.now) }
     requires budget { budget ≤ 1000000 }
     ensures stands { IfOk result (λ r. Stands (IsSince M.seen M.since) r (course_since (core_of c.now) (kept_of k.now) budget) []) }
     ensures taken { IfOk result (λ r. HasTaken r (course_since (core_of c.now) (kept_of k.now) budget) []) }
-    ensures program { IfOk result (λ r. IsOf (λ woken. M.seen woken.machine) r (core_of c.now)) }
+    ensures from { IfOk result (λ r. IsFrom M.seen r (core_of c.now) (kept_of k.now)) }
 {
     let core = c.core();
     let rest = input_left(alloc, core, k)?;
     let output = stream_type::copy(alloc, &k.out)?;
     let machine = M::from_kept(alloc, c, k, budget)?;
-    Ok(Session::over(Woken { machine }, rest, output, k.events))
+    let events = k.events;
+    Ok(Session::over(Woken { machine, from: k }, rest, output, events))
 }
 
 /// Its runner. Neither a header nor a frame comes first. Its only error is want of memory.
-pub fn begin<M: Keeping>(
+pub fn begin<'a, M: Keeping>(
     alloc: Global,
     c: &Checked,
-    k: &Kept,
+    k: &'a Kept,
     budget: u64,
     version: Version,
-) -> Result<Runner<Woken<M>>, Memory>
+) -> Result<Runner<Woken<'a, M>>, Memory>
     requires fits { IsTrue (fits_of (core_of c.now)) }
     requires typed { IsTypedKept (core_of c.now) (kept_of k.now) }
     requires budget { budget ≤ 1000000 }
     requires short { reach_of (core_of c.now).main.result ≤ longest version }
     ensures begun { IfOk result (λ r. HasBegun (StandsFor (IsSince M.seen M.since)) (meaning_since version budget (core_of c.now) (kept_of k.now)) r None []) }
+    ensures from { IfOk result (λ r. IsFrom M.seen r.session (core_of c.now) (kept_of k.now)) }
 {
-    let session = resume::<M>(alloc, c, k, budget)?;
+    let session = resume(alloc, c, k, budget)?;
     Ok(Runner {
         session,
         version,

@@ -8,22 +8,20 @@ use Rattle.kept_runner.specs.SinceCourse.{course_since}
 use Rattle.kept_runner.proofs.KeptGrowth.{first_is_nothing}
 use Rattle.kept_runner.proofs.resuming.begin.Goals as goal
 
-pub returns : goal.returns
-returns g c =
+pub returns-clause-begun : goal.returns-clause-begun
+returns-clause-begun g c =
     let k = kept_of c.args.k.now in
     let less = c.requires.typed.is_placed.reaches in
     let short : reach_of k.out ≤ longest c.args.version = omega (arith, less, c.requires.short) in
     record {
-      begun = record {
-        state = record {
-          header = None;
-          course = course_since (core_of c.args.c.now) k c.args.budget;
-          means = refl;
-          standing = c.in_ok-session.ensures.stands;
-          short = short;
-          kept = refl;
-        };
-        version = refl;
-        bytes = sym (first_is_nothing c.args.version c.args.budget (core_of c.args.c.now) k c.requires.typed);
+      state = record {
+        header = None;
+        course = course_since (core_of c.args.c.now) k c.args.budget;
+        means = refl;
+        standing = c.in_ok-session.ensures.stands;
+        short = short;
+        kept = refl;
       };
+      version = refl;
+      bytes = sym (first_is_nothing c.args.version c.args.budget (core_of c.args.c.now) k c.requires.typed);
     }
