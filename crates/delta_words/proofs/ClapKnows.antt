@@ -1,5 +1,6 @@
 -- What clap's subcommand of each command knows.
 use Rattle.std.proofs.Common.{◌≡◌, ◌<◌, List, [], ◌∷◌, Bool, true, false, ◌||◌, cond, refl, codes, Some, arith, ap, ◌∙◌}
+use Rattle.std.specs.Prelude.{nat_lt}
 use Rattle.clap.specs.Faults.{check_fault, default_fault, defaults_fault, given_default_fault}
 use Rattle.clap.specs.Takes.{is_given}
 use Rattle.clap.specs.Kinds.{or_else}
@@ -19,8 +20,8 @@ first_rule = with_index 1 (filled (operand_rule (codes "FIRST")))
 abbrev pub second_rule : Rule
 second_rule = with_index 2 (filled (operand_rule (codes "SECOND")))
 
-abbrev pub rest_rule : Rule
-rest_rule = with_index 3 (filled (several_rule (codes "REST")))
+abbrev pub rest_rule : Bool → Rule
+rest_rule must = with_index 3 (filled (several_rule (codes "REST") must))
 
 abbrev pub valued_rule : Rule
 valued_rule = with_index 3 (filled (budget_rule (codes "budget")))
@@ -58,13 +59,12 @@ pub record Knows (s : Shape) (t : Takes) : Type 0 where
   pub again : s.args_override_self ≡ false
   pub some : 0 < t.most → 0 < t.operands
   pub both : 1 < t.most → 1 < t.operands
-  pub several : 2 < t.most → 2 < t.operands
   pub index_first : 0 < t.operands → arg_by_index s.rules 1 ≡ Some first_rule
   pub index_second : 1 < t.operands → arg_by_index s.rules 2 ≡ Some second_rule
-  pub index_rest : 2 < t.operands → arg_by_index s.rules 3 ≡ Some rest_rule
+  pub index_rest : 2 < t.most → arg_by_index s.rules 3 ≡ Some (rest_rule (nat_lt 2 t.operands))
   pub id_first : 0 < t.operands → arg_by_id s.rules (codes "FIRST") ≡ Some first_rule
   pub id_second : 1 < t.operands → arg_by_id s.rules (codes "SECOND") ≡ Some second_rule
-  pub id_rest : 2 < t.operands → arg_by_id s.rules (codes "REST") ≡ Some rest_rule
+  pub id_rest : 2 < t.most → arg_by_id s.rules (codes "REST") ≡ Some (rest_rule (nat_lt 2 t.operands))
   pub id_budget : t.budget ≡ true → arg_by_id s.rules (codes "budget") ≡ Some valued_rule
   pub long_budget : t.budget ≡ true → arg_by_long s.rules (codes "budget") ≡ Some valued_rule
   pub long_v2 : t.v2 ≡ true → arg_by_long s.rules (codes "v2") ≡ Some v2_rule
@@ -91,10 +91,10 @@ second_passes rows = go (has_row (codes "SECOND") rows)
     go true = refl
     go false = refl
 
-rest_passes : Passes rest_rule
-rest_passes rows = go (has_row (codes "REST") rows)
+rest_passes : (must : Bool) → Passes (rest_rule must)
+rest_passes must rows = go (has_row (codes "REST") rows)
   where
-    go : (b : Bool) → cond (b || true) [] (given_default_fault rest_rule []) ≡ []
+    go : (b : Bool) → cond (b || true) [] (given_default_fault (rest_rule must) []) ≡ []
     go true = refl
     go false = refl
 
@@ -140,12 +140,17 @@ text_defaults = one_more v2_rule _ v2_passes (one_more frames_rule _ frames_pass
 gen_defaults : (rows : List Row) → defaults_fault rows (first_rule ∷ second_rule ∷ []) ≡ []
 gen_defaults = one_more first_rule _ first_passes (one_more second_rule _ second_passes no_defaults)
 
-feed_defaults : (rows : List Row) → defaults_fault rows (first_rule ∷ second_rule ∷ rest_rule ∷ valued_rule ∷ []) ≡ []
+feed_defaults : (rows : List Row) → defaults_fault rows (first_rule ∷ second_rule ∷ rest_rule true ∷ valued_rule ∷ []) ≡ []
 feed_defaults =
-    one_more first_rule _ first_passes (one_more second_rule _ second_passes (one_more rest_rule _ rest_passes (one_more valued_rule _ valued_passes no_defaults)))
+    one_more first_rule _ first_passes (one_more second_rule _ second_passes (one_more (rest_rule true) _ (rest_passes true) (one_more valued_rule _ valued_passes no_defaults)))
 
-save_defaults : (rows : List Row) → defaults_fault rows (first_rule ∷ second_rule ∷ valued_rule ∷ v2_rule ∷ []) ≡ []
+save_defaults : (rows : List Row) → defaults_fault rows (first_rule ∷ second_rule ∷ rest_rule false ∷ valued_rule ∷ v2_rule ∷ []) ≡ []
 save_defaults =
+    one_more first_rule _ first_passes (one_more second_rule _ second_passes (one_more (rest_rule false) _ (rest_passes false)
+    (one_more valued_rule _ valued_passes (one_more v2_rule _ v2_passes no_defaults))))
+
+resume_defaults : (rows : List Row) → defaults_fault rows (first_rule ∷ second_rule ∷ valued_rule ∷ v2_rule ∷ []) ≡ []
+resume_defaults =
     one_more first_rule _ first_passes (one_more second_rule _ second_passes (one_more valued_rule _ valued_passes (one_more v2_rule _ v2_passes no_defaults)))
 
 -- one operand and the options of `run`
@@ -155,7 +160,6 @@ knows_run called = record {
   again = refl;
   some = λ h. omega (arith, h);
   both = λ h. omega (arith, h);
-  several = λ h. omega (arith, h);
   index_first = λ _. refl;
   index_second = λ h. absurd (omega arith);
   index_rest = λ h. absurd (omega arith);
@@ -177,7 +181,6 @@ knows_check called = record {
   again = refl;
   some = λ h. omega (arith, h);
   both = λ h. omega (arith, h);
-  several = λ h. omega (arith, h);
   index_first = λ _. refl;
   index_second = λ h. absurd (omega arith);
   index_rest = λ h. absurd (omega arith);
@@ -199,7 +202,6 @@ knows_text called = record {
   again = refl;
   some = λ h. omega (arith, h);
   both = λ h. omega (arith, h);
-  several = λ h. omega (arith, h);
   index_first = λ h. absurd (omega arith);
   index_second = λ h. absurd (omega arith);
   index_rest = λ h. absurd (omega arith);
@@ -221,7 +223,6 @@ knows_gen called = record {
   again = refl;
   some = λ h. omega (arith, h);
   both = λ h. omega (arith, h);
-  several = λ h. omega (arith, h);
   index_first = λ _. refl;
   index_second = λ _. refl;
   index_rest = λ h. absurd (omega arith);
@@ -243,7 +244,6 @@ knows_feed called = record {
   again = refl;
   some = λ h. omega arith;
   both = λ h. omega arith;
-  several = λ h. omega arith;
   index_first = λ _. refl;
   index_second = λ _. refl;
   index_rest = λ _. refl;
@@ -258,14 +258,34 @@ knows_feed called = record {
   asks = λ rows first second rest. (let f = first (omega arith) in let g = second (omega arith) in let r = rest (omega arith) in simp (f, g, r));
 }
 
--- two operands and the options of `run`
+-- two operands or three and the options of `run`
 knows_save : (called : Text) → Knows (leaf_that called (takes_of Save)) (takes_of Save)
 unfolding leaf_that with_rule_if
 knows_save called = record {
   again = refl;
   some = λ h. omega (arith, h);
   both = λ h. omega (arith, h);
-  several = λ h. omega (arith, h);
+  index_first = λ _. refl;
+  index_second = λ _. refl;
+  index_rest = λ _. refl;
+  id_first = λ _. refl;
+  id_second = λ _. refl;
+  id_rest = λ _. refl;
+  id_budget = λ _. refl;
+  long_budget = λ _. refl;
+  long_v2 = λ _. refl;
+  long_frames = λ h. cc;
+  defaults = save_defaults;
+  asks = λ rows first second rest. (let f = first (omega arith) in let g = second (omega arith) in simp (f, g));
+}
+
+-- two operands and the options of `run`
+knows_resume : (called : Text) → Knows (leaf_that called (takes_of Resume)) (takes_of Resume)
+unfolding leaf_that with_rule_if
+knows_resume called = record {
+  again = refl;
+  some = λ h. omega (arith, h);
+  both = λ h. omega (arith, h);
   index_first = λ _. refl;
   index_second = λ _. refl;
   index_rest = λ h. absurd (omega arith);
@@ -276,7 +296,7 @@ knows_save called = record {
   long_budget = λ _. refl;
   long_v2 = λ _. refl;
   long_frames = λ h. cc;
-  defaults = save_defaults;
+  defaults = resume_defaults;
   asks = λ rows first second rest. (let f = first (omega arith) in let g = second (omega arith) in simp (f, g));
 }
 
@@ -292,4 +312,4 @@ knows Bound = knows_check (name_of Bound)
 knows Derive = knows_gen (name_of Derive)
 knows Feed = knows_feed (name_of Feed)
 knows Save = knows_save (name_of Save)
-knows Resume = knows_save (name_of Resume)
+knows Resume = knows_resume (name_of Resume)

@@ -64,7 +64,7 @@ module _ (s : Shape) (t : Takes) (k : Knows s t) where
       rw i (used-new (codes "SECOND") (reading_of vp.String) (word ∷ []) rows none) in
       record { settles = simp (i, new); holds = subst (λ (r : List Row). Holds r (record line { operands = line.operands ++ word ∷ [] })) (sym is) add }
 
-  rest_good : (rows : List Row) (line : WrittenLine) (a b : Text) (more : List Text) (word : Text) → Holds rows line → line.operands ≡ a ∷ b ∷ more → 2 < t.operands
+  rest_good : (rows : List Row) (line : WrittenLine) (a b : Text) (more : List Text) (word : Text) → Holds rows line → line.operands ≡ a ∷ b ∷ more → 2 < t.most
       → Good s t k rows (Some (codes "REST", word ∷ [])) (record line { operands = line.operands ++ word ∷ [] })
   rest_good rows line a b more word h e lt =
       let i = k.id_rest lt in
@@ -133,7 +133,7 @@ module _ (s : Shape) (t : Takes) (k : Knows s t) where
       go (a ∷ b ∷ more) e =
           let n : length l.operands ≡ suc (suc (length more)) = ap length e in
           let p : place_of l.operands ≡ 3 = ap place_of e in
-          let lt : 2 < t.operands = k.several (grind (arith, nat_tests)) in
+          let lt : 2 < t.most = grind (arith, nat_tests) in
           let m : length (l.operands ++ word ∷ []) ≡ length l.operands + 1 = length-append l.operands (word ∷ []) in
           let q : place_of (l.operands ++ word ∷ []) ≡ 3 = rw e refl in
           record {

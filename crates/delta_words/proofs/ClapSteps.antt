@@ -134,7 +134,7 @@ module _ (s : Shape) (t : Takes) (k : Knows s t) where
       let n0 = n.0 in let n1 = n.1.0 in let n2 = n.1.1 in simp (i, n0, n1, n2, and_false)
   second_walked rows pending (option id) false word quiet plain lt = absurd quiet
 
-  pub rest_walked : (rows : List Row) (pending : Option (Text × List Text)) (waiting : Waiting) (e : Bool) (word : Text) → IsPlain waiting → (e ≡ false → is_option word ≡ false) → 2 < t.operands
+  pub rest_walked : (rows : List Row) (pending : Option (Text × List Text)) (waiting : Waiting) (e : Bool) (word : Text) → IsPlain waiting → (e ≡ false → is_option word ≡ false) → 2 < t.most
       → walked s.rules [] (at rows pending waiting 3 e) word ≡ at (settled_rows s.rules pending rows) (Some (codes "REST", word ∷ [])) positional 3 e
   unfolding walked
   rest_walked rows pending waiting true word quiet plain lt = let i = k.index_rest lt in simp (i, and_false)
@@ -168,7 +168,7 @@ module _ (s : Shape) (t : Takes) (k : Knows s t) where
       let n0 = n.0 in let n1 = n.1.0 in let n2 = n.1.1 in simp (i, a, n0, n1, n2, and_false, fine)
   second_turn rows pending (option id) false word quiet plain lt fine = absurd quiet
 
-  pub rest_turn : (rows : List Row) (pending : Option (Text × List Text)) (waiting : Waiting) (e : Bool) (word : Text) → IsPlain waiting → (e ≡ false → is_option word ≡ false) → 2 < t.operands
+  pub rest_turn : (rows : List Row) (pending : Option (Text × List Text)) (waiting : Waiting) (e : Bool) (word : Text) → IsPlain waiting → (e ≡ false → is_option word ≡ false) → 2 < t.most
       → settle_fault s.rules false (record { rows = rows; pending = pending; skip = 0 }) ≡ [] → turn_fault s [] (at rows pending waiting 3 e) word ≡ []
   rest_turn rows pending waiting true word quiet plain lt fine = let i = k.index_rest lt in let a = k.again in simp (i, a, and_false, fine)
   rest_turn rows pending idle false word quiet plain lt fine =

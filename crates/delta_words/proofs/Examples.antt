@@ -1,6 +1,6 @@
 -- Worked command lines.
 use Rattle.std.proofs.Common.{◌≡◌, [], ◌∷◌, refl, codes, Some, None}
-use Rattle.delta_words.specs.CommandTask.{run, eval, frames, gen, bound, derive, feed, save, resume, task_of}
+use Rattle.delta_words.specs.CommandTask.{run, eval, frames, gen, bound, derive, feed, save, save_again, resume, task_of}
 use Rattle.delta_words.specs.declared.task.Version.TheVariants.{V1, V2}
 
 -- `--` ends the options
@@ -106,6 +106,34 @@ no_state = refl
 
 two_states : task_of (codes "resume" ∷ codes "p" ∷ codes "s" ∷ codes "t" ∷ []) ≡ None
 two_states = refl
+
+-- a third operand of `save` is the state to go on from, and may be the state that is left
+saved_again : task_of (codes "save" ∷ codes "p" ∷ codes "s" ∷ codes "o" ∷ []) ≡ Some (save_again (codes "p") (codes "s") (codes "o") 1000000 V1)
+saved_again = refl
+
+saved_over : task_of (codes "save" ∷ codes "p" ∷ codes "s" ∷ codes "s" ∷ []) ≡ Some (save_again (codes "p") (codes "s") (codes "s") 1000000 V1)
+saved_over = refl
+
+-- the options stand before, between or behind FILE, STATE and OLD, but not between STATE and OLD
+options_before_old : task_of (codes "save" ∷ codes "--v2" ∷ codes "p" ∷ codes "--budget" ∷ codes "7" ∷ codes "s" ∷ codes "o" ∷ []) ≡ Some (save_again (codes "p") (codes "s") (codes "o") 7 V2)
+options_before_old = refl
+
+options_behind_old : task_of (codes "save" ∷ codes "p" ∷ codes "s" ∷ codes "o" ∷ codes "--v2" ∷ codes "--budget=7" ∷ []) ≡ Some (save_again (codes "p") (codes "s") (codes "o") 7 V2)
+options_behind_old = refl
+
+options_behind_state : task_of (codes "save" ∷ codes "p" ∷ codes "s" ∷ codes "--v2" ∷ []) ≡ Some (save (codes "p") (codes "s") 1000000 V2)
+options_behind_state = refl
+
+option_before_old : task_of (codes "save" ∷ codes "p" ∷ codes "s" ∷ codes "--v2" ∷ codes "o" ∷ []) ≡ None
+option_before_old = refl
+
+-- `--` may stand there
+end_before_old : task_of (codes "save" ∷ codes "p" ∷ codes "s" ∷ codes "--" ∷ codes "-old" ∷ []) ≡ Some (save_again (codes "p") (codes "s") (codes "-old") 1000000 V1)
+end_before_old = refl
+
+-- a fourth operand is none
+two_old_states : task_of (codes "save" ∷ codes "p" ∷ codes "s" ∷ codes "o" ∷ codes "x" ∷ []) ≡ None
+two_old_states = refl
 
 -- no abbreviation
 abbreviated : task_of (codes "text" ∷ codes "--fra" ∷ []) ≡ None

@@ -7,12 +7,13 @@ use Rattle.delta_words.specs.declared.command.Command.{Command}
 use Rattle.delta_words.specs.declared.command.Takes.{Takes}
 use Rattle.delta_words.specs.Commands.{takes_of}
 
--- an operand that must stand there, one that may stand there several times, an option with a value, an option without
+-- an operand that must stand there; one of which several may stand there, and where that is said at least one must; an option with a
+-- value; an option without
 abbrev pub operand_rule : Text → Rule
 operand_rule id = record (new_rule id) { action = Some Set; required = true }
 
-abbrev pub rest_rule : Text → Rule
-rest_rule id = record (new_rule id) { action = Some Append; required = true }
+abbrev pub rest_rule : Text → Bool → Rule
+rest_rule id must = record (new_rule id) { action = Some Append; required = must }
 
 abbrev pub budget_rule : Text → Rule
 budget_rule id = record (new_rule id) { action = Some Set; long = Some id }
@@ -28,9 +29,9 @@ with_rule_if wanted app rule = if wanted then with_rule app rule else app
 abbrev pub leaf_app : Text → Takes → App
 leaf_app name takes =
     with_rule_if takes.frames (with_rule_if takes.v2 (with_rule_if takes.budget
-    (with_rule_if (nat_lt 2 takes.operands) (with_rule_if (nat_lt 1 takes.operands) (with_rule_if (nat_lt 0 takes.operands) (new_app name)
-    (operand_rule (codes "FIRST"))) (operand_rule (codes "SECOND"))) (rest_rule (codes "REST"))) (budget_rule (codes "budget")))
-    (flag_rule (codes "v2"))) (flag_rule (codes "frames"))
+    (with_rule_if (nat_lt 2 takes.most) (with_rule_if (nat_lt 1 takes.operands) (with_rule_if (nat_lt 0 takes.operands) (new_app name)
+    (operand_rule (codes "FIRST"))) (operand_rule (codes "SECOND"))) (rest_rule (codes "REST") (nat_lt 2 takes.operands)))
+    (budget_rule (codes "budget"))) (flag_rule (codes "v2"))) (flag_rule (codes "frames"))
 
 -- the command alone: the words begin with the subcommand, and there is no help and no version
 abbrev pub delta_top : App

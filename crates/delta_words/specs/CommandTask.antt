@@ -12,7 +12,8 @@ use Rattle.delta_words.specs.CommandLine.{WrittenLine, line_of}
 
 -- a file's name, a budget and the version of what is written; a file's name; the version; the first item and how many; a file's name; two
 -- files' names; a file's name, the numbers of a schedule, the tables' names and a budget; a file's name, a state's name, a budget and the
--- version, twice
+-- version; a file's name, a state's name, the name of the state to go on from, a budget and the version; a file's name, a state's name, a
+-- budget and the version
 pub data CommandTask : Type 0 where
   run : List ℕ → ℕ → Version → CommandTask
   eval : List ℕ → ℕ → Version → CommandTask
@@ -25,6 +26,7 @@ pub data CommandTask : Type 0 where
   derive : List ℕ → List ℕ → CommandTask
   feed : List ℕ → List ℕ → List (List ℕ) → ℕ → CommandTask
   save : List ℕ → List ℕ → ℕ → Version → CommandTask
+  save_again : List ℕ → List ℕ → List ℕ → ℕ → Version → CommandTask
   resume : List ℕ → List ℕ → ℕ → Version → CommandTask
 
 -- what a task of the code stands for
@@ -40,6 +42,7 @@ asked (rust.Bound file) = bound (string_bytes file)
 asked (rust.Derive file proof) = derive (string_bytes file) (string_bytes proof)
 asked (rust.Feed file schedule tables budget) = feed (string_bytes file) schedule.items (map string_bytes tables.items) budget
 asked (rust.Save file state budget version) = save (string_bytes file) (string_bytes state) budget version
+asked (rust.SaveAgain file state old budget version) = save_again (string_bytes file) (string_bytes state) (string_bytes old) budget version
 asked (rust.Resume file state budget version) = resume (string_bytes file) (string_bytes state) budget version
 
 -- version 2 where `--v2` stands
@@ -85,6 +88,14 @@ state_with make v2 operands budget = None
 abbrev pub state_and_budget : (List ℕ → List ℕ → ℕ → Version → CommandTask) → WrittenLine → Option CommandTask
 state_and_budget make line = state_with make line.v2 line.operands (budget_of 1000000 1000000 line.budget)
 
+-- FILE, STATE, OLD where it stands there, and a budget, as `run` has it
+abbrev pub save_with : Bool → List (List ℕ) → Option ℕ → Option CommandTask
+save_with v2 (file ∷ state ∷ old ∷ []) (Some budget) = Some (save_again file state old budget (version_of v2))
+save_with v2 operands budget = state_with save v2 operands budget
+
+abbrev pub save_of : WrittenLine → Option CommandTask
+save_of line = save_with line.v2 line.operands (budget_of 1000000 1000000 line.budget)
+
 -- FILE, SCHEDULE and the tables, whose number is above each digit of SCHEDULE
 abbrev pub feed_of : List (List ℕ) → Option ℕ → Option CommandTask
 feed_of (file ∷ schedule ∷ tables) (Some budget) = option_map (λ numbers. feed file numbers tables budget) (schedule_of (length tables) schedule)
@@ -101,7 +112,7 @@ task_of_line command.Gen line = start_and_items line.operands
 task_of_line command.Bound line = option_map bound (file_of line.operands)
 task_of_line command.Derive line = two_files line.operands
 task_of_line command.Feed line = feed_of line.operands (budget_of 1000000 1000000 line.budget)
-task_of_line command.Save line = state_and_budget save line
+task_of_line command.Save line = save_of line
 task_of_line command.Resume line = state_and_budget resume line
 
 -- what a command and the words behind it ask for

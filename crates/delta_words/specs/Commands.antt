@@ -21,6 +21,10 @@ command_of word =
     else (if bytes_eq word (codes "resume") then Some Resume
     else None))))))))))
 
+-- so many operands, and no option
+abbrev pub operands_alone : ℕ → Takes
+operands_alone number = record { operands = number; most = number; budget = false; v2 = false; frames = false }
+
 -- how many operands must stand behind a command and how many may, and which options
 abbrev pub takes_of : Command → Takes
 takes_of Run = record { operands = 1; most = 1; budget = true; v2 = true; frames = false }
@@ -32,5 +36,5 @@ takes_of Gen = record { operands = 2; most = 2; budget = false; v2 = false; fram
 takes_of Bound = record { operands = 1; most = 1; budget = false; v2 = false; frames = false }
 takes_of Derive = record { operands = 2; most = 2; budget = false; v2 = false; frames = false }
 takes_of Feed = record { operands = 3; most = 10; budget = true; v2 = false; frames = false }
-takes_of Save = record { operands = 2; most = 2; budget = true; v2 = true; frames = false }
+takes_of Save = record { operands = 2; most = 3; budget = true; v2 = true; frames = false }
 takes_of Resume = record { operands = 2; most = 2; budget = true; v2 = true; frames = false }

@@ -1,5 +1,8 @@
 //! The commands, and what each takes.
 
+ghost use Rattle.std.specs.Prelude.{◌≡◌};
+ghost use Rattle.delta_words.specs.Commands.{command_of, operands_alone, takes_of};
+
 /// The command that the first word of a command line names.
 #[derive(Clone, Copy, Debug, PartialEq, Eq)]
 pub enum Command {
@@ -26,10 +29,20 @@ pub struct Takes {
     pub frames: bool,
 }
 
-impl Command {
-    ghost use Rattle.std.specs.Prelude.{◌≡◌};
-    ghost use Rattle.delta_words.specs.Commands.{command_of, takes_of};
+// So many operands, and no option.
+fn without_options(operands: usize) -> Takes
+    ensures { result ≡ operands_alone operands }
+{
+    Takes {
+        operands,
+        most: operands,
+        budget: false,
+        v2: false,
+        frames: false,
+    }
+}
 
+impl Command {
     /// The command of this name, written whole.
     pub fn named(word: &str) -> Option<Command>
         ensures { result ≡ command_of word.now }
@@ -56,46 +69,32 @@ impl Command {
     {
         match self {
             Command::Run | Command::Eval => Takes {
-                operands: 1,
-                most: 1,
                 budget: true,
                 v2: true,
-                frames: false,
+                ..without_options(1)
             },
-            Command::Check | Command::Print | Command::Bound => Takes {
-                operands: 1,
-                most: 1,
-                budget: false,
-                v2: false,
-                frames: false,
-            },
+            Command::Check | Command::Print | Command::Bound => without_options(1),
             Command::Text => Takes {
-                operands: 0,
-                most: 0,
-                budget: false,
                 v2: true,
                 frames: true,
+                ..without_options(0)
             },
-            Command::Gen | Command::Derive => Takes {
-                operands: 2,
-                most: 2,
-                budget: false,
-                v2: false,
-                frames: false,
-            },
+            Command::Gen | Command::Derive => without_options(2),
             Command::Feed => Takes {
-                operands: 3,
                 most: 10,
                 budget: true,
-                v2: false,
-                frames: false,
+                ..without_options(3)
             },
-            Command::Save | Command::Resume => Takes {
-                operands: 2,
-                most: 2,
+            Command::Save => Takes {
+                most: 3,
                 budget: true,
                 v2: true,
-                frames: false,
+                ..without_options(2)
+            },
+            Command::Resume => Takes {
+                budget: true,
+                v2: true,
+                ..without_options(2)
             },
         }
     }

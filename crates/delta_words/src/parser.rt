@@ -37,12 +37,12 @@ fn operand<'a>(alloc: Global, id: &'a str) -> Arg<'a>
     Arg::new(alloc, id).required(true).action(ArgAction::Set)
 }
 
-// An operand that must stand there, and of which there may be several.
-fn several<'a>(alloc: Global, id: &'a str) -> Arg<'a>
-    ensures rule { rule_of result ≡ rest_rule id.entry.now }
+// An operand of which several may stand there, and where that is said at least one must.
+fn several<'a>(alloc: Global, id: &'a str, must: bool) -> Arg<'a>
+    ensures rule { rule_of result ≡ rest_rule id.entry.now must }
     ensures local { result.global ≡ false }
 {
-    Arg::new(alloc, id).required(true).action(ArgAction::Append)
+    Arg::new(alloc, id).required(must).action(ArgAction::Append)
 }
 
 // An option of this name with a value.
@@ -69,7 +69,8 @@ fn leaf<'a>(alloc: Global, name: &'a str, takes: Takes) -> Result<Parser<'a>, Al
     let bare = Ok(Parser::new(alloc, name));
     let first = with_arg_if(bare, takes.operands > 0, operand(alloc, "FIRST"));
     let second = with_arg_if(first, takes.operands > 1, operand(alloc, "SECOND"));
-    let rest = with_arg_if(second, takes.operands > 2, several(alloc, "REST"));
+    let must = takes.operands > 2;
+    let rest = with_arg_if(second, takes.most > 2, several(alloc, "REST", must));
     let budget = with_arg_if(rest, takes.budget, valued(alloc, "budget"));
     let v2 = with_arg_if(budget, takes.v2, flag(alloc, "v2"));
     with_arg_if(v2, takes.frames, flag(alloc, "frames"))

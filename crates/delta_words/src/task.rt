@@ -2,7 +2,7 @@
 
 ghost use Rattle.std.specs.Prelude.{◌≡◌, ◌<◌, ◌^◌, Some, map, option_map, string_bytes};
 ghost use Rattle.delta_words.specs.Gives.{Gives};
-ghost use Rattle.delta_words.specs.CommandTask.{asked, run, eval, version_of, budget_of, file_of, file_and_budget, text_or_frames, start_and_items, two_files, save, resume, state_and_budget, feed_of, task_of_line, task_of};
+ghost use Rattle.delta_words.specs.CommandTask.{asked, run, eval, version_of, budget_of, file_of, file_and_budget, text_or_frames, start_and_items, two_files, save_of, resume, state_and_budget, feed_of, task_of_line, task_of};
 ghost use Rattle.delta_words.specs.Line.{written};
 
 use crate::command::Command;
@@ -43,6 +43,9 @@ pub enum Task {
     Derive(String, String),
     /// Run a file's program over the input and leave its state in another file, with a budget and a version.
     Save(String, String, u64, Version),
+    /// Go on from the state of a file's program in a third file, and leave its state in the second, with a budget and
+    /// a version.
+    SaveAgain(String, String, String, u64, Version),
     /// Go on from the state that a file's program left in another file, with a budget and a version.
     Resume(String, String, u64, Version),
     /// Feed the tables of files to a file's program, with a budget: in what order their events come, as numbers of
@@ -141,19 +144,28 @@ fn eval_task(alloc: Global, line: &Line<'_>) -> Result<Task, WordsFault>
     }
 }
 
-// FILE, STATE and a budget.
+// FILE, STATE, OLD where it stands there, and a budget.
 fn save_task(alloc: Global, line: &Line<'_>) -> Result<Task, WordsFault>
-    ensures { Gives asked result (state_and_budget save (written line.now)) }
+    ensures { Gives asked result (save_of (written line.now)) }
 {
-    let [file, state] = line.operands.as_slice() else {
-        return Err(WordsFault::Usage);
-    };
     let Some(budget) = budget(line.budget, 1_000_000, 1_000_000) else {
         return Err(WordsFault::Usage);
     };
-    let file = String::from_str(alloc, file)?;
-    let state = String::from_str(alloc, state)?;
-    Ok(Task::Save(file, state, budget, chosen_version(line.v2)))
+    let version = chosen_version(line.v2);
+    match line.operands.as_slice() {
+        [file, state] => {
+            let file = String::from_str(alloc, file)?;
+            let state = String::from_str(alloc, state)?;
+            Ok(Task::Save(file, state, budget, version))
+        }
+        [file, state, old] => {
+            let file = String::from_str(alloc, file)?;
+            let state = String::from_str(alloc, state)?;
+            let old = String::from_str(alloc, old)?;
+            Ok(Task::SaveAgain(file, state, old, budget, version))
+        }
+        _ => Err(WordsFault::Usage),
+    }
 }
 
 // FILE, STATE and a budget.

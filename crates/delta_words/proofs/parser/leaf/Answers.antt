@@ -9,7 +9,7 @@ pub returns-clause-app : goal.returns-clause-app
 returns-clause-app c =
     let first = ap (with_rule_if (nat_lt 0 c.args.takes.operands) (new_app c.args.name.now)) c.operand.ensures.rule in
     let second = ap₂ (with_rule_if (nat_lt 1 c.args.takes.operands)) first c.operand-2.ensures.rule in
-    let rest = ap₂ (with_rule_if (nat_lt 2 c.args.takes.operands)) second c.several.ensures.rule in
+    let rest = ap₂ (with_rule_if (nat_lt 2 c.args.takes.most)) second c.several.ensures.rule in
     let budget = ap₂ (with_rule_if c.args.takes.budget) rest c.valued.ensures.rule in
     let v2 = ap₂ (with_rule_if c.args.takes.v2) budget c.flag.ensures.rule in
     let same = ap₂ (with_rule_if c.args.takes.frames) v2 c.flag-2.ensures.rule in
