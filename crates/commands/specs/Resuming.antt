@@ -44,16 +44,20 @@ IsWrong c bytes state.Version n = form_fault bytes ≡ Some (bad_version n)
 IsWrong c bytes state.Untyped n = TellsUntyped c bytes n × IsOfNone c bytes
 IsWrong c bytes state.Large n = ⊥
 
--- the bytes have no fault of form and are those of a typed state of the program, whose numbers have their sizes, and the
--- run that goes on from it ended so
+-- the bytes have no fault of form and are those of this state, which is typed for the program, and whose numbers have
+-- their sizes. There is one such state at most
+pub record IsTypedAs (c : CoreProgram) (bytes : List ℕ) (k : KeptTree) : Type 0 where
+  pub places : List ℕ
+  pub has_form : form_fault bytes ≡ None
+  pub has_bytes : bytes ≡ kept_bytes k places
+  pub sizes : HasSizes k
+  pub typed : IsTypedKept c k
+
+-- the bytes are those of a typed state of the program, and the run that goes on from it ended so
 pub record GoesOn (c : CoreProgram) (budget : ℕ) (v : Version) (bytes : List ℕ) (old new : Option (List Move)) (left0 left1 : Option (List ℕ))
     (end : End) : Type 0 where
   pub kept : KeptTree
-  pub places : List ℕ
-  pub has_form : form_fault bytes ≡ None
-  pub has_bytes : bytes ≡ kept_bytes kept places
-  pub sizes : HasSizes kept
-  pub typed : IsTypedKept c kept
+  pub typed : IsTypedAs c bytes kept
   pub ran : Ran (meaning_since v budget c kept) old new left0 left1 end
 
 -- the bytes are refused for what is wrong first, and then nothing is read or written, or the run goes on from their

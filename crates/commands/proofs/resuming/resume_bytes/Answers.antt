@@ -11,7 +11,11 @@ pub returns-in-Ok-clause-resumed : goal.returns-in-Ok-clause-resumed
 returns-in-Ok-clause-resumed g c =
     goes_on (core_of c.args.c.now) c.args.budget c.args.version c.args.bytes.now (g.L.Link.log c.args.link.now) (g.L.Link.log c.run_kept-end.new.link)
     (g.L.Link.left c.args.link.now) (g.L.Link.left c.run_kept-end.new.link) c.run_kept-end.result
-    (record { kept = kept_of c.in-Ok.k; places = places_kept c.in-Ok.k; has_form = c.in-Ok.ensures.fault; has_bytes = c.in-Ok.ensures.bytes; sizes = c.in-Ok.ensures.sizes; typed = c.in-Ok.ensures.typed; ran = c.run_kept-end.ensures.ran })
+    (record {
+      kept = kept_of c.in-Ok.k;
+      typed = record { places = places_kept c.in-Ok.k; has_form = c.in-Ok.ensures.fault; has_bytes = c.in-Ok.ensures.bytes; sizes = c.in-Ok.ensures.sizes; typed = c.in-Ok.ensures.typed };
+      ran = c.run_kept-end.ensures.ran;
+    })
 
 pub returns-in-Ok-clause-reads : goal.returns-in-Ok-clause-reads
 returns-in-Ok-clause-reads g c =
