@@ -9,7 +9,7 @@ use Rattle.delta_words.specs.declared.command.Command.TheVariants.{Run, Eval, Ch
 use Rattle.delta_words.specs.Numbers.{has_digits, number_within, schedule_of}
 use Rattle.delta_words.specs.Commands.{command_of, takes_of}
 use Rattle.delta_words.specs.CommandLine.{WrittenLine, line_of}
-use Rattle.delta_words.specs.CommandTask.{CommandTask, run, eval, check, print, text, frames, gen, bound, feed, save, resume, budget_of, file_of, version_of, file_and_budget, start_and_items, two_files, state_with, state_and_budget, feed_of, task_of_line, task_of_command, task_of}
+use Rattle.delta_words.specs.CommandTask.{CommandTask, run, eval, check, print, text, frames, gen, bound, feed, save, save_again, resume, budget_of, file_of, version_of, file_and_budget, start_and_items, two_files, state_with, state_and_budget, save_with, feed_of, task_of_line, task_of_command, task_of}
 
 -- a run, one that is saved or resumed too, and a feeding of tables have a budget of at most 1,000,000, an evaluation one of at most 10,000; a load begins at 999,999 at most, and has at most
 -- 10,000,000 items
@@ -18,6 +18,7 @@ IsSmall (Some (eval file budget v)) = budget ≤ 10000
 IsSmall (Some (run file budget v)) = budget ≤ 1000000
 IsSmall (Some (feed file schedule names budget)) = budget ≤ 1000000
 IsSmall (Some (save file state budget v)) = budget ≤ 1000000
+IsSmall (Some (save_again file state old budget v)) = budget ≤ 1000000
 IsSmall (Some (resume file state budget v)) = budget ≤ 1000000
 IsSmall (Some (gen start items)) = (start ≤ 999999) × (items ≤ 10000000)
 IsSmall o = Unit {0}
@@ -112,6 +113,14 @@ states : (make : List ℕ → List ℕ → ℕ → Version → CommandTask) → 
     → (line : WrittenLine) → IsSmall (state_and_budget make line)
 states make small line = with_state make small line.v2 line.operands (budget_of 1000000 1000000 line.budget) (budget_is_small 1000000 1000000 (omega arith) line.budget)
 
+saves : (v2 : Bool) (operands : List (List ℕ)) (o : Option ℕ) → IfSome o (λ n. n ≤ 1000000) → IsSmall (save_with v2 operands o)
+saves v2 [] o h = tt
+saves v2 (file ∷ []) o h = tt
+saves v2 (file ∷ state ∷ []) o h = with_state save (λ file state n v h. h) v2 (file ∷ state ∷ []) o h
+saves v2 (file ∷ state ∷ old ∷ []) None h = tt
+saves v2 (file ∷ state ∷ old ∷ []) (Some budget) h = h
+saves v2 (file ∷ state ∷ old ∷ other ∷ more) o h = tt
+
 of_line : (c : Command) (line : WrittenLine) → IsSmall (task_of_line c line)
 of_line Run line = runs line
 of_line Eval line = evals line
@@ -122,7 +131,7 @@ of_line Gen line = gens line.operands
 of_line Bound line = bounds (file_of line.operands)
 of_line Derive line = derivations line.operands
 of_line Feed line = feeds line.operands (budget_of 1000000 1000000 line.budget) (budget_is_small 1000000 1000000 (omega arith) line.budget)
-of_line Save line = states save (λ file state n v h. h) line
+of_line Save line = saves line.v2 line.operands (budget_of 1000000 1000000 line.budget) (budget_is_small 1000000 1000000 (omega arith) line.budget)
 of_line Resume line = states resume (λ file state n v h. h) line
 
 of_command : (words : List (List ℕ)) (c : Command) → IsSmall (task_of_command words c)
@@ -152,6 +161,9 @@ feed_is_small words file schedule names budget e = subst IsSmall e (of_words wor
 
 pub save_is_small : (words : List (List ℕ)) (file state : List ℕ) (budget : ℕ) (v : Version) → task_of words ≡ Some (save file state budget v) → budget ≤ 1000000
 save_is_small words file state budget v e = subst IsSmall e (of_words words)
+
+pub save_again_is_small : (words : List (List ℕ)) (file state old : List ℕ) (budget : ℕ) (v : Version) → task_of words ≡ Some (save_again file state old budget v) → budget ≤ 1000000
+save_again_is_small words file state old budget v e = subst IsSmall e (of_words words)
 
 pub resume_is_small : (words : List (List ℕ)) (file state : List ℕ) (budget : ℕ) (v : Version) → task_of words ≡ Some (resume file state budget v) → budget ≤ 1000000
 resume_is_small words file state budget v e = subst IsSmall e (of_words words)

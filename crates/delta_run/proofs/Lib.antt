@@ -13,8 +13,11 @@ pub mod Checked
 pub mod Bounded
 pub mod Derived
 pub mod Fed
+pub mod RunsBehind
 pub mod SavedTexts
 pub mod ResumedTexts
+pub mod SavedAgainTexts
+pub mod JoinedStates
 pub mod JoinedRuns
 pub mod Evaluated
 pub mod Doing

@@ -2,7 +2,7 @@
 use Rattle.std.proofs.Common.{ℕ, Result}
 use Rattle.port.specs.declared.fault.IoFault.{IoFault}
 use Rattle.port.specs.Faults.{HasCause}
-use Rattle.delta_words.specs.CommandTask.{CommandTask, run, eval, check, print, text, frames, gen, bound, derive, feed, save, resume}
+use Rattle.delta_words.specs.CommandTask.{CommandTask, run, eval, check, print, text, frames, gen, bound, derive, feed, save, save_again, resume}
 use Rattle.command_text.specs.Conversion.{frames_of_lines}
 use Rattle.delta_end.specs.declared.end.End.{End}
 use Rattle.delta_end.specs.End.{FileCause, ReadCause, WriteCause}
@@ -23,6 +23,7 @@ use Rattle.delta_run.proofs.Bounded.{tells_bound, bounded_well, unbounded_well, 
 use Rattle.delta_run.proofs.Derived.{passes_derived, refuses_underived, refuses_unelaborated}
 use Rattle.delta_run.proofs.Fed.{tells_tables, fed_well, untaken_well, refused_feeding}
 use Rattle.delta_run.proofs.SavedTexts.{saved_prompt, saved_return, saved_state, saved_complete, saved_refused, saved_settled}
+use Rattle.delta_run.proofs.SavedAgainTexts.{saved_again_prompt, saved_again_return, saved_again_state, saved_again_complete, saved_again_untyped, saved_again_refused, saved_again_settled}
 use Rattle.delta_run.proofs.ResumedTexts.{resumed_prompt, resumed_return, resumed_complete, resumed_untyped, resumed_refused, resumed_settled}
 use Rattle.delta_run.proofs.Checked.{passes_accepted, refuses_unaccepted}
 use Rattle.delta_run.proofs.Evaluated.{evals_text, evals_well, stops_well, refuses_unwritable}
@@ -154,6 +155,28 @@ module _ (before after : Outside) (end : End) (status : ℕ) (said : Result (Uni
         (done.0 files tells) file_cause answered;
     settled = λ files tells.
         saved_settled _ budget (frames_of v) state _ _ _ _ _ _ _ _ _ end (done.0 files tells)
+        is_status;
+  }
+  owed (save_again file state old budget v) done = record {
+    prompt = λ files tells more again.
+        saved_again_prompt _ budget (frames_of v) old state _ _ _ _ _ _ more again end (done.0 files tells);
+    reads = reads;
+    ends = λ files tells more again.
+        saved_again_return _ budget (frames_of v) old state _ _ _ _ _ _ more again end (done.0 files tells);
+    leaves = λ files tells more again.
+        saved_again_state _ budget (frames_of v) old state _ _ _ _ _ _ more again end (done.0 files tells);
+    changes = done.1;
+    complete = λ files tells more again file_still read write note.
+        saved_again_complete _ budget (frames_of v) old state _ _ _ _ _ _ more again _ _ _ _ file_still note _ _ cause _ _ _ _ read write end
+        (done.0 files tells) file_cause read_cause write_cause answered;
+    untyped = λ files tells more again file_still note.
+        saved_again_untyped _ budget (frames_of v) old state _ _ _ _ _ _ more again _ _ _ _ file_still note _ _ cause end
+        (done.0 files tells) file_cause answered;
+    refused = λ files tells file_still note.
+        saved_again_refused _ budget (frames_of v) old state _ _ _ _ _ _ _ _ _ _ file_still note _ _ cause end
+        (done.0 files tells) file_cause answered;
+    settled = λ files tells more again.
+        saved_again_settled _ budget (frames_of v) old state _ _ _ _ _ _ more again _ _ _ end (done.0 files tells)
         is_status;
   }
   owed (resume file state budget v) done = record {

@@ -24,11 +24,12 @@ use Rattle.delta_loop.specs.Answer.{Adds}
 use Rattle.delta_loop.proofs.Returning.{adds_none, ran_prompt, returned}
 use Rattle.delta_loop.proofs.Completeness.{good_end, good_status}
 use Rattle.kept_runner.specs.KeptOneShot.{meaning_since}
-use Rattle.commands.specs.Resuming.{GoesOn, IsWrong, OfState}
+use Rattle.commands.specs.Resuming.{GoesOn, IsTypedAs, IsWrong, OfState}
 use Rattle.commands.specs.Texts.{ResumesIts, ResumesText}
 use Rattle.delta_run.specs.Settled.{IsOverInput}
 use Rattle.delta_run.specs.Evaluated.{RefusesUnwritable}
-use Rattle.delta_run.specs.Resumed.{ResumedText, IsTypedAs, IsMeantSince, IsNoState, ResumesPromptly, GoesOnSo, ResumesMoves, ResumesWell, RefusesState, ResumesSettled}
+use Rattle.delta_run.specs.Resumed.{ResumedText, IsMeantSince, IsNoState, ResumesPromptly, GoesOnSo, ResumesMoves, ResumesWell, RefusesState, ResumesSettled}
+use Rattle.delta_run.proofs.RunsBehind.{WellEnded, is_done, is_open}
 use Rattle.delta_run.proofs.Settling.{none_other, over_by_end, run_settles, any_budget}
 
 module _ (text : List ℕ) (budget : ℕ) (v : Version) (files : Option (List ℕ → List ℕ)) (name : List ℕ) (old new : Option (List Move)) (left0 left1 : Option (List ℕ)) where
@@ -53,7 +54,7 @@ module _ (text : List ℕ) (budget : ℕ) (v : Version) (files : Option (List �
     bytes = take 1048577 (told name)
 
     -- the program of the text went on from the state in the bytes, and ended so
-    abbrev WentOn : End → Type 0
+    abbrev pub WentOn : End → Type 0
     WentOn end = (P : Meaning) × IsMeantSince text bytes budget v P × Ran P old new left0 left1 end
 
     -- how the run ended: no file was read, or the text or the state is refused, or memory ran out, or the program went on
@@ -68,7 +69,7 @@ module _ (text : List ℕ) (budget : ℕ) (v : Version) (files : Option (List �
     since : (end : End) (p : ProgramTree) (c : CoreProgram) → IsWritable text v p c → GoesOn c budget v bytes old new left0 left1 end → WentOn end
     since end p c accepted on = (
       meaning_since v budget c on.kept,
-      record { program = p; core = c; accepted = accepted; state = on.kept; typed = record { places = on.places; has_form = on.has_form; has_bytes = on.has_bytes; sizes = on.sizes; typed = on.typed }; means = refl },
+      record { program = p; core = c; accepted = accepted; state = on.kept; typed = on.typed; means = refl },
       on.ran,
     )
 
@@ -100,6 +101,11 @@ module _ (text : List ℕ) (budget : ℕ) (v : Version) (files : Option (List �
     went ReadFailed its = goes ReadFailed tt its (its.resumes told files_are)
     went WriteFailed its = goes WriteFailed tt its (its.resumes told files_are)
     went Long its = goes Long tt its (its.resumes told files_are)
+
+    -- where it ended well it went on
+    pub well_went : (end : End) → WellEnded end → ResumedText text budget v files name old new left0 left1 end → WentOn end
+    well_went _ is_done its = since Done its.program its.core its.accepted (its.resumes told files_are)
+    well_went _ is_open its = since Open its.program its.core its.accepted (its.resumes told files_are)
 
     -- it is prompt
     pub resumed_prompt : (end : End) → ResumedText text budget v files name old new left0 left1 end → Adds old new (ResumesPromptly text bytes budget v)
@@ -156,10 +162,10 @@ module _ (text : List ℕ) (budget : ℕ) (v : Version) (files : Option (List �
     no_typed c state.Untyped n wrong k typed = wrong.1 k typed.places typed.sizes typed.typed typed.has_bytes
     no_typed c state.Large n wrong k typed = wrong
 
-    typed_as : (p : ProgramTree) (c : CoreProgram) → IsWritable text v p c → {P : Meaning} (meant : IsMeantSince text bytes budget v P) → IsTypedAs c bytes meant.state
+    pub typed_as : (p : ProgramTree) (c : CoreProgram) → IsWritable text v p c → {P : Meaning} (meant : IsMeantSince text bytes budget v P) → IsTypedAs c bytes meant.state
     typed_as p c accepted meant = subst (λ (d : CoreProgram). IsTypedAs d bytes meant.state) (same_core p c accepted meant) meant.typed
 
-    of_this : (p : ProgramTree) (c : CoreProgram) → IsWritable text v p c → (end : End) (on : WentOn end) → Ran (meaning_since v budget c on.1.state) old new left0 left1 end
+    pub of_this : (p : ProgramTree) (c : CoreProgram) → IsWritable text v p c → (end : End) (on : WentOn end) → Ran (meaning_since v budget c on.1.state) old new left0 left1 end
     of_this p c accepted end on =
         subst (λ (P : Meaning). Ran P old new left0 left1 end) (on.1.means ∙ ap (λ (d : CoreProgram). meaning_since v budget d on.1.state) (same_core p c accepted on.1)) on.2
 

@@ -1,7 +1,7 @@
 -- What is done for a command line, by what it asks for.
 use Rattle.std.specs.Prelude.{◌≡◌, ◌⊎◌, ℕ, List, Option}
 use Rattle.port.specs.declared.link.Move.{Move}
-use Rattle.delta_words.specs.CommandTask.{CommandTask, run, eval, check, print, text, frames, gen, bound, derive, feed, save, resume}
+use Rattle.delta_words.specs.CommandTask.{CommandTask, run, eval, check, print, text, frames, gen, bound, derive, feed, save, save_again, resume}
 use Rattle.delta_end.specs.declared.end.End.{End}
 use Rattle.delta_end.specs.declared.end.End.TheVariants.{Memory}
 use Rattle.delta_loop.specs.History.{IsUntouched}
@@ -9,6 +9,7 @@ use Rattle.delta_loop.specs.Loop.{Ran as Lined}
 use Rattle.command_text.specs.Conversion.{frames_of_lines, Ran as Converted}
 use Rattle.command_text.specs.Lines.{lines_of_frames}
 use Rattle.commands.specs.Deriving.{DerivesText}
+use Rattle.commands.specs.Leaving.{ChangesState}
 use Rattle.delta_run.specs.CommandLine.{frames_of}
 use Rattle.delta_run.specs.Text.{OfFile, RanText}
 use Rattle.delta_run.specs.Evaluated.{EvaluatedText}
@@ -17,7 +18,8 @@ use Rattle.delta_run.specs.Printed.{PrintedText}
 use Rattle.delta_run.specs.Generated.{GeneratedLine}
 use Rattle.delta_run.specs.Bounded.{BoundedText}
 use Rattle.delta_run.specs.Fed.{FedText}
-use Rattle.delta_run.specs.Saved.{SavedText, ChangesState}
+use Rattle.delta_run.specs.Saved.{SavedText}
+use Rattle.delta_run.specs.SavedAgain.{SavedAgainText}
 use Rattle.delta_run.specs.Resumed.{ResumedText}
 
 -- what the shelf held, the link's log and what was left to read, before and after, and how it ended
@@ -39,4 +41,6 @@ module _ (files0 files1 : Option (List ℕ → List ℕ)) (log0 log1 : Option (L
   Does (feed file schedule names budget) = OfFile files0 file (λ source. FedText files0 source schedule names budget log0 log1 end) × (left1 ≡ left0)
   Does (save file state budget v) =
       OfFile files0 file (λ source. SavedText source budget (frames_of v) state log0 log1 left0 left1 files0 files1 end) × ChangesState end files0 files1 state
+  Does (save_again file state old budget v) =
+      OfFile files0 file (λ source. SavedAgainText source budget (frames_of v) old state log0 log1 left0 left1 files0 files1 end) × ChangesState end files0 files1 state
   Does (resume file state budget v) = OfFile files0 file (λ source. ResumedText source budget (frames_of v) files0 state log0 log1 left0 left1 end)

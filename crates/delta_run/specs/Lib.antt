@@ -13,6 +13,7 @@ pub mod Derived
 pub mod Fed
 pub mod Saved
 pub mod Resumed
+pub mod SavedAgain
 pub mod Evaluated
 pub mod Does
 pub mod Outside
@@ -27,6 +28,7 @@ pub mod Derivations
 pub mod Feeds
 pub mod Saves
 pub mod Resumes
+pub mod SavesAgain
 pub mod Lines
 pub mod Owes
 pub mod Laws

@@ -1,6 +1,6 @@
 -- What is owed to a command line, by what it asks for.
 use Rattle.std.specs.Prelude.{ℕ}
-use Rattle.delta_words.specs.CommandTask.{CommandTask, run, eval, check, print, text, frames, gen, bound, derive, feed, save, resume}
+use Rattle.delta_words.specs.CommandTask.{CommandTask, run, eval, check, print, text, frames, gen, bound, derive, feed, save, save_again, resume}
 use Rattle.delta_end.specs.declared.end.End.{End}
 use Rattle.delta_run.specs.CommandLine.{frames_of}
 use Rattle.delta_run.specs.Outside.{Outside}
@@ -13,6 +13,7 @@ use Rattle.delta_run.specs.Bounds.{Bounds}
 use Rattle.delta_run.specs.Derivations.{Derivations}
 use Rattle.delta_run.specs.Feeds.{Feeds}
 use Rattle.delta_run.specs.Saves.{Saves}
+use Rattle.delta_run.specs.SavesAgain.{SavesAgain}
 use Rattle.delta_run.specs.Resumes.{Resumes}
 use Rattle.delta_run.specs.Lines.{WritesFrames, WritesLines}
 
@@ -28,4 +29,5 @@ Owes (bound file) before after end status = Bounds file before after end status
 Owes (derive file proof) before after end status = Derivations file proof before after end status
 Owes (feed file schedule names budget) before after end status = Feeds file schedule names budget before after end status
 Owes (save file state budget v) before after end status = Saves file state budget (frames_of v) before after end status
+Owes (save_again file state old budget v) before after end status = SavesAgain file state old budget (frames_of v) before after end status
 Owes (resume file state budget v) before after end status = Resumes file state budget (frames_of v) before after end status

@@ -9,10 +9,6 @@ use Rattle.event_frame.specs.declared.version.Version.{Version}
 use Rattle.delta_tree.specs.SyntaxTree.{ProgramTree}
 use Rattle.core_term.specs.CoreTerm.{CoreProgram}
 use Rattle.kept_state.specs.KeptTree.{KeptTree}
-use Rattle.kept_state.specs.KeptTyping.{IsTypedKept}
-use Rattle.kept_state.specs.KeptBytes.{kept_bytes}
-use Rattle.kept_state.specs.KeptForm.{form_fault}
-use Rattle.kept_state.specs.KeptSizes.{HasSizes}
 use Rattle.delta_end.specs.declared.objection.StateName.{StateName}
 use Rattle.delta_end.specs.declared.objection.Objection.TheVariants.{State}
 use Rattle.delta_end.specs.declared.end.End.{End}
@@ -24,7 +20,7 @@ use Rattle.delta_loop.specs.Output.{due}
 use Rattle.delta_loop.specs.Prompt.{IsPrompt}
 use Rattle.delta_loop.specs.Answer.{AtReturn, IsComplete}
 use Rattle.kept_runner.specs.KeptOneShot.{meaning_since}
-use Rattle.commands.specs.Resuming.{IsWrong}
+use Rattle.commands.specs.Resuming.{IsTypedAs, IsWrong}
 use Rattle.commands.specs.Texts.{ResumesText}
 use Rattle.delta_run.specs.Settled.{IsOverInput, IsSettled}
 
@@ -33,15 +29,6 @@ abbrev pub ResumedText : List ℕ → ℕ → Version → Option (List ℕ → L
     → Option (List ℕ) → End → Type 0
 ResumedText text budget v files name old new left0 left1 FileFailed = IsUntouched old new left0 left1
 ResumedText text budget v files name old new left0 left1 end = ResumesText text budget v files name old new left0 left1 end
-
--- the bytes have no fault of form and are those of this state, which is typed for the program, and whose numbers have
--- their sizes. There is one such state at most
-pub record IsTypedAs (c : CoreProgram) (bytes : List ℕ) (k : KeptTree) : Type 0 where
-  pub places : List ℕ
-  pub has_form : form_fault bytes ≡ None
-  pub has_bytes : bytes ≡ kept_bytes k places
-  pub sizes : HasSizes k
-  pub typed : IsTypedKept c k
 
 -- the text is accepted and the bytes are those of a typed state of its program, and this is what the program means to
 -- the loop from there on: at each event, the frames of the increment of what the state gives

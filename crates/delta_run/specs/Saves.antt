@@ -4,11 +4,12 @@ use Rattle.event_frame.specs.declared.version.Version.{Version}
 use Rattle.delta_end.specs.declared.end.End.{End}
 use Rattle.delta_end.specs.Status.{IsStill}
 use Rattle.delta_loop.specs.Answer.{Adds, ReadsWell}
+use Rattle.commands.specs.Leaving.{ChangesState}
 use Rattle.delta_run.specs.Outside.{Outside}
 use Rattle.delta_run.specs.Text.{OfFile, RunsPromptly}
 use Rattle.delta_run.specs.Settled.{SettlesWell}
 use Rattle.delta_run.specs.Evaluated.{RefusesUnwritable}
-use Rattle.delta_run.specs.Saved.{SavesMoves, LeavesState, ChangesState, SavesWell}
+use Rattle.delta_run.specs.Saved.{SavesMoves, LeavesState, SavesWell}
 
 pub record Saves (file state : List ℕ) (budget : ℕ) (v : Version) (before after : Outside) (end : End) (status : ℕ) : Type 0 where
   -- before each read, what was written are the header and the frames of the successive increments of the one-shot

@@ -16,7 +16,7 @@ ghost use Rattle.delta_loop.specs.Answer.{Adds, ReadsWell};
 ghost use Rattle.delta_loop.specs.History.{IsUntouched};
 ghost use Rattle.delta_run.specs.Text.{OfFile, RanText};
 
-use crate::kept::{resume_file, save_file};
+use crate::kept::{resume_file, save_file, save_file_from};
 use command_text::{write_frames, write_lines};
 use commands::{
     bound_source, check_source, derive_source, eval_source, feed_source, gen_load, print_source,
@@ -222,15 +222,12 @@ pub fn run_command<B: Begins, M: Machine, K: Keeping, S: Shelf, L: Link>(
         }
         Ok(Task::Gen(start, items)) => gen_load::<M, L>(alloc, start, items, link),
         Ok(Task::Save(file, state, budget, version)) => {
-            save_file::<K, S, L>(
-                alloc,
-                &file,
-                &state,
-                budget,
-                frame_version(version),
-                shelf,
-                link,
-            )
+            let version = frame_version(version);
+            save_file::<K, S, L>(alloc, &file, &state, budget, version, shelf, link)
+        }
+        Ok(Task::SaveAgain(file, state, old, budget, version)) => {
+            let version = frame_version(version);
+            save_file_from::<K, S, L>(alloc, &file, &state, &old, budget, version, shelf, link)
         }
         Ok(Task::Resume(file, state, budget, version)) => {
             let version = frame_version(version);

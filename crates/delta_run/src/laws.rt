@@ -1,7 +1,7 @@
-//! The laws of runs that are saved and resumed, each the contract of a function with nothing in it. What they say stands
+//! The laws of runs that are saved, saved again and resumed, each the contract of a function with nothing in it. What they say stands
 //! in `specs/Laws.antt`.
 
-ghost use Rattle.delta_run.specs.Laws.{StateIsOne, LeftIsTyped, FramesJoin, DueJoins, RunsJoin};
+ghost use Rattle.delta_run.specs.Laws.{StateIsOne, LeftIsTyped, LeftAgainIsTyped, FramesJoin, DueJoins, KeptFurther, RunsJoin, AllRunsJoin};
 
 /// Bytes are those of one typed state at most whose numbers have their sizes.
 pub fn state_is_one()
@@ -11,6 +11,11 @@ pub fn state_is_one()
 /// What a run left is a typed state of its program, so who goes on from it is never told that it is none.
 pub fn left_is_typed()
     ensures { LeftIsTyped }
+{}
+
+/// What was left by a run that went on from a state is one too.
+pub fn left_again_is_typed()
+    ensures { LeftAgainIsTyped }
 {}
 
 /// Where the frames of a second input are put behind a first one, both are joined.
@@ -23,8 +28,19 @@ pub fn due_joins()
     ensures { DueJoins }
 {}
 
+/// What is left again of what was left is what is left of the program, on both inputs joined.
+pub fn kept_further()
+    ensures { KeptFurther }
+{}
+
 /// What a run that saves wrote and what the run that resumes from the file wrote are, together, what one run writes on
 /// both inputs joined.
 pub fn runs_join()
     ensures { RunsJoin }
+{}
+
+/// And so are those of any number of runs that save, each going on from what the one before left, and of the run that
+/// resumes from what was left last.
+pub fn all_runs_join()
+    ensures { AllRunsJoin }
 {}

@@ -3,11 +3,10 @@
 ghost use Rattle.std.specs.Prelude.{◌≡◌, ◌⊎◌, ℕ, List};
 ghost use Rattle.port.specs.Faults.{Rose};
 ghost use Rattle.port.specs.Files.{ChangesOnly};
-ghost use Rattle.delta_words.specs.CommandTask.{CommandTask, save};
+ghost use Rattle.delta_words.specs.CommandTask.{CommandTask};
 ghost use Rattle.delta_end.specs.declared.end.End.{End};
 ghost use Rattle.delta_loop.specs.History.{IsUntouched};
-ghost use Rattle.delta_words.specs.declared.task.Version.{Version as WrittenVersion};
-ghost use Rattle.delta_run.specs.CommandLine.{Asks, AskNothing, AskForNoState};
+ghost use Rattle.delta_run.specs.CommandLine.{Asks, AskNothing, AskToLeave, AskForNoState};
 ghost use Rattle.delta_run.specs.Outside.{seen};
 ghost use Rattle.delta_run.specs.Ends.{Ends};
 ghost use Rattle.delta_run.specs.Owes.{Owes};
@@ -42,7 +41,7 @@ pub fn delta<B: Begins, M: Machine, K: Keeping, S: Shelf, L: Link, N: Sink>(
     ensures untouched { AskNothing words.now → IsUntouched (L.log link.old) (L.log link.new) (L.left link.old) (L.left link.new) }
     // One end stands behind the status, and shows in the counts and the note (`Ends`). To a command line that asks for a
     // task all is owed that `Owes` says of it: `Runs`, `Evals`, `Checks`, `Prints`, `Gens`, `Bounds`, `Derivations`, `Feeds`,
-    // `Saves`, `Resumes`, `WritesFrames` and `WritesLines`, each a record of promises.
+    // `Saves`, `SavesAgain`, `Resumes`, `WritesFrames` and `WritesLines`, each a record of promises.
     ensures owed { (end : End)
         × Ends (seen S.holds S.faults L.log L.left L.read_faults L.write_faults N.told N.faults shelf.old link.old notes.old)
         (seen S.holds S.faults L.log L.left L.read_faults L.write_faults N.told N.faults shelf.new link.new notes.new) end result
@@ -57,8 +56,7 @@ pub fn delta<B: Begins, M: Machine, K: Keeping, S: Shelf, L: Link, N: Sink>(
         × (L.read_faults link.new ≡ L.read_faults link.old) × (L.write_faults link.new ≡ L.write_faults link.old)) }
     // What the shelf holds stays, unless a state is to be left; and then no name but that of the state changes.
     ensures held { AskForNoState words.now → S.holds shelf.new ≡ S.holds shelf.old }
-    ensures changes { (file state : List ℕ) (budget : ℕ) (v : WrittenVersion) → Asks words.now (save file state budget v)
-        → ChangesOnly (S.holds shelf.old) (S.holds shelf.new) state }
+    ensures changes { (state : List ℕ) → AskToLeave words.now state → ChangesOnly (S.holds shelf.old) (S.holds shelf.new) state }
 {
     let end = run_command::<B, M, K, S, L>(alloc, words, shelf, link);
     let said = note(notes, end);

@@ -1,4 +1,4 @@
-use Rattle.std.proofs.Common.{◌∙◌, ℕ, List, Some, map, string_bytes, inr, ap, subst, refl}
+use Rattle.std.proofs.Common.{◌∙◌, ℕ, List, Some, map, string_bytes, inl, inr, ap, subst, refl}
 use Rattle.event_frame.specs.declared.version.Version.{Version}
 use Rattle.delta_words.specs.CommandTask.{asked}
 use Rattle.delta_end.specs.declared.end.End.TheVariants.{Usage, Memory}
@@ -14,9 +14,11 @@ use Rattle.delta_run.specs.Printed.{PrintedText}
 use Rattle.delta_run.specs.Bounded.{BoundedText}
 use Rattle.commands.specs.Deriving.{DerivesText}
 use Rattle.delta_run.specs.Fed.{FedText}
-use Rattle.delta_run.specs.Saved.{SavedText, ChangesState}
+use Rattle.commands.specs.Leaving.{ChangesState}
+use Rattle.delta_run.specs.Saved.{SavedText}
+use Rattle.delta_run.specs.SavedAgain.{SavedAgainText}
 use Rattle.delta_run.specs.Resumed.{ResumedText}
-use Rattle.delta_run.proofs.Budgets.{run_is_small, eval_is_small, feed_is_small, load_is_small, save_is_small, resume_is_small}
+use Rattle.delta_run.proofs.Budgets.{run_is_small, eval_is_small, feed_is_small, load_is_small, save_is_small, save_again_is_small, resume_is_small}
 use Rattle.delta_run.proofs.Conversions.{converted_reads}
 use Rattle.delta_run.proofs.Printed.{written_reads}
 use Rattle.delta_run.proofs.CommandLines.{for_each, asks_something}
@@ -171,7 +173,7 @@ returns-in-Ok-Save-clause-does g c =
     let Saved : List ℕ → List ℕ → Version → Type 0 = λ file state version. OfFile (g.S.Shelf.holds c.args.shelf.now) file
     (λ source. SavedText source c.in-Ok-Save.budget version state (g.L.Link.log c.args.link.now) (g.L.Link.log c.save_file.new.link) (g.L.Link.left c.args.link.now) (g.L.Link.left c.save_file.new.link)
     (g.S.Shelf.holds c.args.shelf.now) (g.S.Shelf.holds c.save_file.new.shelf) c.save_file.result) in
-    let in_version = subst (Saved c.deref-in-Ok-Save.result.now c.deref-in-Ok-Save-2.result.now) c.frame_version-in-Ok-Save.ensures c.save_file.ensures.saved in
+    let in_version = subst (Saved c.deref-in-Ok-Save.result.now c.deref-in-Ok-Save-2.result.now) c.frame_version-version.ensures c.save_file.ensures.saved in
     let of_state = subst (λ (state : List ℕ). Saved c.deref-in-Ok-Save.result.now state (frames_of c.in-Ok-Save.version)) c.deref-in-Ok-Save-2.ensures in_version in
     for_each c.args.words.now _ _ (c.in-Ok-Save.ensures.ok ∙ ap (λ t. Some (asked t)) c.in-Ok-Save.field-0-is) (
       subst (λ (file : List ℕ). Saved file (string_bytes c.in-Ok-Save.state) (frames_of c.in-Ok-Save.version)) c.deref-in-Ok-Save.ensures of_state,
@@ -179,7 +181,32 @@ returns-in-Ok-Save-clause-does g c =
     )
 
 pub returns-in-Ok-Save-clause-held : goal.returns-in-Ok-Save-clause-held
-returns-in-Ok-Save-clause-held g c never = absurd (never _ _ _ _ (c.in-Ok-Save.ensures.ok ∙ ap (λ t. Some (asked t)) c.in-Ok-Save.field-0-is))
+returns-in-Ok-Save-clause-held g c never = absurd (never _ (inl (_, _, _, c.in-Ok-Save.ensures.ok ∙ ap (λ t. Some (asked t)) c.in-Ok-Save.field-0-is)))
+
+pub returns-in-Ok-SaveAgain-clause-command : goal.returns-in-Ok-SaveAgain-clause-command
+returns-in-Ok-SaveAgain-clause-command g c nothing = absurd (asks_something nothing (c.in-Ok-SaveAgain.ensures.ok ∙ ap (λ t. Some (asked t)) c.in-Ok-SaveAgain.field-0-is))
+
+pub save_file_from-requires : goal.save_file_from-requires
+save_file_from-requires g c = save_again_is_small (map string_bytes c.args.words.now) _ _ _ _ _ (c.in-Ok-SaveAgain.ensures.ok ∙ ap (λ t. Some (asked t)) c.in-Ok-SaveAgain.field-0-is)
+
+pub returns-in-Ok-SaveAgain-clause-reads : goal.returns-in-Ok-SaveAgain-clause-reads
+returns-in-Ok-SaveAgain-clause-reads g c = c.save_file_from.ensures.reads
+
+pub returns-in-Ok-SaveAgain-clause-does : goal.returns-in-Ok-SaveAgain-clause-does
+returns-in-Ok-SaveAgain-clause-does g c =
+    let Saved : List ℕ → List ℕ → List ℕ → Version → Type 0 = λ file state old version. OfFile (g.S.Shelf.holds c.args.shelf.now) file
+    (λ source. SavedAgainText source c.in-Ok-SaveAgain.budget version old state (g.L.Link.log c.args.link.now) (g.L.Link.log c.save_file_from.new.link) (g.L.Link.left c.args.link.now) (g.L.Link.left c.save_file_from.new.link)
+    (g.S.Shelf.holds c.args.shelf.now) (g.S.Shelf.holds c.save_file_from.new.shelf) c.save_file_from.result) in
+    let in_version = subst (Saved c.deref-in-Ok-SaveAgain.result.now c.deref-in-Ok-SaveAgain-2.result.now c.deref-in-Ok-SaveAgain-3.result.now) c.frame_version-version-in-Ok-SaveAgain.ensures c.save_file_from.ensures.saved in
+    let of_old = subst (λ (old : List ℕ). Saved c.deref-in-Ok-SaveAgain.result.now c.deref-in-Ok-SaveAgain-2.result.now old (frames_of c.in-Ok-SaveAgain.version)) c.deref-in-Ok-SaveAgain-3.ensures in_version in
+    let of_state = subst (λ (state : List ℕ). Saved c.deref-in-Ok-SaveAgain.result.now state (string_bytes c.in-Ok-SaveAgain.old) (frames_of c.in-Ok-SaveAgain.version)) c.deref-in-Ok-SaveAgain-2.ensures of_old in
+    for_each c.args.words.now _ _ (c.in-Ok-SaveAgain.ensures.ok ∙ ap (λ t. Some (asked t)) c.in-Ok-SaveAgain.field-0-is) (
+      subst (λ (file : List ℕ). Saved file (string_bytes c.in-Ok-SaveAgain.state) (string_bytes c.in-Ok-SaveAgain.old) (frames_of c.in-Ok-SaveAgain.version)) c.deref-in-Ok-SaveAgain.ensures of_state,
+      subst (λ (state : List ℕ). ChangesState c.save_file_from.result (g.S.Shelf.holds c.args.shelf.now) (g.S.Shelf.holds c.save_file_from.new.shelf) state) c.deref-in-Ok-SaveAgain-2.ensures c.save_file_from.ensures.changes,
+    )
+
+pub returns-in-Ok-SaveAgain-clause-held : goal.returns-in-Ok-SaveAgain-clause-held
+returns-in-Ok-SaveAgain-clause-held g c never = absurd (never _ (inr (_, _, _, _, c.in-Ok-SaveAgain.ensures.ok ∙ ap (λ t. Some (asked t)) c.in-Ok-SaveAgain.field-0-is)))
 
 pub returns-in-Ok-Resume-clause-command : goal.returns-in-Ok-Resume-clause-command
 returns-in-Ok-Resume-clause-command g c nothing = absurd (asks_something nothing (c.in-Ok-Resume.ensures.ok ∙ ap (λ t. Some (asked t)) c.in-Ok-Resume.field-0-is))
@@ -194,7 +221,7 @@ pub returns-in-Ok-Resume-clause-does : goal.returns-in-Ok-Resume-clause-does
 returns-in-Ok-Resume-clause-does g c =
     let Resumed : List ℕ → List ℕ → Version → Type 0 = λ file state version. OfFile (g.S.Shelf.holds c.args.shelf.now) file
     (λ source. ResumedText source c.in-Ok-Resume.budget version (g.S.Shelf.holds c.args.shelf.now) state (g.L.Link.log c.args.link.now) (g.L.Link.log c.resume_file.new.link) (g.L.Link.left c.args.link.now) (g.L.Link.left c.resume_file.new.link) c.resume_file.result) in
-    let in_version = subst (Resumed c.deref-in-Ok-Resume.result.now c.deref-in-Ok-Resume-2.result.now) c.frame_version-version.ensures c.resume_file.ensures.resumed in
+    let in_version = subst (Resumed c.deref-in-Ok-Resume.result.now c.deref-in-Ok-Resume-2.result.now) c.frame_version-version-in-Ok-Resume.ensures c.resume_file.ensures.resumed in
     let of_state = subst (λ (state : List ℕ). Resumed c.deref-in-Ok-Resume.result.now state (frames_of c.in-Ok-Resume.version)) c.deref-in-Ok-Resume-2.ensures in_version in
     for_each c.args.words.now _ _ (c.in-Ok-Resume.ensures.ok ∙ ap (λ t. Some (asked t)) c.in-Ok-Resume.field-0-is) (subst (λ (file : List ℕ). Resumed file (string_bytes c.in-Ok-Resume.state) (frames_of c.in-Ok-Resume.version)) c.deref-in-Ok-Resume.ensures of_state)
 

@@ -3,8 +3,10 @@ use Rattle.std.proofs.Common.{List, ℕ, Option, ◌∙◌, refl, subst, take}
 use Rattle.delta_end.specs.declared.end.End.TheVariants.{Memory, FileFailed}
 use Rattle.delta_loop.specs.Answer.{ReadsWell}
 use Rattle.delta_loop.proofs.Returning.{adds_none, unread}
-use Rattle.delta_run.specs.Saved.{SavedText, ChangesState}
-use Rattle.delta_run.proofs.SavedTexts.{saved_text, saved_reads, saved_changes, saves_usage, same_files}
+use Rattle.commands.specs.Leaving.{ChangesState}
+use Rattle.delta_run.specs.Saved.{SavedText}
+use Rattle.delta_run.proofs.RunsBehind.{same_files}
+use Rattle.delta_run.proofs.SavedTexts.{saved_text, saved_nothing, saved_unread, saved_reads, saves_usage}
 use Rattle.delta_run.proofs.kept.save_file.Goals as goal
 
 pub returns-in-Ok-clause-saved : goal.returns-in-Ok-clause-saved
@@ -30,8 +32,7 @@ returns-in-Ok-clause-saves g c =
 pub returns-in-Ok-clause-changes : goal.returns-in-Ok-clause-changes
 returns-in-Ok-clause-changes g c =
     subst (λ (before : Option (List ℕ → List ℕ)). ChangesState c.save_source.result before (g.S.Shelf.holds c.save_source.new.shelf) c.args.state.now) c.in-Ok.ensures.same
-    (saved_changes c.deref.result.now c.args.budget c.args.version c.args.state.now _ _ _ _ _ _ c.save_source.result
-    (saved_text c.deref.result.now c.args.budget c.args.version c.args.state.now _ _ _ _ _ _ c.save_source.result c.save_source.ensures.saved))
+    c.save_source.ensures.saved.changes
 
 pub returns-in-Err-Memory-clause-reads : goal.returns-in-Err-Memory-clause-reads
 returns-in-Err-Memory-clause-reads g c = adds_none _ _ (ReadsWell Memory) refl (unread Memory)
@@ -44,3 +45,9 @@ returns-in-Err-Memory-clause-changes g c = same_files _ _ c.args.state.now c.rea
 
 pub returns-in-Err-Failed-clause-changes : goal.returns-in-Err-Failed-clause-changes
 returns-in-Err-Failed-clause-changes g c = same_files _ _ c.args.state.now c.read.ensures.same
+
+pub returns-in-Err-Memory-clause-saved : goal.returns-in-Err-Memory-clause-saved
+returns-in-Err-Memory-clause-saved g c files tells = saved_nothing (take 1048577 (files c.args.file.now)) c.args.budget c.args.version c.args.state.now _ _ _ _ _ _ (refl, refl) c.read.ensures.same
+
+pub returns-in-Err-Failed-clause-saved : goal.returns-in-Err-Failed-clause-saved
+returns-in-Err-Failed-clause-saved g c files tells = saved_unread (take 1048577 (files c.args.file.now)) c.args.budget c.args.version c.args.state.now _ _ _ _ _ _ (refl, refl) c.read.ensures.same

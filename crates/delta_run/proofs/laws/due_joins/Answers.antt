@@ -1,4 +1,4 @@
-use Rattle.delta_run.proofs.JoinedRuns.{due_joins}
+use Rattle.delta_run.proofs.JoinedStates.{due_joins}
 use Rattle.delta_run.proofs.laws.due_joins.Goals as goal
 
 pub returns : goal.returns

@@ -1,4 +1,4 @@
-use Rattle.delta_run.proofs.JoinedRuns.{left_is_typed}
+use Rattle.delta_run.proofs.JoinedStates.{left_is_typed}
 use Rattle.delta_run.proofs.laws.left_is_typed.Goals as goal
 
 pub returns : goal.returns

@@ -1,4 +1,4 @@
-use Rattle.delta_run.proofs.JoinedRuns.{state_is_one}
+use Rattle.delta_run.proofs.JoinedStates.{state_is_one}
 use Rattle.delta_run.proofs.laws.state_is_one.Goals as goal
 
 pub returns : goal.returns

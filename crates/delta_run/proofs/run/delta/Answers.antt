@@ -1,7 +1,8 @@
-use Rattle.delta_words.specs.CommandTask.{save}
+use Rattle.std.proofs.Common.{inl, inr}
+use Rattle.delta_words.specs.CommandTask.{save, save_again}
 use Rattle.delta_end.proofs.Statuses.{two_is_usage, status_is, status_rose, status_still, note_whole}
 use Rattle.delta_run.proofs.TextRuns.{two_or_eight}
-use Rattle.delta_run.proofs.SavedTexts.{changes_only}
+use Rattle.delta_run.proofs.RunsBehind.{changes_only}
 use Rattle.delta_run.proofs.Owing.{owed}
 use Rattle.delta_run.proofs.run.delta.Goals as goal
 
@@ -37,4 +38,7 @@ returns-clause-still g c =
     status_still _ _ _ _ _ _ _ _ _ _ (status_is _ _ _ _ _ c.answer.ensures c.note-said.ensures.cause) c.run_command-end.ensures.file c.run_command-end.ensures.read c.run_command-end.ensures.write
 
 pub returns-clause-changes : goal.returns-clause-changes
-returns-clause-changes g c file state budget v is = changes_only c.run_command-end.result _ _ state (c.run_command-end.ensures.does (save file state budget v) is).1
+returns-clause-changes g c state (inl asks) =
+    changes_only c.run_command-end.result _ _ state (c.run_command-end.ensures.does (save asks.0 state asks.1 asks.2) asks.3).1
+returns-clause-changes g c state (inr asks) =
+    changes_only c.run_command-end.result _ _ state (c.run_command-end.ensures.does (save_again asks.0 state asks.1 asks.2 asks.3) asks.4).1
