@@ -122,6 +122,40 @@ fn join(
     Ok(ended && others && first.bytes.as_slice() == output)
 }
 
+// Whether a run over nothing but a header, and runs that go on from the state of the one before over the part of the feed
+// up to each place and over the rest, write together what one run writes.
+fn chain(
+    alloc: Global,
+    text: &[u8],
+    feed: &[u8],
+    places: &[usize],
+    output: &[u8],
+) -> Result<bool, Fail> {
+    let mut shelf = shelf_of(alloc, text, b"")?;
+    let mut said = answer_to(alloc, "save program state", &mut shelf, b"DEV1")?;
+    let mut start = 4;
+    let mut well = said.status == 6;
+    for place in places {
+        let part = feed.get(start..*place).unwrap_or(b"");
+        let part = behind_header(alloc, part)?;
+        let more = answer_to(alloc, "save program state state", &mut shelf, &part)?;
+        said.bytes.extend_from_slice(&more.bytes)?;
+        well = well && more.status == 6;
+        start = *place;
+    }
+    let rest = behind_header(alloc, feed.get(start..).unwrap_or(b""))?;
+    let last = answer_to(alloc, "resume program state", &mut shelf, &rest)?;
+    said.bytes.extend_from_slice(&last.bytes)?;
+    Ok(well && last.status == 0 && said.bytes.as_slice() == output)
+}
+
+#[test]
+fn a_feed_is_cut_everywhere(rt: HostRuntime) -> Result<(), Fail> {
+    assert!(rt; chain(rt.alloc(), DOUBLE, FEED, ENDS, DOUBLED)?);
+    assert!(rt; chain(rt.alloc(), TWO, BOTH, ENDS_OF_TWO, BOTH)?);
+    Ok(())
+}
+
 #[test]
 fn a_feed_is_cut_anywhere(rt: HostRuntime) -> Result<(), Fail> {
     for place in ENDS {
@@ -136,17 +170,19 @@ fn a_feed_is_cut_anywhere(rt: HostRuntime) -> Result<(), Fail> {
 // What is kept of the program of one number once it came: nothing is left of the input or of the output.
 const FINISHED: &[u8] = b"DST\x01\0\0\0\0\0\0\0\x01\0\0\0\x01\0\0\0\0\0\0\0\0";
 
-// Whether a run of that program ends so and leaves these bytes.
-fn leaves(alloc: Global, input: &[u8], status: u8, state: &[u8]) -> Result<bool, Fail> {
-    let mut shelf = shelf_of(alloc, SAME, b"before")?;
-    let answer = answer_to(alloc, "save program state", &mut shelf, input)?;
+// Whether a run of that program, from its start or from the file of the state, ends so and leaves these bytes.
+fn leaves(alloc: Global, line: &str, input: &[u8], status: u8, state: &[u8]) -> Result<bool, Fail> {
+    let mut shelf = shelf_of(alloc, SAME, FRESH)?;
+    let answer = answer_to(alloc, line, &mut shelf, input)?;
     Ok(answer.status == status && holds(&mut shelf, "state", state))
 }
 
 #[test]
 fn what_goes_on_and_what_is_done_is_kept(rt: HostRuntime) -> Result<(), Fail> {
-    assert!(rt; leaves(rt.alloc(), b"DEV1", 6, FRESH)?);
-    assert!(rt; leaves(rt.alloc(), FOUR, 0, FINISHED)?);
+    for line in ["save program state", "save program state state"] {
+        assert!(rt; leaves(rt.alloc(), line, b"DEV1", 6, FRESH)?, "{line}");
+        assert!(rt; leaves(rt.alloc(), line, FOUR, 0, FINISHED)?, "{line}");
+    }
     Ok(())
 }
 
@@ -219,6 +255,27 @@ const ROWS: &[Row] = &[
         note: b"delta: outside fault: file\n",
         ..REFUSED
     },
+    // A run that goes on from a state judges it as one that is resumed.
+    Row {
+        words: "save program other state",
+        state: b"DST\x02",
+        note: b"delta: state refused: Version at 2\n",
+        ..REFUSED
+    },
+    Row {
+        words: "save program other gone",
+        status: 7,
+        note: b"delta: outside fault: file\n",
+        ..REFUSED
+    },
+    // 2^41 events came before, and one more comes.
+    Row {
+        words: "save program other state",
+        state: b"DST\x01\0\0\x02\0\0\0\0\0\0\0\0\x01\x02\0\0\0\0\x02\x01\0\0\0\0",
+        note: b"delta: state refused: Large at 1048576\n",
+        status: 10,
+        ..RESUMED
+    },
     Row {
         words: "resume program state --budget 1000001",
         status: 2,
@@ -257,6 +314,7 @@ fn a_run_that_stops_leaves_nothing(rt: HostRuntime) -> Result<(), Fail> {
     assert!(rt; leaves_nothing(alloc, "save program state", b"DEV1\0\x14", 4)?);
     assert!(rt; leaves_nothing(alloc, "save program state --budget 0", FEED, 5)?);
     assert!(rt; leaves_nothing(alloc, "save other state", FEED, 3)?);
-    assert!(rt; leaves_nothing(alloc, "save program state state", FEED, 2)?);
+    assert!(rt; leaves_nothing(alloc, "save program state state", FEED, 10)?);
+    assert!(rt; leaves_nothing(alloc, "save program state state state", FEED, 2)?);
     Ok(())
 }

@@ -121,6 +121,48 @@ fn lines_without_a_file(rt: HostRuntime) -> Result<(), Fail> {
     Ok(())
 }
 
+// Whether a line asks to save the state of `a` in the file `b`, with that.
+fn asks_to_save(alloc: Global, line: &str, budget: u64, version: Version) -> Result<bool, Fail> {
+    let task = Task::Save(named(alloc, "a")?, named(alloc, "b")?, budget, version);
+    asks(alloc, line, &task)
+}
+
+// Whether a line asks to go on from such a state of `a`, and to save the state in the file `b`.
+fn asks_to_save_again(
+    alloc: Global,
+    line: &str,
+    (old, budget, version): Wanted,
+) -> Result<bool, Fail> {
+    let file = named(alloc, "a")?;
+    let state = named(alloc, "b")?;
+    let task = Task::SaveAgain(file, state, named(alloc, old)?, budget, version);
+    asks(alloc, line, &task)
+}
+
+#[test]
+fn lines_of_save(rt: HostRuntime) -> Result<(), Fail> {
+    let saved = [
+        ("save a b", 1_000_000, Version::V1),
+        ("save a --budget=7 b", 7, Version::V1),
+        ("save a b --v2", 1_000_000, Version::V2),
+    ];
+    for (line, budget, version) in saved {
+        assert!(rt; asks_to_save(rt.alloc(), line, budget, version)?, "{line}");
+    }
+    let again = [
+        ("save a b c", ("c", 1_000_000, Version::V1)),
+        ("save a b b", ("b", 1_000_000, Version::V1)),
+        ("save --v2 a b c", ("c", 1_000_000, Version::V2)),
+        ("save a --v2 b c", ("c", 1_000_000, Version::V2)),
+        ("save a b c --v2 --budget 7", ("c", 7, Version::V2)),
+        ("save a b -- -old", ("-old", 1_000_000, Version::V1)),
+    ];
+    for (line, wanted) in again {
+        assert!(rt; asks_to_save_again(rt.alloc(), line, wanted)?, "{line}");
+    }
+    Ok(())
+}
+
 // A line without a word stands first.
 const NO_LINES: &str = "
 run
@@ -156,7 +198,10 @@ gen 1 000000001
 gen 1 x
 gen 1 2 3
 save a
-save a b c
+save a b c d
+save a b --v2 c
+save a b --budget=7 c
+save a b c --v2 d
 save a b --frames
 save a b --budget 1000001
 resume a

@@ -182,6 +182,23 @@ const CALLS: &[Row] = &[
         NO_FILE,
     ),
     (RESUME, (FOUR, 0, "")),
+    // The state to go on from is read before anything is written, and all is written before the next one is.
+    (
+        Given {
+            words: "save program proof proof",
+            fail_calls: &[1],
+            ..RESUME
+        },
+        NO_FILE,
+    ),
+    (
+        Given {
+            words: "save program proof proof",
+            fail_calls: &[2],
+            ..RESUME
+        },
+        (FOUR, 7, "delta: outside fault: file\n"),
+    ),
     // The state for what is no program isn't read.
     (
         Given {
