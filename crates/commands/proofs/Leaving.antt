@@ -146,8 +146,8 @@ is_well end (inr is) = subst IsWellEnded (sym is) tt
 
 -- the command ended as the run, which ended well
 pub saves_well : (w : Way) (name : List ℕ) (old new : Option (List ℕ → List ℕ)) (end : End) → IsWellEnded end → Ended w end → IsSaved w new name end → ChangesOnly old new name → Saves w name old new end
-saves_well w name old new Done well ran saved others = record { behind = Done; is_behind = refl; ended = ran; leaves = saved; changes = others }
-saves_well w name old new Open well ran saved others = record { behind = Open; is_behind = refl; ended = ran; leaves = saved; changes = others }
+saves_well w name old new Done well ran saved others = record { behind = Done; is_behind = refl; ended = ran; leaves = saved; changes = others; still = λ ill. absurd (ill tt) }
+saves_well w name old new Open well ran saved others = record { behind = Open; is_behind = refl; ended = ran; leaves = saved; changes = others; still = λ ill. absurd (ill tt) }
 saves_well w name old new Usage well ran saved others = absurd well
 saves_well w name old new (Refused why) well ran saved others = absurd well
 saves_well w name old new (Input fault) well ran saved others = absurd well
@@ -168,6 +168,7 @@ leaving_nothing ran left name files end loop ill so none = record {
   ended = so;
   leaves = none end ill loop;
   changes = unchanged end ill;
+  still = λ ill. refl;
 }
   where
     itself : (end : End) → IsOfLoop end → IsBehind end end

@@ -52,6 +52,7 @@ module _ {old new : Option (List Move)} {left0 left1 : Option (List ℕ)} where
         (subst (λ (e : CoreProgram). LeavesState (way_of_tree old new left0 left1 p e budget v) files1 name end) same.1
         (subst (λ (P : OneShot). LeavesState (record { meaning = meaning_of v budget P; origin = from_start c; old = old; new = new; left0 = left0; left1 = left1 }) files1 name end) (same_one_shot p c accepted.accepted.accepted) saves.leaves));
     changes = saves.changes;
+    still = saves.still;
   }
 
   -- one that goes on from a typed state is one of its bytes,
@@ -65,19 +66,20 @@ module _ {old new : Option (List Move)} {left0 left1 : Option (List ℕ)} where
         let same = typed_one_spelling c c k l typed.places other.places typed.sizes other.sizes typed.typed other.typed (sym typed.has_bytes ∙ other.has_bytes) in
         subst (λ (t : KeptTree). LeavesState (way_since old new left0 left1 c t budget v) files1 name end) same saves.leaves;
     changes = saves.changes;
+    still = saves.still;
   }
 
   -- and where these are refused nothing is left
   pub saves_refused : (c : CoreProgram) (budget : ℕ) (v : Version) (bytes name : List ℕ) (files : Option (List ℕ → List ℕ)) (f : KeepFault) → TellsKeepFault c bytes (Err f) → RefusesNone c bytes f → IsUntouched old new left0 left1
       → SavesBytes old new left0 left1 c budget v bytes name files files (end_of f)
   saves_refused c budget v bytes name files fault.Memory told none untouched =
-      record { behind = Memory; is_behind = inl refl; ended = inl untouched; leaves = λ k typed. tt; changes = changes_nothing files name }
+      record { behind = Memory; is_behind = inl refl; ended = inl untouched; leaves = λ k typed. tt; changes = changes_nothing files name; still = λ ill. refl }
   saves_refused c budget v bytes name files (fault.Form at) told none untouched =
-      record { behind = end_of (fault.Form at); is_behind = refl; ended = refuses c budget v bytes old new left0 left1 (fault.Form at) told none untouched; leaves = λ k typed. tt; changes = refl }
+      record { behind = end_of (fault.Form at); is_behind = refl; ended = refuses c budget v bytes old new left0 left1 (fault.Form at) told none untouched; leaves = λ k typed. tt; changes = refl; still = λ ill. refl }
   saves_refused c budget v bytes name files (fault.Untyped n) told none untouched =
-      record { behind = end_of (fault.Untyped n); is_behind = refl; ended = refuses c budget v bytes old new left0 left1 (fault.Untyped n) told none untouched; leaves = λ k typed. tt; changes = refl }
+      record { behind = end_of (fault.Untyped n); is_behind = refl; ended = refuses c budget v bytes old new left0 left1 (fault.Untyped n) told none untouched; leaves = λ k typed. tt; changes = refl; still = λ ill. refl }
   saves_refused c budget v bytes name files (fault.Version n) told none untouched =
-      record { behind = end_of (fault.Version n); is_behind = refl; ended = refuses c budget v bytes old new left0 left1 (fault.Version n) told none untouched; leaves = λ k typed. tt; changes = refl }
+      record { behind = end_of (fault.Version n); is_behind = refl; ended = refuses c budget v bytes old new left0 left1 (fault.Version n) told none untouched; leaves = λ k typed. tt; changes = refl; still = λ ill. refl }
 
   -- so it is where the bytes are those of a file,
   pub saves_from_file : (c : CoreProgram) (budget : ℕ) (v : Version) (from name : List ℕ) (files0 files1 : Option (List ℕ → List ℕ)) (bytes : List ℕ)
@@ -89,18 +91,19 @@ module _ {old new : Option (List Move)} {left0 left1 : Option (List ℕ)} where
     ended = of_file c budget v files0 from old new left0 left1 bytes held saves.behind saves.ended;
     leaves = λ told there k typed. saves.leaves k (subst (λ (bs : List ℕ). IsTypedAs c bs k) (sym (held told there)) typed);
     changes = saves.changes;
+    still = saves.still;
   }
 
   -- and where that couldn't be read, or memory ran out, nothing is left
   pub saves_unread : (c : CoreProgram) (budget : ℕ) (v : Version) (from name : List ℕ) (files0 files1 : Option (List ℕ → List ℕ)) → files1 ≡ files0 → IsUntouched old new left0 left1
       → SavesFrom old new left0 left1 c budget v from name files0 files1 FileFailed
   saves_unread c budget v from name files0 files1 same untouched =
-      record { behind = FileFailed; is_behind = inl refl; ended = untouched; leaves = λ told there k typed. tt; changes = λ told is. (told, same ∙ is, λ other ne. refl) }
+      record { behind = FileFailed; is_behind = inl refl; ended = untouched; leaves = λ told there k typed. tt; changes = λ told is. (told, same ∙ is, λ other ne. refl); still = λ ill. same }
 
   pub saves_short : (c : CoreProgram) (budget : ℕ) (v : Version) (from name : List ℕ) (files0 files1 : Option (List ℕ → List ℕ)) → files1 ≡ files0 → IsUntouched old new left0 left1
       → SavesFrom old new left0 left1 c budget v from name files0 files1 Memory
   saves_short c budget v from name files0 files1 same untouched =
-      record { behind = Memory; is_behind = inl refl; ended = inl untouched; leaves = λ told there k typed. tt; changes = λ told is. (told, same ∙ is, λ other ne. refl) }
+      record { behind = Memory; is_behind = inl refl; ended = inl untouched; leaves = λ told there k typed. tt; changes = λ told is. (told, same ∙ is, λ other ne. refl); still = λ ill. same }
 
   -- and so it is with the program of a text
   pub saves_text_from : (text : List ℕ) (budget : ℕ) (v : Version) (from name : List ℕ) (files0 files1 : Option (List ℕ → List ℕ)) (p : ProgramTree) (c : CoreProgram) → IsWritable text v p c → (end : End)
@@ -113,4 +116,5 @@ module _ {old new : Option (List Move)} {left0 left1 : Option (List ℕ)} where
         let same = accepted_is_one text p q c d accepted.accepted again.accepted in
         subst (λ (e : CoreProgram). LeavesAgain old new left0 left1 e budget v files0 from name files1 end) same.1 saves.leaves;
     changes = saves.changes;
+    still = saves.still;
   }

@@ -171,13 +171,14 @@ ChangesState Memory old new name = ChangesOnly old new name
 ChangesState end old new name = new ≡ old
 
 -- a command that leaves a state under a name ended so: behind its end stands a run that ended in its own way, what is
--- left is as `left` says of the command's end, and no other name changed
+-- left is as `left` says of the command's end, no other name changed, and none where the run didn't end well
 pub record Leaving (ran left : End → Type 0) (old new : Option (List ℕ → List ℕ)) (name : List ℕ) (end : End) : Type 0 where
   pub behind : End
   pub is_behind : IsBehind end behind
   pub ended : ran behind
   pub leaves : left end
   pub changes : ChangesState end old new name
+  pub still : (IsWellEnded behind → ⊥) → new ≡ old
 
 -- a run that leaves its state under a name
 abbrev pub Saves : Way → List ℕ → Option (List ℕ → List ℕ) → Option (List ℕ → List ℕ) → End → Type 0

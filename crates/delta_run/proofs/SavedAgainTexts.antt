@@ -50,16 +50,17 @@ module _ (text : List ℕ) (budget : ℕ) (v : Version) (from name : List ℕ) (
     ended = resumed_text text budget v files0 from old new left0 left1 saves.behind saves.ended;
     leaves = saves.leaves;
     changes = saves.changes;
+    still = saves.still;
   }
 
   -- where nothing was done, for want of memory, or since no file was read, that stands behind the end
   pub saved_again_nothing : IsUntouched old new left0 left1 → files1 ≡ files0 → Saved Memory
   saved_again_nothing none same =
-      record { behind = Memory; is_behind = inl refl; ended = inl none; leaves = λ p c accepted told is k typed. tt; changes = same_files files0 files1 name same }
+      record { behind = Memory; is_behind = inl refl; ended = inl none; leaves = λ p c accepted told is k typed. tt; changes = same_files files0 files1 name same; still = λ ill. same }
 
   pub saved_again_unread : IsUntouched old new left0 left1 → files1 ≡ files0 → Saved FileFailed
   saved_again_unread none same =
-      record { behind = FileFailed; is_behind = inl refl; ended = none; leaves = λ p c accepted told is k typed. tt; changes = same_files files0 files1 name same }
+      record { behind = FileFailed; is_behind = inl refl; ended = none; leaves = λ p c accepted told is k typed. tt; changes = same_files files0 files1 name same; still = λ ill. same }
 
   module _ (told : List ℕ → List ℕ) (files_are : files0 ≡ Some told) where
     abbrev bytes : List ℕ

@@ -49,14 +49,15 @@ module _ (text : List ℕ) (budget : ℕ) (v : Version) (name : List ℕ) (old n
     ended = ran_text text budget v old new left0 left1 saves.behind saves.ended;
     leaves = saves.leaves;
     changes = saves.changes;
+    still = saves.still;
   }
 
   -- where nothing was done, for want of memory, or since no file was read, that stands behind the end
   pub saved_nothing : IsUntouched old new left0 left1 → files1 ≡ files0 → Saved Memory
-  saved_nothing none same = record { behind = Memory; is_behind = inl refl; ended = inl none; leaves = λ p c accepted. tt; changes = same_files files0 files1 name same }
+  saved_nothing none same = record { behind = Memory; is_behind = inl refl; ended = inl none; leaves = λ p c accepted. tt; changes = same_files files0 files1 name same; still = λ ill. same }
 
   pub saved_unread : IsUntouched old new left0 left1 → files1 ≡ files0 → Saved FileFailed
-  saved_unread none same = record { behind = FileFailed; is_behind = inl refl; ended = none; leaves = λ p c accepted. tt; changes = same_files files0 files1 name same }
+  saved_unread none same = record { behind = FileFailed; is_behind = inl refl; ended = none; leaves = λ p c accepted. tt; changes = same_files files0 files1 name same; still = λ ill. same }
 
   -- it is prompt, as the run behind it is
   pub saved_prompt : (end : End) → Saved end → Adds old new (RunsPromptly text budget v)

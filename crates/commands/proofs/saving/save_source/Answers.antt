@@ -16,7 +16,7 @@ pub returns-in-Ok-clause-saved : goal.returns-in-Ok-clause-saved
 returns-in-Ok-clause-saved g c = saves_text _ _ _ _ _ _ _ _ c.in-Ok.ensures.accepted _ c.save_checked-end.ensures.saved
 
 pub returns-in-Err-Memory-clause-saved : goal.returns-in-Err-Memory-clause-saved
-returns-in-Err-Memory-clause-saved g c = record { behind = Memory; is_behind = inl refl; ended = inl (refl, refl); leaves = λ p d accepted. tt; changes = changes_nothing _ _ }
+returns-in-Err-Memory-clause-saved g c = record { behind = Memory; is_behind = inl refl; ended = inl (refl, refl); leaves = λ p d accepted. tt; changes = changes_nothing _ _; still = λ ill. refl }
 
 pub returns-in-Err-Refused-clause-saved : goal.returns-in-Err-Refused-clause-saved
 returns-in-Err-Refused-clause-saved g c =
@@ -25,4 +25,4 @@ returns-in-Err-Refused-clause-saved g c =
     let files = g.S.Shelf.holds c.args.shelf.now in
     let refused = rw c.in-Err-Refused.field-0-is at c.in-Err-Refused.ensures.refused in
     subst (λ (why : Refusal). SavesText log log left left c.args.text.now c.args.budget c.args.version c.args.name.now files files (Refused (Some why))) (sym c.in-Err-Refused.why-is)
-    (record { behind = Refused (Some c.in-Err-Refused.why); is_behind = refl; ended = (refused, (refl, refl)); leaves = λ p d accepted. tt; changes = refl })
+    (record { behind = Refused (Some c.in-Err-Refused.why); is_behind = refl; ended = (refused, (refl, refl)); leaves = λ p d accepted. tt; changes = refl; still = λ ill. refl })
