@@ -3,6 +3,7 @@
 ghost use Rattle.std.specs.Prelude.{◌≡◌, ◌++◌, ◌∷◌, [], List, ℕ, IfOk, OnOk, IsErrOf};
 ghost use Rattle.stream_prefix.specs.Tree.{prefix_of};
 ghost use Rattle.event_word.specs.StreamEvent.{StreamEvent};
+ghost use Rattle.core_term.specs.CoreTerm.{CoreProgram};
 ghost use Rattle.delta_state.specs.PlainState.{capped, events_held, state_count};
 ghost use Rattle.delta_state.specs.MachineView.{MachineView};
 ghost use Rattle.delta_session.specs.OneShot.{said_to, IsCostly, IsDeep};
@@ -53,4 +54,7 @@ pub trait Answers: Sized + Drop {
     ghost same_at_first: { (m : Self) → same m m };
 
     ghost same_throughout: { (a b c : Self) → same a b → same b c → same a c };
+
+    /// What runs the same runs the same program.
+    ghost same_program: { (a b : Self) → same a b → (c : CoreProgram) → (seen a).program ≡ c → (seen b).program ≡ c };
 }

@@ -21,6 +21,8 @@ impl<M: Machine> Answers for M {
 
     ghost same_throughout = { λ _ _ _ before after c of. after c (before c of) };
 
+    ghost same_program = { λ _ _ same. same };
+
     fn answer(&mut self, alloc: Global, x: &Event) -> Result<Prefix, StepRefusal> {
         self.step(alloc, x)
     }

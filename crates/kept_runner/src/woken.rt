@@ -33,6 +33,8 @@ impl<'a, M: Keeping> Answers for Woken<'a, M> {
 
     ghost same_throughout = { λ _ _ _ before after. (λ c of. after.0 c (before.0 c of), λ k is. after.1 k (before.1 k is)) };
 
+    ghost same_program = { λ _ _ same. same.0 };
+
     fn answer(&mut self, alloc: Global, x: &Event) -> Result<Prefix, StepRefusal> {
         self.machine.step_since(alloc, x)
     }
