@@ -14,7 +14,7 @@ use stream_type::Memory;
 use template_state::{Op, Operands};
 
 /// The stream names that occur free in the term, each once, in the order of first use: `once` of
-/// `free_names` in `specs/FreeNames.antt`. Its only error is want of memory.
+/// `free_names` in `specs/FreeNames.antt` of `core_term`. Its only error is want of memory.
 pub fn free(alloc: Global, n: &Op) -> Result<Vec<Name>, Memory>
     ensures { IfOk result (λ v. numbers_of v.items ≡ once (free_names (op_term n.now))) }
 {

@@ -34,7 +34,8 @@ pub enum End {
     /// The input is refused.
     Input(InputFault),
     /// The program makes more calls than its budget allows: for one event, at its start, or in an
-    /// evaluation. The number is the place of the frame whose event was in hand, and 0 where none was.
+    /// evaluation. The number is the place of the frame whose event was in hand, of tables that of the
+    /// event, and 0 where none was.
     Budget(u64),
     /// The program makes a call at too great a level. The number is that of `Budget`.
     Deep(u64),

@@ -50,7 +50,7 @@ pub enum StateName {
     Untyped,
     /// It is of another version.
     Version,
-    /// It has too many bytes.
+    /// It has too many bytes, or too many events were taken.
     Large,
 }
 

@@ -25,8 +25,8 @@ use std::alloc::Global;
 /// one at too great a level, 6 where the input's type awaits more at its end, 7 at a fault outside, 8 for
 /// want of memory, 9 for more than 2^40 input bytes, 10 where a state is refused, 11 where a derivation is,
 /// 12 where the program has no bound, and 13 where it doesn't take the tables. The words are those after the program's name. The
-/// last thing that is written is the note, a line to the sink that says how the run ended (`note_of` of
-/// `specs/Note.antt`). A program that `run` runs is run by a B; the load and programs that tables are fed to run on the
+/// last thing that is written is the note, a line to the sink that says how the run ended (`note_of` in
+/// `specs/Note.antt` of `delta_end`). A program that `run` runs is run by a B; the load and programs that tables are fed to run on the
 /// machine M, and those whose states are left or gone on from on K.
 pub fn delta<B: Begins, M: Machine, K: Keeping, S: Shelf, L: Link, N: Sink>(
     alloc: Global,

@@ -1,5 +1,5 @@
-//! Tests of whole runs, with ample memory: what is left where bytes are hostile or what is outside fails, each name that a
-//! note can have (the examples of `docs/REFUSALS.md`), and the load.
+//! Tests of whole runs, with ample memory: what is left where bytes are hostile or what is outside fails, the names
+//! that a note can have for status 3 to 5 (examples of `docs/REFUSALS.md`), and the load.
 #![tactic(auto)]
 
 #[cfg(test)]

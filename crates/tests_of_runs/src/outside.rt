@@ -2,13 +2,13 @@
 
 use delta_code::Coded;
 use delta_run::delta;
-use delta_runner::Runner;
+use learned_runner::Learner;
 use port::{MemLink, MemShelf, MemSink, Move};
 use std::alloc::Global;
 use std::test::Fail;
 
-/// What runs programs.
-type Running = Runner<Coded>;
+/// What runs programs, as in the program itself.
+type Running = Learner;
 
 /// What a command is given.
 #[derive(Clone, Copy)]

@@ -1,4 +1,4 @@
-//! The examples of `docs/REFUSALS.md`, row by row.
+//! The examples of `docs/REFUSALS.md` for status 3 to 5, row by row.
 
 use crate::outside::tells;
 use std::alloc::Global;
