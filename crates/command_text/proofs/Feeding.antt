@@ -28,11 +28,6 @@ frames_one v word x = frames-append v word (x ∷ []) ∙ ap (λ (bs : List ℕ)
 behind_behind : (a b : List StreamEvent) (t : Taken) → behind a (behind b t) ≡ behind (a ++ b) t
 behind_behind a b t = ap (λ (w : List StreamEvent). record t { word = w }) (sym (append_assoc a b t.word))
 
--- a byte that ends no line
-pub reads_on : (v : Version) (r next : LineState) (front : List ℕ) (word : List StreamEvent) (byte : ℕ) → Reads v r front word
-    → ((more : List ℕ) → taken_from v r (byte ∷ more) ≡ taken_from v next more) → Reads v next (front ++ byte ∷ []) word
-reads_on v r next front word byte reads step = record {
-  all = λ more. ap (taken v) (append_assoc front (byte ∷ []) more) ∙ (reads.all (byte ∷ more) ∙ ap (behind word) (step more));
 }
 
 -- a byte that ends the line of an event
@@ -43,12 +38,6 @@ reads_event v r next front word byte x reads step = record {
       ∙ (reads.all (byte ∷ more) ∙ (ap (behind word) (step more) ∙ behind_behind word (x ∷ []) (taken_from v next more)));
 }
 
-pub feeds_on : (v : Version) (start now : Option (List Move)) (r next : LineState) (input front : List ℕ) (byte : ℕ) → Feeds v start now r input front false
-    → ((more : List ℕ) → taken_from v r (byte ∷ more) ≡ taken_from v next more) → Feeds v start now next input (front ++ byte ∷ []) false
-feeds_on v start now r next input front byte feeds step = record {
-  word = feeds.word;
-  history = feeds.history;
-  reads = reads_on v r next front feeds.word byte feeds.reads step;
 }
 
 -- what was written, with a frame more
@@ -113,21 +102,6 @@ ended_sending v start now next r r' front more byte x sent rest end feeds step s
         rest ++ tail,
         e ∙ (ap (λ (bs : List ℕ). (header v ++ frames v feeds.word) ++ (bs ++ tail)) split
             ∙ (ap (λ (bs : List ℕ). (header v ++ frames v feeds.word) ++ bs) (append_assoc sent rest tail) ∙ sym (append_assoc (header v ++ frames v feeds.word) sent (rest ++ tail)))),
-      );
-    }
-
--- a line that is refused
-pub ended_refused : (v : Version) (start now : Option (List Move)) (r : LineState) (front more : List ℕ) (byte : ℕ) (refusal : LineRefusal) (place : ℕ)
-    → Feeds v start now r (front ++ byte ∷ more) front false → taken_from v r (byte ∷ more) ≡ stop (Refused refusal place)
-    → Ended (frames_of_lines v) start now (front ++ byte ∷ more) false (Input (line_fault refusal place))
-ended_refused v start now r front more byte refusal place feeds step =
-    let e : taken v (front ++ byte ∷ more) ≡ behind feeds.word (stop (Refused refusal place)) = feeds.reads.all (byte ∷ more) ∙ ap (behind feeds.word) step in
-    record {
-      written = header v ++ frames v feeds.word;
-      history = feeds.history;
-      may = (
-        ap (λ (t : Taken). option_map (λ (found : LineRefusal × ℕ). line_fault found.0 found.1) (refused_in t.ending)) e,
-        ap (λ (w : List StreamEvent). header v ++ frames v w) (sym (append-nil feeds.word)) ∙ sym (ap (λ (t : Taken). header v ++ frames v t.word) e),
       );
     }
 
@@ -212,18 +186,6 @@ cut_at : (piece : List ℕ) (i : ℕ) → i < length piece → piece ≡ take i 
 cut_at [] i lt = absurd (omega arith)
 cut_at (x ∷ piece) zero lt = refl
 cut_at (x ∷ piece) (suc i) lt = let e : suc i + 1 ≡ suc (i + 1) = omega arith in rw e (ap (λ (bs : List ℕ). x ∷ bs) (cut_at piece i (omega arith)))
-
-take_one : (piece : List ℕ) (i : ℕ) → i < length piece → take (i + 1) piece ≡ take i piece ++ get_or piece i 0 ∷ []
-take_one [] i lt = absurd (omega arith)
-take_one (x ∷ piece) zero lt = refl
-take_one (x ∷ piece) (suc i) lt = let e : suc i + 1 ≡ suc (i + 1) = omega arith in rw e (ap (λ (bs : List ℕ). x ∷ bs) (take_one piece i (omega arith)))
-
--- a byte of a piece was read
-pub feeds_next : (v : Version) (start now : Option (List Move)) (r : LineState) (all input piece : List ℕ) (i : ℕ) → i < length piece
-    → Feeds v start now r all ((input ++ take i piece) ++ get_or piece i 0 ∷ []) false → Feeds v start now r all (input ++ take (i + 1) piece) false
-feeds_next v start now r all input piece i lt feeds =
-    subst (λ (front : List ℕ). Feeds v start now r all front false)
-    (append_assoc input (take i piece) (get_or piece i 0 ∷ []) ∙ ap (λ (bs : List ℕ). input ++ bs) (sym (take_one piece i lt))) feeds
 
 -- a run that ended at a byte of a piece
 pub ended_at : (v : Version) (start before now : Option (List Move)) (r : LineState) (input piece : List ℕ) (i : ℕ) (end : End) → i < length piece

@@ -136,10 +136,6 @@ module _ (v : Version) (start log0 : Option (List Move)) (left left0 : Option (L
         used_up = λ never. cc;
       }
 
--- before the first read
-pub goes_first : (v : Version) (start log : Option (List Move)) (left : Option (List ℕ)) (r : LineState) → Feeds v start log r [] [] false → Goes v start log left left r 0
-goes_first v start log left r feeds = record { input = []; feeds = feeds; count = refl; taken = loses_nothing left left refl }
-
 -- the header was written
 pub opens : (v : Version) (old new : Option (List Move)) (sent rest : List ℕ) → header v ≡ sent ++ rest → rest ≡ [] → Writes old new sent → Feeds v old new first_line [] [] false
 opens v old new sent rest split none writes = record {

@@ -1,5 +1,5 @@
 -- The ends that come before anything is written.
-use Rattle.std.proofs.Common.{◌≡◌, ◌⊎◌, inl, inr, ℕ, ◌≤◌, List, length, Option, Some, Result, Ok, Err, refl, sym, subst, ◌∙◌, arith}
+use Rattle.std.proofs.Common.{◌≡◌, inl, inr, ℕ, ◌≤◌, List, length, Option, Some, Result, Ok, Err, refl, sym, subst, ◌∙◌, arith}
 use Rattle.std.specs.Prelude.{IfErr, MatchResult}
 use Rattle.stream_type.specs.StreamType.{StreamType, reach_of, height_of}
 use Rattle.stream_type.proofs.Bounds.{reach_of-height_of}
@@ -31,13 +31,6 @@ no_failed_file Long before now other same = same
 no_failed_file (Objected what) before now other same = same
 no_failed_file FileFailed before now other same = absurd (other refl)
 
-pub told_is_no_file : (why : FeedFault) → told_as why ≡ FileFailed → ⊥
-told_is_no_file fault.Memory e = cc
-told_is_no_file fault.Shape e = cc
-told_is_no_file (fault.Long file) e = cc
-told_is_no_file (fault.Ragged file row) e = cc
-told_is_no_file (fault.BadNumber file row column) e = cc
-
 memory_is_no_file : Memory ≡ FileFailed → ⊥
 memory_is_no_file e = cc
 
@@ -46,11 +39,6 @@ budget_is_no_file at e = cc
 
 deep_is_no_file : (at : ℕ) → Deep at ≡ FileFailed → ⊥
 deep_is_no_file at e = cc
-
--- neither what is wrong with a table nor a stopped run is one
-pub table_is_no_file : (wrong : FeedFault → Type 0) (end : End) → (end ≡ Memory) ⊎ ((why : FeedFault) × wrong why × (end ≡ told_as why)) → end ≡ FileFailed → ⊥
-table_is_no_file wrong end (inl memory) e = memory_is_no_file (sym memory ∙ e)
-table_is_no_file wrong end (inr told) e = told_is_no_file told.0 (sym told.2 ∙ e)
 
 pub run_is_no_file : (c : CoreProgram) (budget : ℕ) (word : List StreamEvent) (end : End) → EndsRunning c budget word end → end ≡ FileFailed → ⊥
 run_is_no_file c budget word end (inl memory) e = memory_is_no_file (sym memory ∙ e)

@@ -1,6 +1,6 @@
 -- What a run that gathers an input finds and writes.
-use Rattle.std.proofs.Common.{◌≡◌, ◌∙◌, ℕ, List, [], ◌∷◌, ◌++◌, Bool, true, Option, Some, None, refl, sym, ap, subst}
-use Rattle.stream_type.specs.StreamType.{StreamType, type_of, null_of}
+use Rattle.std.proofs.Common.{◌≡◌, ◌∙◌, ℕ, List, [], ◌∷◌, ◌++◌, Bool, Option, Some, None, refl, sym, ap, subst}
+use Rattle.stream_type.specs.StreamType.{StreamType, type_of}
 use Rattle.event_word.specs.StreamEvent.{StreamEvent}
 use Rattle.event_word.specs.declared.fault.EventFault.{EventFault}
 use Rattle.event_word.specs.EventFault.{fault_of}
@@ -82,9 +82,3 @@ faults_here now P word x is = ap (λ (Q : Meaning). Q.fault word x) is.means ∙
 
 pub answers_nothing : (now : Gathering) (P : Meaning) (word : List StreamEvent) (x : StreamEvent) → Gathers now P word → P.answer word x ≡ []
 answers_nothing now P word x is = ap (λ (Q : Meaning). Q.answer word x) is.means
-
-pub finishes_here : (now : Gathering) (P : Meaning) (word : List StreamEvent) → Gathers now P word → P.finishes word ≡ null_of (type_of now.rest)
-finishes_here now P word is = ap (λ (Q : Meaning). Q.finishes word) is.means ∙ ap null_of (sym is.rest)
-
-pub whole_here : (now : Gathering) (P : Meaning) (word : List StreamEvent) → Gathers now P word → P.is_whole word ≡ true
-whole_here now P word is = ap (λ (Q : Meaning). Q.is_whole word) is.means

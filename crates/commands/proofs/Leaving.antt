@@ -20,7 +20,7 @@ use Rattle.kept_state.specs.KeptBytes.{kept_bytes}
 use Rattle.machine_kept.specs.SinceView.{StandsSince}
 use Rattle.delta_end.specs.declared.end.End.{End}
 use Rattle.delta_end.specs.declared.end.End.TheVariants.{Done, Usage, Refused, Input, Budget, Deep, Open, FileFailed, ReadFailed, WriteFailed, Memory, Long, Objected}
-use Rattle.delta_end.specs.End.{IsOfLoop, FileCause}
+use Rattle.delta_end.specs.End.{IsOfLoop}
 use Rattle.delta_loop.specs.Meaning.{Meaning}
 use Rattle.delta_loop.specs.Loop.{IsWellEnded, RanTo}
 use Rattle.delta_loop.proofs.Counts.{events_whole}
@@ -219,19 +219,3 @@ leaves_nothing w files name (Objected what) ill loop = absurd loop
 
 pub saves_nothing : (w : Way) (name : List ℕ) (files : Option (List ℕ → List ℕ)) (end : End) → IsOfLoop end → (IsWellEnded end → ⊥) → Ended w end → Saves w name files files end
 saves_nothing w name files end loop ill ran = leaving_nothing (Ended w) (LeavesState w files name) name files end loop ill ran (leaves_nothing w files name)
-
--- an end of the loop shows no failed call of the shelf
-pub file_still : (end : End) (n : ℕ) → IsOfLoop end → FileCause end n n
-file_still Done n loop = refl
-file_still Open n loop = refl
-file_still Usage n loop = absurd loop
-file_still (Refused why) n loop = absurd loop
-file_still (Input fault) n loop = refl
-file_still (Budget at) n loop = refl
-file_still (Deep at) n loop = refl
-file_still FileFailed n loop = absurd loop
-file_still ReadFailed n loop = refl
-file_still WriteFailed n loop = refl
-file_still Memory n loop = refl
-file_still Long n loop = refl
-file_still (Objected what) n loop = absurd loop

@@ -13,14 +13,12 @@ use Rattle.delta_meaning.proofs.KeptTypes.{elaborated_has_types}
 use Rattle.delta_elab.specs.Accepted.{IsAccepted}
 use Rattle.table_feed.specs.declared.fault.FeedFault.{FeedFault}
 use Rattle.table_feed.specs.declared.fault.FeedFault.TheVariants as fault
-use Rattle.delta_end.specs.declared.objection.Objection.TheVariants.{Derivation, Bound, Table, State}
 use Rattle.delta_end.specs.declared.end.End.{End}
-use Rattle.delta_end.specs.declared.end.End.TheVariants.{Done, Usage, Refused, Input, Budget, Deep, Open, FileFailed, ReadFailed, WriteFailed, Memory, Long, Objected}
-use Rattle.delta_end.specs.End.{WriteCause}
+use Rattle.delta_end.specs.declared.end.End.TheVariants.{Memory, Long}
 use Rattle.checked_program.specs.Acceptance.{IsAcceptedAs}
 use Rattle.commands.specs.Tables.{Takes, IsWrong, told_as, given_text, tables_word, IsCostlyAt, IsDeepAt, OfTables}
-use Rattle.commands.specs.Feeding.{input_of, IsFed, Spends, Sinks, Tells, TellsFront, IsOfFeed}
-use Rattle.commands.specs.Given.{AreHeld, EndsRunning, EndsUnwritten, GivesText, IsUnwritten}
+use Rattle.commands.specs.Feeding.{input_of, IsFed, Spends, Sinks, Tells, TellsFront}
+use Rattle.commands.specs.Given.{AreHeld, EndsRunning, EndsUnwritten, GivesText}
 
 -- what is said of a program: its types, what it gives, its calls and their levels
 record Way : Type 0 where
@@ -114,37 +112,3 @@ module _ (holds : Option (List ℕ → List ℕ)) (names : List (List ℕ)) (tex
   pub front_is_sent : OfTables holds names (λ tables. TellsFront text tables sent)
   front_is_sent files tells =
       subst (λ (tables : List (List ℕ)). TellsFront text tables sent) (fed.1 files tells) (record { all = piece; fed = fed.2; front = (rest, split) })
-
--- an end that comes before anything is written shows no failed read and no failed write, and is none of a command line
-pub unwritten_write : (end : End) (n : ℕ) → IsUnwritten end → WriteCause end n n
-unwritten_write (Refused why) n is = refl
-unwritten_write (Objected what) n is = refl
-unwritten_write (Budget at) n is = refl
-unwritten_write (Deep at) n is = refl
-unwritten_write FileFailed n is = refl
-unwritten_write Memory n is = refl
-unwritten_write Done n is = absurd is
-unwritten_write Usage n is = absurd is
-unwritten_write (Input why) n is = absurd is
-unwritten_write Open n is = absurd is
-unwritten_write ReadFailed n is = absurd is
-unwritten_write WriteFailed n is = absurd is
-unwritten_write Long n is = absurd is
-
-pub unwritten_ends : (end : End) → IsUnwritten end → IsOfFeed end
-unwritten_ends (Refused why) is = tt
-unwritten_ends (Objected (Table name file row)) is = tt
-unwritten_ends (Objected (Derivation name at)) is = absurd is
-unwritten_ends (Objected (Bound name at)) is = absurd is
-unwritten_ends (Objected (State name at)) is = absurd is
-unwritten_ends (Budget at) is = tt
-unwritten_ends (Deep at) is = tt
-unwritten_ends FileFailed is = tt
-unwritten_ends Memory is = tt
-unwritten_ends Done is = absurd is
-unwritten_ends Usage is = absurd is
-unwritten_ends (Input why) is = absurd is
-unwritten_ends Open is = absurd is
-unwritten_ends ReadFailed is = absurd is
-unwritten_ends WriteFailed is = absurd is
-unwritten_ends Long is = absurd is

@@ -6,7 +6,7 @@ use Rattle.stream_prefix.specs.Increment.{increment}
 use Rattle.event_word.specs.StreamEvent.{StreamEvent}
 use Rattle.event_word.specs.Word.{pre}
 use Rattle.event_word.specs.Canon.{canon}
-use Rattle.core_term.specs.Meaning.{horizon, mean, calls_of, level_of}
+use Rattle.core_term.specs.Meaning.{horizon, calls_of, level_of}
 use Rattle.delta_state.specs.MachineView.{input_of}
 use Rattle.delta_session.specs.OneShot.{OneShot, said}
 use Rattle.delta_output.specs.Spoken.{spoken_after}
@@ -20,10 +20,6 @@ use Rattle.delta_load.proofs.Spoken.{along, along_same, along_load}
 
 pub fits_load : CoreFitsLoad
 fits_load = record { input = refl; fits = refl }
-
--- the program calls its function at once
-mean_is : (p : StreamPrefix) → mean load_core p ≡ (over_run horizon p).out
-mean_is p = refl
 
 calls_are : (p : StreamPrefix) → calls_of load_core p ≡ (over_run horizon p).calls
 calls_are p = omega arith

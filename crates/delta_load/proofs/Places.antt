@@ -15,9 +15,6 @@ in_item key value (suc (suc (suc zero))) word h = refl
 in_item key value (suc (suc (suc (suc zero)))) word h = refl
 in_item key value (suc (suc (suc (suc (suc place))))) word h = absurd (omega (arith, h))
 
-past_item : (key value place : ℕ) (word : List StreamEvent) → slice_get (item_events key value ++ word) (suc (suc (suc (suc (suc place))))) ≡ slice_get word place
-past_item key value place word = refl
-
 five_on : (n place : ℕ) → 5 * suc n + place ≡ suc (suc (suc (suc (suc (5 * n + place)))))
 five_on n place = omega arith
 

@@ -8,8 +8,8 @@ use Rattle.delta_lex.specs.Tokens.{Lexeme, lexeme, reading}
 use Rattle.delta_parse.specs.declared.terminal.Terminal.{Terminal}
 use Rattle.delta_parse.specs.declared.terminal.Terminal.TheVariants.{Arrow, Bar, CaseWord, Close, CloseBrace, Colon, Colons, Dot, ElseWord, Equals, FunWord, IfWord, InWord, IntWord, Less, LetWord, MainWord, NilWord, OfWord, Open, OpenBrace, Semicolon, ThenWord, Times, WaitWord, NameToken, NumberToken}
 use Rattle.delta_parse.specs.Terminals.{Tok}
-use Rattle.delta_parse.specs.Plain.{grammar_tokens, names_in}
-use Rattle.delta_load.specs.LoadText.{load_text, load_tree}
+use Rattle.delta_parse.specs.Plain.{grammar_tokens}
+use Rattle.delta_load.specs.LoadText.{load_text}
 
 abbrev pub load_tokens : List Lexeme
 load_tokens =
@@ -68,6 +68,3 @@ load_plain =
 
 pub plain_is : grammar_tokens load_tokens ≡ load_plain
 plain_is = refl
-
-pub names_are : names_in load_tokens ≡ load_tree.names
-names_are = refl

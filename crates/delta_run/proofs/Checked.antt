@@ -1,93 +1,14 @@
 -- From the end of a check to what its caller may know.
-use Rattle.std.proofs.Common.{◌≡◌, inl, ℕ, List, None, Some, Result, refl}
+use Rattle.std.proofs.Common.{◌≡◌, inl, ℕ, List, None, Some, Result}
 use Rattle.port.specs.declared.fault.IoFault.{IoFault}
 use Rattle.port.specs.Faults.{HasCause}
 use Rattle.delta_end.specs.declared.end.End.{End}
 use Rattle.delta_end.specs.declared.end.End.TheVariants.{Done, Usage, Refused, Input, Budget, Deep, Open, FileFailed, ReadFailed, WriteFailed, Memory, Long, Objected}
-use Rattle.delta_end.specs.End.{FileCause, ReadCause, WriteCause}
+use Rattle.delta_end.specs.End.{FileCause}
 use Rattle.delta_end.specs.Status.{AnswerOf, IsStill}
 use Rattle.delta_end.proofs.Statuses.{not_rose, answered, answered_eight}
 use Rattle.checked_program.proofs.OneAnswer.{accepted_is_not_refused}
-use Rattle.commands.specs.Checking.{Checks}
 use Rattle.delta_run.specs.Checked.{ChecksText, PassesAccepted, RefusesUnaccepted}
-
--- a check shows no failed call
-pub checks_read : (text : List ℕ) (end : End) (n : ℕ) → Checks text end → ReadCause end n n
-checks_read text Done n is = refl
-checks_read text (Refused why) n is = refl
-checks_read text Memory n is = refl
-checks_read text Usage n is = absurd is
-checks_read text (Objected what) n is = absurd is
-checks_read text (Input fault) n is = absurd is
-checks_read text (Budget at) n is = absurd is
-checks_read text (Deep at) n is = absurd is
-checks_read text Open n is = absurd is
-checks_read text FileFailed n is = absurd is
-checks_read text ReadFailed n is = absurd is
-checks_read text WriteFailed n is = absurd is
-checks_read text Long n is = absurd is
-
-pub checks_write : (text : List ℕ) (end : End) (n : ℕ) → Checks text end → WriteCause end n n
-checks_write text Done n is = refl
-checks_write text (Refused why) n is = refl
-checks_write text Memory n is = refl
-checks_write text Usage n is = absurd is
-checks_write text (Objected what) n is = absurd is
-checks_write text (Input fault) n is = absurd is
-checks_write text (Budget at) n is = absurd is
-checks_write text (Deep at) n is = absurd is
-checks_write text Open n is = absurd is
-checks_write text FileFailed n is = absurd is
-checks_write text ReadFailed n is = absurd is
-checks_write text WriteFailed n is = absurd is
-checks_write text Long n is = absurd is
-
-pub checks_file : (text : List ℕ) (end : End) (n : ℕ) → Checks text end → FileCause end n n
-checks_file text Done n is = refl
-checks_file text (Refused why) n is = refl
-checks_file text Memory n is = refl
-checks_file text Usage n is = absurd is
-checks_file text (Objected what) n is = absurd is
-checks_file text (Input fault) n is = absurd is
-checks_file text (Budget at) n is = absurd is
-checks_file text (Deep at) n is = absurd is
-checks_file text Open n is = absurd is
-checks_file text FileFailed n is = absurd is
-checks_file text ReadFailed n is = absurd is
-checks_file text WriteFailed n is = absurd is
-checks_file text Long n is = absurd is
-
--- it isn't usage
-pub checks_usage : (text : List ℕ) (end : End) → Checks text end → end ≡ Usage → ⊥
-checks_usage text Usage is same = is
-checks_usage text (Objected what) is same = cc
-checks_usage text Done is same = cc
-checks_usage text (Refused why) is same = cc
-checks_usage text Memory is same = cc
-checks_usage text (Input fault) is same = cc
-checks_usage text (Budget at) is same = cc
-checks_usage text (Deep at) is same = cc
-checks_usage text Open is same = cc
-checks_usage text FileFailed is same = cc
-checks_usage text ReadFailed is same = cc
-checks_usage text WriteFailed is same = cc
-checks_usage text Long is same = cc
-
--- what was checked is what the file holds
-pub checks_text : (text : List ℕ) (end : End) → Checks text end → ChecksText text end
-checks_text text FileFailed is = tt
-checks_text text Done is = is
-checks_text text Usage is = is
-checks_text text (Objected what) is = is
-checks_text text (Refused why) is = is
-checks_text text (Input fault) is = is
-checks_text text (Budget at) is = is
-checks_text text (Deep at) is = is
-checks_text text Open is = is
-checks_text text ReadFailed is = is
-checks_text text WriteFailed is = is
-checks_text text Memory is = is
-checks_text text Long is = is
 
 module _ (text : List ℕ) (file0 file1 note0 note1 : ℕ) (file_still : IsStill file0 file1) (note_still : IsStill note0 note1) (said : Result (Unit {0}) IoFault) (status : ℕ) (cause : HasCause said note0 note1) where
   wanting : AnswerOf Memory said status → status ≡ 8

@@ -1,11 +1,9 @@
 -- What is wrong with records, as they come one after another.
-use Rattle.std.proofs.Common.{◌≡◌, ℕ, zero, suc, ◌+◌, ◌<◌, true, false, List, [], ◌∷◌, ◌++◌, length, drop, Option, Some, None, refl, sym, ap, ◌∙◌, append_assoc, arith}
-use Rattle.std.specs.Prelude.{ℤ, option_map, ◌==◌}
+use Rattle.std.proofs.Common.{◌≡◌, ℕ, zero, suc, ◌+◌, ◌<◌, List, [], ◌∷◌, ◌++◌, length, drop, Option, Some, None, refl, sym, ap, ◌∙◌, append_assoc, arith}
+use Rattle.std.specs.Prelude.{◌==◌}
 use Rattle.csv.specs.Records.{field_at}
 use Rattle.table_feed.specs.declared.fault.FeedFault.{FeedFault}
-use Rattle.table_feed.specs.declared.fault.FeedFault.TheVariants.{Ragged, BadNumber}
-use Rattle.table_feed.specs.Tables.{bad_column, or_else, record_fault, records_fault}
-use Rattle.table_feed.specs.Fields.{HasFirst}
+use Rattle.table_feed.specs.Tables.{or_else, record_fault, records_fault}
 
 -- both lack a fault
 pub first_none : (o p : Option FeedFault) → or_else o p ≡ None → o ≡ None
@@ -47,13 +45,6 @@ first_fault columns file n good r later all f e h k whole =
     ∙ ap (λ (m : ℕ). records_fault columns file m (r ∷ later)) same
     ∙ ap (λ o. or_else o (records_fault columns file (n + 1) later)) k
 
--- a record of so many fields has the faults of its fields
-pub of_fields : (columns file row : ℕ) (fields : List (List ℕ)) → (length fields == columns) ≡ true → record_fault columns file row fields ≡ option_map (λ column. BadNumber file row column) (bad_column 0 fields)
-of_fields columns file row fields e = rw e refl
-
-pub of_length : (columns file row : ℕ) (fields : List (List ℕ)) → (length fields == columns) ≡ false → record_fault columns file row fields ≡ Some (Ragged file row)
-of_length columns file row fields e = rw e refl
-
 -- a field at a column is the first of those from the column on
 pub at_column : (fields : List (List ℕ)) (i : ℕ) (f : List ℕ) → Some f ≡ field_at fields i → drop i fields ≡ f ∷ drop (i + 1) fields
 unfolding field_at
@@ -69,11 +60,3 @@ unfolding field_at
 some_column [] i l e = omega (arith, l)
 some_column (g ∷ fields) zero l e = cc e
 some_column (g ∷ fields) (suc i) l e = some_column fields i (omega (arith, l)) e
-
--- a number in front
-pub good_first : (column : ℕ) (fields behind : List (List ℕ)) (n : ℤ) → HasFirst fields (Some n) behind → bad_column column fields ≡ bad_column (column + 1) behind
-good_first column fields behind n h = rw (h.split, h.is) refl
-
--- none in front
-pub bad_first : (column : ℕ) (fields behind : List (List ℕ)) → HasFirst fields None behind → bad_column column fields ≡ Some column
-bad_first column fields behind h = rw (h.split, h.is) refl

@@ -1,6 +1,6 @@
 -- The steps that lead to a word among several, and the room for them.
 use Rattle.std.proofs.Common.{◌≡◌, ◌≢◌, ℕ, zero, suc, ◌+◌, ◌<◌, ◌≤◌, Bool, true, false, List, [], ◌∷◌, ◌++◌, map, length, get_or, Option, Some, None, refl, sym, ap, ap₂, ◌∙◌, append_assoc, length-append, subst, arith}
-use Rattle.std.specs.Prelude.{All, IfSome, option_map, slice_get, ◌==◌, if◌then◌else◌}
+use Rattle.std.specs.Prelude.{IfSome, option_map, slice_get, ◌==◌, if◌then◌else◌}
 use Rattle.std.proofs.Math.ListN.{set}
 use Rattle.std.proofs.lemmas.Bool.Decides.{nat_tests}
 use Rattle.std.proofs.lemmas.List.{append-nil, map-append, map-set, length-map}
@@ -138,19 +138,6 @@ in_order_step depth w (v ∷ ws) false l =
     same [] = refl
     same (x ∷ xs) = ap₂ ◌∷◌ (right_by-under depth x ∙ ap (λ d. right_by d x) more) (same xs)
 
--- the words have room from the next depth on
-pub room_behind : (depth : ℕ) (w : List StreamEvent) (ws : List (List StreamEvent)) → HasRoom depth (w ∷ ws) → HasRoom (depth + 1) ws
-room_behind depth w [] h = tt
-room_behind depth w (v ∷ ws) h = h.1
-
--- and so has the first
-pub room_first : (depth : ℕ) (w : List StreamEvent) (ws : List (List StreamEvent)) (last : Bool) → IsLast 0 (length (w ∷ ws)) last → HasRoom depth (w ∷ ws)
-    → All (λ (x : StreamEvent). (if last then depth else depth + 1) + length x.path ≤ 63) w
-room_first depth w [] true l h = h
-room_first depth w [] false (not_last n) h = absurd (n (omega arith))
-room_first depth w (v ∷ ws) true (is_last n) h = absurd (omega (arith, n))
-room_first depth w (v ∷ ws) false l h = h.0
-
 -- a round that takes nothing changes nothing
 idle : (schedule : List ℕ) (ws : List (List StreamEvent)) → (take_at schedule ws).events ≡ [] → (take_at schedule ws).left ≡ ws
 idle [] ws e = refl
@@ -198,13 +185,6 @@ take_next f i n xs x y a w e g is left =
 -- what is left has room
 pub left_room : (i : ℕ) (ws : List (List StreamEvent)) (x : StreamEvent) (rest : List (List StreamEvent)) → HasRoom 0 ws → next_of i ws ≡ Some (x, rest) → HasRoom 0 rest
 left_room i ws x rest h e = (subst (λ o. IfSome o (λ next. StillHasRoom 0 ws next.1)) e (next_has_room i 0 ws h)).room
-
--- an event comes before what comes at later numbers
-pub taken_events : (i : ℕ) (later : List ℕ) (ws rest : List (List StreamEvent)) (x : StreamEvent) → next_of i ws ≡ Some (x, rest) → take_at (i ∷ later) ws ≡ before x (take_at later rest)
-taken_events i later ws rest x e = ap (λ o. take_or_pass (take_at later) o ws) e
-
-pub passed_events : (i : ℕ) (later : List ℕ) (ws : List (List StreamEvent)) → next_of i ws ≡ None → take_at (i ∷ later) ws ≡ take_at later ws
-passed_events i later ws e = ap (λ o. take_or_pass (take_at later) o ws) e
 
 -- one step more to the right has room
 pub room_left : (last : Bool) (depth step : ℕ) (event at_step : StreamEvent) → step < depth → (if last then depth else depth + 1) + length event.path ≤ 63

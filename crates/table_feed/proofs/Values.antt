@@ -50,11 +50,6 @@ first_is_int (par a b) t h = absurd h
 first_is_int (sum a b) t h = absurd h
 first_is_int (star a) t h = absurd h
 
--- the last number of a row
-pub last_number : (fields behind : List (List ℕ)) (n : ℤ) → HasFirst fields (Some n) behind → length fields ≡ 1 → full int (row_value (numbers_of fields)) ≡ int_full n
-last_number fields [] n h l = rw (h.split, h.is) refl
-last_number fields (f ∷ behind) n h l = absurd (omega (arith, l, ap length h.split))
-
 -- a number in front of the others
 pub number_before : (t : StreamType) (fields behind : List (List ℕ)) (n : ℤ) → HasFirst fields (Some n) behind → length behind ≡ item_columns t
     → full (cat int t) (row_value (numbers_of fields)) ≡ cat_both (int_full n) (full t (row_value (numbers_of behind)))

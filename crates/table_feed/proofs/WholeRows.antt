@@ -1,6 +1,6 @@
 -- Whole tables, row by row.
 use Rattle.std.proofs.Common.{◌≡◌, ℕ, zero, suc, ◌<◌, ◌≤◌, Bool, true, false, ◌&&◌, List, [], ◌∷◌, ◌++◌, map, length, get_or, refl, sym, ap, ◌∙◌, append_assoc, subst, arith}
-use Rattle.std.specs.Prelude.{ℤ, All, IsTrue, FitsSigned, Result, Ok, Err, OnOk, if◌then◌else◌}
+use Rattle.std.specs.Prelude.{ℤ, All, IsTrue, FitsSigned, Result, Ok, Err, OnOk}
 use Rattle.std.specs.Int.{w64}
 use Rattle.std.specs.Str.{IsAscii}
 use Rattle.std.proofs.lemmas.Str.{IsAscii-append}
@@ -10,8 +10,7 @@ use Rattle.std.specs.Fmt.{signed_decimal}
 use Rattle.std.proofs.lemmas.List.{append-nil}
 use Rattle.std.proofs.lemmas.List.Elements.{All-nil, All-cons, All-head, All-tail, All-get_or, All-weaker}
 use Rattle.stream_type.specs.StreamType.{StreamType, star}
-use Rattle.stream_prefix.specs.StreamPrefix.{StreamPrefix, int_emp, int_full, cat_fst, cat_both, star_emp, star_done, star_first, star_rest, IsPrefix, is_maximal}
-use Rattle.stream_prefix.specs.Fit.{is_of_star}
+use Rattle.stream_prefix.specs.StreamPrefix.{StreamPrefix, int_emp, int_full, cat_fst, cat_both, IsPrefix, is_maximal}
 use Rattle.stream_prefix.specs.Tree.{star_of, end_of, prefix_of, row_of}
 use Rattle.std.specs.declared.boxed.Box.{Box}
 use Rattle.std.specs.declared.alloc.Global.{Global}
@@ -80,23 +79,6 @@ whole_table ps e h =
     let columns = h.1.0 in
     let kind = h.1.2 in
     table_is_whole columns ps e h.1.1 (subst (λ (s : StreamType). IsPrefix s (star_of ps (end_of e))) kind h.2) h.3
-
--- a whole table is a star
-star_alone : (s : StreamType) (p : StreamPrefix) → IsPrefix (star s) p → is_of_star p ≡ true
-star_alone s star_emp h = refl
-star_alone s star_done h = refl
-star_alone s (star_first p) h = refl
-star_alone s (star_rest p q) h = refl
-star_alone s p h = absurd h
-
-pub table_is_star : (p : StreamPrefix) → IsWholeTable p → is_of_star p ≡ true
-table_is_star p h = star_alone (item_type h.1.0) p (subst (λ (s : StreamType). IsPrefix s p) h.1.2 h.2)
-
--- numbers behind one another
-pub joined-append : (first : Bool) (n : ℤ) (ns : List ℤ) → with_commas first (n ∷ []) ++ with_commas false ns ≡ with_commas first (n ∷ ns)
-joined-append first n ns =
-    append_assoc (if first then [] else 44 ∷ []) (signed_decimal n ++ []) (with_commas false ns)
-    ∙ ap (λ (t : List ℕ). (if first then [] else 44 ∷ []) ++ (t ++ with_commas false ns)) (append-nil (signed_decimal n))
 
 later_line : (n : ℤ) (ns : List ℤ) → (signed_decimal n ++ with_commas false ns) ++ 10 ∷ [] ≡ row_line (n ∷ ns)
 later_line n [] = ap (λ (t : List ℕ). t ++ 10 ∷ []) (append-nil (signed_decimal n))

@@ -55,17 +55,6 @@ pub record Step (from to : Stand) (s : Bound) (u : List Tok) (n k : ℕ) : Type 
 pub record Steps (from to : Stand) (u : List Tok) (n k : ℕ) : Type 0 where
   pub step : (s : Bound) → Step from to s u n k
 
-pub no_step : (st : Stand) → Steps st st [] 0 0
-no_step st = record {
-  step = λ s. record {
-    next = s;
-    is = refl;
-    types = refl;
-    functions = refl;
-    count = omega arith;
-    forth = λ h c. (refl, omega arith);
-    back = λ z c. tt;
-  };
 }
 
 joined : (from mid to : Stand) (s : Bound) (u w : List Tok) (n m k j : ℕ) (a : Step from mid s u n k) → Step mid to a.next w m j → Step from to s (u ++ w) (n + m) (k + j)
