@@ -28,16 +28,12 @@ frames_one v word x = frames-append v word (x ∷ []) ∙ ap (λ (bs : List ℕ)
 behind_behind : (a b : List StreamEvent) (t : Taken) → behind a (behind b t) ≡ behind (a ++ b) t
 behind_behind a b t = ap (λ (w : List StreamEvent). record t { word = w }) (sym (append_assoc a b t.word))
 
-}
-
 -- a byte that ends the line of an event
 pub reads_event : (v : Version) (r next : LineState) (front : List ℕ) (word : List StreamEvent) (byte : ℕ) (x : StreamEvent) → Reads v r front word
     → ((more : List ℕ) → taken_from v r (byte ∷ more) ≡ behind (x ∷ []) (taken_from v next more)) → Reads v next (front ++ byte ∷ []) (word ++ x ∷ [])
 reads_event v r next front word byte x reads step = record {
   all = λ more. ap (taken v) (append_assoc front (byte ∷ []) more)
       ∙ (reads.all (byte ∷ more) ∙ (ap (behind word) (step more) ∙ behind_behind word (x ∷ []) (taken_from v next more)));
-}
-
 }
 
 -- what was written, with a frame more

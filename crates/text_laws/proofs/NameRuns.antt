@@ -55,8 +55,6 @@ pub record Step (from to : Stand) (s : Bound) (u : List Tok) (n k : ℕ) : Type 
 pub record Steps (from to : Stand) (u : List Tok) (n k : ℕ) : Type 0 where
   pub step : (s : Bound) → Step from to s u n k
 
-}
-
 joined : (from mid to : Stand) (s : Bound) (u w : List Tok) (n m k j : ℕ) (a : Step from mid s u n k) → Step mid to a.next w m j → Step from to s (u ++ w) (n + m) (k + j)
 joined from mid to s u w n m k j a b =
     let e : bound (at from s) (u ++ w) ≡ bound (at mid a.next) w = bound-append (at from s) u w ∙ ap (λ r. bound r w) a.is in
