@@ -1,5 +1,6 @@
 -- What the contracts cite.
 pub mod Gives
+pub mod Makes
 pub mod Marked
 pub mod Reached
 pub mod Steps

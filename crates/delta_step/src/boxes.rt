@@ -5,6 +5,7 @@ ghost use Rattle.core_term.specs.CoreTerm.{core_of};
 
 use crate::marked::Marked;
 use core_term::{Core, copy_core};
+use machine_parts::results::boxed;
 use std::alloc::Global;
 use stream_prefix::Prefix;
 use stream_type::Memory;
@@ -13,8 +14,7 @@ use stream_type::Memory;
 pub fn core_boxed(alloc: Global, c: &Core) -> Result<Box<Core>, Memory>
     ensures { IfOk result (λ r. core_of r.value ≡ core_of c.now) }
 {
-    let copy = copy_core(alloc, c)?;
-    Ok(Box::new(alloc, copy)?)
+    boxed(alloc, copy_core(alloc, c))
 }
 
 /// A prefix in a box. Its only error is want of memory.

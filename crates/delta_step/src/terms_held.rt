@@ -8,19 +8,20 @@ ghost use Rattle.core_term.specs.FreeNames.{free_names, once};
 ghost use Rattle.core_term.specs.Run.{quiet};
 ghost use Rattle.delta_state.specs.StateTree.{sum_state, star_state, wait_state};
 ghost use Rattle.delta_state.specs.Rest.{taken};
-ghost use Rattle.delta_step.specs.Marked.{known_in};
+ghost use Rattle.delta_step.specs.Marked.{known_in, code_in};
 ghost use Rattle.machine_parts.specs.Entry.{entry_in};
 ghost use Rattle.machine_parts.specs.Scope.{types_in, streams_in};
 ghost use Rattle.delta_step.specs.Reached.{run_of, rest_of};
 
 use crate::copying::later;
 use crate::holding_back::{star_waits, subject_waits, sum_waits};
-use crate::marked::Known;
+use crate::marked::{Code, Known};
 use crate::reached::Reached;
 use bunch::Name;
 use core_term::{Node, free};
 use machine_parts::entry::Entry;
 use machine_parts::holding::taken;
+use machine_parts::results::pair;
 use machine_parts::scope::Scope;
 use std::alloc::Global;
 use stream_type::{Memory, Ty};
@@ -44,10 +45,8 @@ pub fn hold_sum(
     ensures run { IfOk result (λ c. run_of c ≡ quiet (emp (type_of r.now))) }
     ensures rest { IfOk result (λ c. rest_of c ≡ sum_state z.0 (type_of t.now) (taken (once (free_names (term_of n.now))) (types_in scope.now) (streams_in scope.now)) x.0 (record { term = term_of a.now; past = map known_in past.now; depth = k }) y.0 (record { term = term_of b.now; past = map known_in past.now; depth = k })) }
 {
-    let held = held_by(alloc, n, scope)?;
-    let one = later(alloc, a, past, k)?;
-    let two = later(alloc, b, past, k)?;
-    sum_waits(alloc, z, t, held, x, one, y, two, r)
+    let codes = both_later(alloc, a, b, past, k);
+    sum_waits(alloc, z, t, held_by(alloc, n, scope), x, y, codes, r)
 }
 
 /// The case on a star that `n` is, of which neither an item nor the end has come. Its only error is want of
@@ -70,10 +69,8 @@ pub fn hold_star(
     ensures run { IfOk result (λ c. run_of c ≡ quiet (emp (type_of r.now))) }
     ensures rest { IfOk result (λ c. rest_of c ≡ star_state z.0 (type_of t.now) (taken (once (free_names (term_of n.now))) (types_in scope.now) (streams_in scope.now)) (record { term = term_of a.now; past = map known_in past.now; depth = k }) y.0 ys.0 (record { term = term_of b.now; past = map known_in past.now; depth = k })) }
 {
-    let held = held_by(alloc, n, scope)?;
-    let one = later(alloc, a, past, k)?;
-    let two = later(alloc, b, past, k)?;
-    star_waits(alloc, z, t, held, one, y, ys, two, r)
+    let codes = both_later(alloc, a, b, past, k);
+    star_waits(alloc, z, t, held_by(alloc, n, scope), y, ys, codes, r)
 }
 
 /// The wait that `n` is, whose subject isn't whole. Its only error is want of memory.
@@ -92,9 +89,21 @@ pub fn hold_wait(
     ensures run { IfOk result (λ c. run_of c ≡ quiet (emp (type_of r.now))) }
     ensures rest { IfOk result (λ c. rest_of c ≡ wait_state x.0 (type_of t.now) (taken (once (free_names (term_of n.now))) (types_in scope.now) (streams_in scope.now)) (record { term = term_of a.now; past = map known_in past.now; depth = k })) }
 {
-    let held = held_by(alloc, n, scope)?;
-    let code = later(alloc, a, past, k)?;
-    subject_waits(alloc, x, t, held, code, r)
+    let held = held_by(alloc, n, scope);
+    subject_waits(alloc, x, t, held, later(alloc, a, past, k), r)
+}
+
+// Two terms that aren't reached.
+fn both_later(
+    alloc: Global,
+    a: &Node,
+    b: &Node,
+    past: &[Known],
+    k: u64,
+) -> Result<(Code, Code), Memory>
+    ensures { IfOk result (λ p. (code_in p.0 ≡ record { term = term_of a.now; past = map known_in past.now; depth = k }) × (code_in p.1 ≡ record { term = term_of b.now; past = map known_in past.now; depth = k })) }
+{
+    pair(later(alloc, a, past, k), later(alloc, b, past, k))
 }
 
 // What a case or a wait that can't go on takes of its free names.
