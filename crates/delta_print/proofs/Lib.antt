@@ -1,3 +1,6 @@
+pub mod HistDepths
+pub mod TypeDepths
+pub mod Depths
 pub mod Appends
 pub mod Deriving
 pub mod DerivedTypes

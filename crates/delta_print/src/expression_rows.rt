@@ -4,7 +4,7 @@ ghost use Rattle.std.specs.Prelude.{◌≡◌, ℕ, [], ◌∷◌, ◌++◌, map
 ghost use Rattle.delta_print.specs.Chunks.{named};
 ghost use Rattle.delta_tree.specs.Tree.{expression_form_of, expression_of, expressions_of, head_form_of, head_of, hist_of, type_tree_of};
 ghost use Rattle.delta_print.specs.Brackets.{expression_bare};
-ghost use Rattle.delta_print.specs.Rows.{comma_behind, expression_row, expressions_row, head_row, application_row, two_row, pattern_row, arm_row, hist_row, hists_row, type_row};
+ghost use Rattle.delta_print.specs.Rows.{comma_behind, expression_row, expressions_row, head_row, application_row, bound_row, two_row, pattern_row, arm_row, case_row, sum_arms_row, star_arms_row, hist_row, hists_row, type_row};
 
 use crate::chunk::{Chunk, put_fixed, put_name, put_name_and, put_two};
 use crate::hist_rows::{put_hist, put_hists};
@@ -33,29 +33,15 @@ fn put_form(row: &mut Vec<Chunk>, form: &Form) -> Result<(), Memory>
         Form::Unit => put_two(row, Terminal::Open, Terminal::Close),
         Form::Nil => put_fixed(row, Terminal::NilWord),
         Form::Past(m) => put_past(row, m),
-        Form::Par(a, b) => {
-            put_first(row, a, Terminal::Comma)?;
-            put_expression(row, b)?;
-            put_fixed(row, Terminal::Close)
-        }
-        Form::Cat(a, b) => {
-            put_first(row, a, Terminal::Semicolon)?;
-            put_expression(row, b)?;
-            put_fixed(row, Terminal::Close)
-        }
+        Form::Par(a, b) => put_pair(row, a, Terminal::Comma, b),
+        Form::Cat(a, b) => put_pair(row, a, Terminal::Semicolon, b),
         Form::Cons(a, b) => {
             put_application(row, a)?;
             put_fixed(row, Terminal::Colons)?;
             put_expression(row, b)
         }
-        Form::Inl(a) => {
-            put_fixed(row, Terminal::InlWord)?;
-            put_application(row, a)
-        }
-        Form::Inr(a) => {
-            put_fixed(row, Terminal::InrWord)?;
-            put_application(row, a)
-        }
+        Form::Inl(a) => put_side(row, Terminal::InlWord, a),
+        Form::Inr(a) => put_side(row, Terminal::InrWord, a),
         Form::Asc(a, t) => put_typed(row, a, t),
         Form::Let(x, h, e) => {
             put_fixed(row, Terminal::LetWord)?;
@@ -63,32 +49,10 @@ fn put_form(row: &mut Vec<Chunk>, form: &Form) -> Result<(), Memory>
             put_bound(row, h)?;
             put_expression(row, e)
         }
-        Form::LetPar(x, y, h, e) => {
-            put_fixed(row, Terminal::LetWord)?;
-            put_pattern(row, Terminal::Comma, *x, *y)?;
-            put_bound(row, h)?;
-            put_expression(row, e)
-        }
-        Form::LetCat(x, y, h, e) => {
-            put_fixed(row, Terminal::LetWord)?;
-            put_pattern(row, Terminal::Semicolon, *x, *y)?;
-            put_bound(row, h)?;
-            put_expression(row, e)
-        }
-        Form::CaseSum(h, x, a, y, b) => {
-            put_subject(row, h)?;
-            put_arm(row, Terminal::InlWord, *x, a)?;
-            put_fixed(row, Terminal::Bar)?;
-            put_arm(row, Terminal::InrWord, *y, b)?;
-            put_fixed(row, Terminal::CloseBrace)
-        }
-        Form::CaseStar(h, a, y, ys, b) => {
-            put_subject(row, h)?;
-            put_two(row, Terminal::NilWord, Terminal::Arrow)?;
-            put_expression(row, a)?;
-            put_item_arm(row, *y, *ys, b)?;
-            put_fixed(row, Terminal::CloseBrace)
-        }
+        Form::LetPar(x, y, h, e) => put_split(row, Terminal::Comma, *x, *y, h, e),
+        Form::LetCat(x, y, h, e) => put_split(row, Terminal::Semicolon, *x, *y, h, e),
+        Form::CaseSum(h, x, a, y, b) => put_sum_case(row, h, *x, a, *y, b),
+        Form::CaseStar(h, a, y, ys, b) => put_star_case(row, h, a, *y, *ys, b),
         Form::Wait(x, e) => {
             put_fixed(row, Terminal::WaitWord)?;
             put_name_and(row, *x, Terminal::InWord)?;
@@ -131,6 +95,86 @@ fn put_first(row: &mut Vec<Chunk>, e: &Exp, sign: Terminal) -> Result<(), Memory
     put_fixed(row, Terminal::Open)?;
     put_expression(row, e)?;
     put_fixed(row, sign)
+}
+
+// Two expressions in brackets with a sign between them.
+#[cycle(expressions)]
+#[tactic(auto, using(crate::proofs::Appends::appends))]
+fn put_pair(row: &mut Vec<Chunk>, a: &Exp, sign: Terminal, b: &Exp) -> Result<(), Memory>
+    ensures { OnOk result (row.new.items ≡ row.old.items ++ two_row sign (expression_row (expression_of a.now)) (expression_row (expression_of b.now))) }
+{
+    put_first(row, a, sign)?;
+    put_expression(row, b)?;
+    put_fixed(row, Terminal::Close)
+}
+
+// A side of a sum.
+#[cycle(expressions)]
+#[tactic(auto, using(crate::proofs::Appends::appends))]
+fn put_side(row: &mut Vec<Chunk>, side: Terminal, e: &Exp) -> Result<(), Memory>
+    ensures { OnOk result (row.new.items ≡ row.old.items ++ Chunk.Fixed side ∷ application_row (expression_of e.now)) }
+{
+    put_fixed(row, side)?;
+    put_application(row, e)
+}
+
+// A `let` of two names with a sign between them.
+#[cycle(expressions)]
+#[tactic(auto, using(crate::proofs::Appends::appends))]
+fn put_split(
+    row: &mut Vec<Chunk>,
+    sign: Terminal,
+    x: Name,
+    y: Name,
+    head: &Head,
+    e: &Exp,
+) -> Result<(), Memory>
+    ensures { OnOk result (row.new.items ≡ row.old.items ++ Chunk.Fixed Terminal.LetWord ∷ (pattern_row sign x.0 y.0 ++ bound_row (head_row (head_of head.now)) (expression_row (expression_of e.now)))) }
+{
+    put_fixed(row, Terminal::LetWord)?;
+    put_pattern(row, sign, x, y)?;
+    put_bound(row, head)?;
+    put_expression(row, e)
+}
+
+// A case on a sum.
+#[cycle(expressions)]
+#[tactic(auto, using(crate::proofs::Appends::appends))]
+fn put_sum_case(
+    row: &mut Vec<Chunk>,
+    head: &Head,
+    x: Name,
+    a: &Exp,
+    y: Name,
+    b: &Exp,
+) -> Result<(), Memory>
+    ensures { OnOk result (row.new.items ≡ row.old.items ++ case_row (head_row (head_of head.now)) (sum_arms_row x.0 (expression_row (expression_of a.now)) y.0 (expression_row (expression_of b.now)))) }
+{
+    put_subject(row, head)?;
+    put_arm(row, Terminal::InlWord, x, a)?;
+    put_fixed(row, Terminal::Bar)?;
+    put_arm(row, Terminal::InrWord, y, b)?;
+    put_fixed(row, Terminal::CloseBrace)
+}
+
+// A case on a star.
+#[cycle(expressions)]
+#[tactic(auto, using(crate::proofs::Appends::appends))]
+fn put_star_case(
+    row: &mut Vec<Chunk>,
+    head: &Head,
+    a: &Exp,
+    y: Name,
+    ys: Name,
+    b: &Exp,
+) -> Result<(), Memory>
+    ensures { OnOk result (row.new.items ≡ row.old.items ++ case_row (head_row (head_of head.now)) (star_arms_row (expression_row (expression_of a.now)) y.0 ys.0 (expression_row (expression_of b.now)))) }
+{
+    put_subject(row, head)?;
+    put_two(row, Terminal::NilWord, Terminal::Arrow)?;
+    put_expression(row, a)?;
+    put_item_arm(row, y, ys, b)?;
+    put_fixed(row, Terminal::CloseBrace)
 }
 
 // An expression and its type in brackets.
