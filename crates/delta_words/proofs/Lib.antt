@@ -1,4 +1,5 @@
 pub mod NumberLemmas
+pub mod ClapArguments
 pub mod ClapRows
 pub mod ClapKnows
 pub mod ClapSteps

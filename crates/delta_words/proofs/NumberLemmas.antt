@@ -1,10 +1,12 @@
 -- Digits, read from the left.
-use Rattle.std.proofs.Common.{◌≡◌, ℕ, ◌+◌, ◌*◌, ◌<◌, ◌≤◌, List, [], ◌∷◌, ◌++◌, map, Bool, true, false, ◌&&◌, cond, length, drop, get_or, refl, sym, ap, arith, ◌∙◌, drop-cons, append-nil, append_assoc, add-one}
+use Rattle.std.proofs.Common.{◌≡◌, ℕ, ◌+◌, ◌-◌, ◌*◌, ◌<◌, ◌≤◌, List, [], ◌∷◌, ◌++◌, map, Bool, true, false, ◌&&◌, cond, eqb, length, drop, get_or, refl, sym, ap, subst, arith, ◌∙◌, drop-cons, append-nil, append_assoc, add-one}
 use Rattle.std.specs.Prelude.{Some, None, nat_lt, nat_le}
 use Rattle.std.specs.List.{list_all}
+use Rattle.std.specs.Int.{IsInRange}
 use Rattle.std.specs.Str.{all_ascii_digits}
 use Rattle.std.specs.Char.{digit_value, is_ascii_digit}
 use Rattle.std.specs.Str.Parse.{digits_value, digits_value_after}
+use Rattle.std.proofs.lemmas.Str.{digit_value_digit}
 use Rattle.std.proofs.lemmas.Bool.Decides.{nat_tests}
 use Rattle.delta_words.specs.Numbers.{number_within, has_digits, schedule_of}
 
@@ -112,3 +114,25 @@ all_named tables word i numbers so_far none some few =
     go true e true h named digits below = (rw (digits, below) (ap (λ (ns : List ℕ). Some ns) named))
     go true e false h named digits below = absurd (grind (arith, nat_tests))
     go false e b h named digits below = absurd (grind (arith, nat_tests))
+
+-- the value of a digit, beside the number of tables
+value_of_digit : (byte value : ℕ) → IsInRange 48 57 byte → value ≡ byte - 48 → digit_value byte ≡ value
+value_of_digit byte value digit is = let e = digit_value_digit byte digit in omega arith
+
+pub too_few : (tables byte value : ℕ) → IsInRange 48 57 byte → value ≡ byte - 48 → tables ≤ value → nat_lt (digit_value byte) tables ≡ false
+too_few tables byte value digit is few = let e = value_of_digit byte value digit is in grind (arith, nat_tests)
+
+enough : (tables byte value : ℕ) → IsInRange 48 57 byte → value ≡ byte - 48 → value < tables → nat_lt (digit_value byte) tables ≡ true
+enough tables byte value digit is few = let e = value_of_digit byte value digit is in grind (arith, nat_tests)
+
+-- one digit more was put behind the numbers
+pub put_named : (tables : ℕ) (word : List ℕ) (i : ℕ) (numbers : List ℕ) (value kept : ℕ) (new : List ℕ) → IsNamedSoFar tables word i numbers → i < length word
+    → true ≡ is_ascii_digit (get_or word i 0) → IsInRange 48 57 (get_or word i 0) → value ≡ get_or word i 0 - 48 → value < tables → kept ≡ get_or word i 0 - 48
+    → new ≡ numbers ++ kept ∷ [] → IsNamedSoFar tables word (i + 1) new
+put_named tables word i numbers value kept new so_far lt is digit value_is few kept_is new_is =
+    let e : numbers ++ digit_value (get_or word i 0) ∷ [] ≡ new = ap (λ (d : ℕ). numbers ++ d ∷ []) (value_of_digit (get_or word i 0) kept digit kept_is) ∙ sym new_is in
+    subst (IsNamedSoFar tables word (i + 1)) e (one_more_named tables word i numbers so_far lt (sym is) (enough tables (get_or word i 0) value digit value_is few))
+
+-- a word that isn't empty
+pub not_empty : (word : List ℕ) → eqb (length word) 0 ≡ false → 0 < length word
+not_empty word e = grind (arith, nat_tests)

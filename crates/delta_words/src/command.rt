@@ -4,7 +4,7 @@ ghost use Rattle.std.specs.Prelude.{◌≡◌};
 ghost use Rattle.delta_words.specs.Commands.{command_of, operands_alone, takes_of};
 
 /// The command that the first word of a command line names.
-#[derive(Clone, Copy, Debug, PartialEq, Eq)]
+#[derive(Clone, Copy)]
 pub enum Command {
     Run,
     Eval,
@@ -20,7 +20,7 @@ pub enum Command {
 }
 
 /// What a command takes: how many operands must stand there and how many may, and which options, each at most once.
-#[derive(Clone, Copy, Debug, PartialEq, Eq)]
+#[derive(Clone, Copy)]
 pub struct Takes {
     pub operands: usize,
     pub most: usize,

@@ -3,7 +3,7 @@
 ghost use Rattle.std.specs.Prelude.{◌≡◌, ◌≢◌, [], false, map, string_bytes, IfOk, IfErr, nat_lt};
 ghost use Rattle.clap.specs.Words.{App, app_of, rule_of, new_app, with_subcommand, fault_of, subcommand_of, subcommand_rows_of};
 ghost use Rattle.clap.specs.declared.builder.Command.TheViews.{out-Command as fields_of};
-ghost use Rattle.delta_words.specs.ClapCommand.{delta_app, delta_top, leaf_app, operand_rule, rest_rule, budget_rule, flag_rule, with_rule_if};
+ghost use Rattle.delta_words.specs.ClapCommand.{Make, delta_app, delta_top, leaf_app, operand_that, option_that, with_rule_if, with_rules_of};
 ghost use Rattle.delta_words.specs.Commands.{takes_of};
 
 use crate::command::{Command, Takes};
@@ -12,53 +12,61 @@ use clap::error::ErrorKind;
 use clap::{Arg, ArgAction, ArgMatches, Command as Parser};
 use std::alloc::{AllocError, Global};
 
-// The command with one argument more, where that is wanted.
+// The arguments with one more, where that is wanted.
 #[tactic(auto, unfolding(crate::specs::ClapCommand::with_rule_if))]
 fn with_arg_if<'a>(
-    given: Result<Parser<'a>, AllocError>,
+    given: Result<Vec<Arg<'a>>, AllocError>,
     wanted: bool,
     arg: Arg<'a>,
-) -> Result<Parser<'a>, AllocError>
+) -> Result<Vec<Arg<'a>>, AllocError>
     requires { arg.global ≡ false }
-    ensures app { (a : App) → IfOk given.entry (λ c. app_of c ≡ a) → IfOk result (λ c. app_of c ≡ with_rule_if wanted a (rule_of arg.entry)) }
-    ensures local { IfOk given.entry (λ c. (fields_of c).has_globals ≡ false) → IfOk result (λ c. (fields_of c).has_globals ≡ false) }
+    ensures { (bare app : App) → IfOk given.entry (λ args. Make bare args.items app) → IfOk result (λ args. Make bare args.items (with_rule_if wanted app (rule_of arg.entry))) }
 {
     match given {
-        Ok(parser) if wanted => parser.arg(arg),
-        given => given,
+        Ok(mut args) if wanted => {
+            args.push(arg)?;
+            Ok(args)
+        }
+        given => {
+            drop(arg);
+            given
+        }
     }
 }
 
-// An operand that must stand there.
-fn operand<'a>(alloc: Global, id: &'a str) -> Arg<'a>
-    ensures rule { rule_of result ≡ operand_rule id.entry.now }
+// An operand, which must stand there where that is said.
+fn operand<'a>(alloc: Global, id: &'a str, must: bool, action: ArgAction) -> Arg<'a>
+    ensures rule { rule_of result ≡ operand_that id.entry.now must action }
     ensures local { result.global ≡ false }
 {
-    Arg::new(alloc, id).required(true).action(ArgAction::Set)
+    Arg::new(alloc, id).required(must).action(action)
 }
 
-// An operand of which several may stand there, and where that is said at least one must.
-fn several<'a>(alloc: Global, id: &'a str, must: bool) -> Arg<'a>
-    ensures rule { rule_of result ≡ rest_rule id.entry.now must }
+// An option of this name.
+fn option<'a>(alloc: Global, id: &'a str, action: ArgAction) -> Arg<'a>
+    ensures rule { rule_of result ≡ option_that id.entry.now action }
     ensures local { result.global ≡ false }
 {
-    Arg::new(alloc, id).required(must).action(ArgAction::Append)
+    Arg::new(alloc, id).long(id).action(action)
 }
 
-// An option of this name with a value.
-fn valued<'a>(alloc: Global, id: &'a str) -> Arg<'a>
-    ensures rule { rule_of result ≡ budget_rule id.entry.now }
-    ensures local { result.global ≡ false }
+// What a subcommand takes, as arguments.
+fn arguments<'a>(alloc: Global, takes: Takes) -> Result<Vec<Arg<'a>>, AllocError>
+    ensures { (bare : App) → IfOk result (λ args. Make bare args.items (with_rules_of takes bare)) }
 {
-    Arg::new(alloc, id).long(id).action(ArgAction::Set)
-}
-
-// An option of this name without a value.
-fn flag<'a>(alloc: Global, id: &'a str) -> Arg<'a>
-    ensures rule { rule_of result ≡ flag_rule id.entry.now }
-    ensures local { result.global ≡ false }
-{
-    Arg::new(alloc, id).long(id).action(ArgAction::SetTrue)
+    let none = Ok(Vec::new(alloc));
+    let first = operand(alloc, "FIRST", true, ArgAction::Set);
+    let one = with_arg_if(none, takes.operands > 0, first);
+    let second = operand(alloc, "SECOND", true, ArgAction::Set);
+    let two = with_arg_if(one, takes.operands > 1, second);
+    let rest = operand(alloc, "REST", takes.operands > 2, ArgAction::Append);
+    let all = with_arg_if(two, takes.most > 2, rest);
+    let budget = option(alloc, "budget", ArgAction::Set);
+    let with_budget = with_arg_if(all, takes.budget, budget);
+    let v2 = option(alloc, "v2", ArgAction::SetTrue);
+    let with_v2 = with_arg_if(with_budget, takes.v2, v2);
+    let frames = option(alloc, "frames", ArgAction::SetTrue);
+    with_arg_if(with_v2, takes.frames, frames)
 }
 
 // The subcommand of a name.
@@ -66,14 +74,10 @@ fn leaf<'a>(alloc: Global, name: &'a str, takes: Takes) -> Result<Parser<'a>, Al
     ensures app { IfOk result (λ c. app_of c ≡ leaf_app name.entry.now takes) }
     ensures local { IfOk result (λ c. (fields_of c).has_globals ≡ false) }
 {
-    let bare = Ok(Parser::new(alloc, name));
-    let first = with_arg_if(bare, takes.operands > 0, operand(alloc, "FIRST"));
-    let second = with_arg_if(first, takes.operands > 1, operand(alloc, "SECOND"));
-    let must = takes.operands > 2;
-    let rest = with_arg_if(second, takes.most > 2, several(alloc, "REST", must));
-    let budget = with_arg_if(rest, takes.budget, valued(alloc, "budget"));
-    let v2 = with_arg_if(budget, takes.v2, flag(alloc, "v2"));
-    with_arg_if(v2, takes.frames, flag(alloc, "frames"))
+    match arguments(alloc, takes) {
+        Ok(args) => Parser::new(alloc, name).args(args),
+        Err(error) => Err(error),
+    }
 }
 
 // The command with one subcommand more.
@@ -86,7 +90,10 @@ fn with_sub<'a>(
 {
     match sub {
         Ok(sub) => parser.subcommand(sub),
-        Err(error) => Err(error),
+        Err(error) => {
+            drop(parser);
+            Err(error)
+        }
     }
 }
 

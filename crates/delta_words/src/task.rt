@@ -21,7 +21,7 @@ pub enum Version {
 /// What a command line asks for. `CommandTask` of `specs/CommandTask.antt` is its plain twin, and `asked`
 /// reads the one from the other. A budget counts the calls that may be made: by `eval` in all, by `resume` at each
 /// event, and by what else has one before any event and again at each.
-#[derive(Debug, Drop, PartialEq, Eq)]
+#[derive(Drop, PartialEq, Eq)]
 pub enum Task {
     /// Run a file's program over the input, with a budget, and write frames of a version.
     Run(String, u64, Version),
