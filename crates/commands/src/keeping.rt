@@ -1,6 +1,6 @@
 //! Leaves what is kept of a run on a shelf: of a checked program that ran from its start.
 
-ghost use Rattle.std.specs.Prelude.{◌≤◌, ◌<◌, ℕ, List, Option, IsTrue, IfOk, IsErrOf};
+ghost use Rattle.std.specs.Prelude.{◌≡◌, ◌≤◌, ◌<◌, ℕ, List, Option, IsTrue, IfOk, IfErr, IsErrOf};
 ghost use Rattle.stream_type.specs.StreamType.{reach_of};
 ghost use Rattle.port.specs.declared.link.Move.{Move};
 ghost use Rattle.event_frame.specs.Frames.{longest};
@@ -18,7 +18,7 @@ ghost use Rattle.commands.specs.Leaving.{StandsForSome, OfEachProgram, KeptAs, A
 
 use core_term::Checked;
 use delta_end::{End, Objection, StateName};
-use delta_keep::{Kept, SaveRefusal, dismiss, save};
+use delta_keep::{Kept, SaveRefusal, dismiss, read_kept, save};
 use delta_loop::{run_machine, stop_first};
 use delta_runner::{BeginFault, Runner, begin};
 use event_frame::Version;
@@ -35,7 +35,8 @@ pub enum Unleft {
     Large,
 }
 
-/// The bytes of what is kept, which ends here.
+/// The bytes of what is kept, which ends here, where they can be read again. Where they can't, since what is kept nests
+/// deeper than a reader goes, the same is told as for want of memory, so no state is left that its own reader wouldn't take.
 pub fn spelled(alloc: Global, k: Kept) -> Result<Vec<u8>, Unleft>
     ensures its { IfOk result (λ v. AreIts v.items (kept_of k) (kept_bytes (kept_of k) (places_kept k))) }
     ensures many { IsErrOf result Unleft.Large → AreTooMany (kept_of k) (kept_bytes (kept_of k) (places_kept k)) }
@@ -43,9 +44,23 @@ pub fn spelled(alloc: Global, k: Kept) -> Result<Vec<u8>, Unleft>
     let bytes = save(alloc, &k);
     dismiss(k);
     match bytes {
-        Ok(bytes) => Ok(bytes),
+        Ok(bytes) => read_again(alloc, bytes),
         Err(SaveRefusal::Memory) => Err(Unleft::Memory),
         Err(SaveRefusal::Large(_)) => Err(Unleft::Large),
+    }
+}
+
+// These bytes, where a kept state can be read from them.
+fn read_again(alloc: Global, bytes: Vec<u8>) -> Result<Vec<u8>, Unleft>
+    ensures same { IfOk result (λ v. v.items ≡ bytes.items) }
+    ensures memory { IfErr result (λ e. e ≡ Unleft.Memory) }
+{
+    match read_kept(alloc, &bytes) {
+        Ok(k) => {
+            dismiss(k);
+            Ok(bytes)
+        }
+        Err(_) => Err(Unleft::Memory),
     }
 }
 

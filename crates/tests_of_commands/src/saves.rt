@@ -318,3 +318,37 @@ fn a_run_that_stops_leaves_nothing(rt: HostRuntime) -> Result<(), Fail> {
     assert!(rt; leaves_nothing(alloc, "save program state state state", FEED, 2)?);
     Ok(())
 }
+
+// A nest of calls, each behind a let and four destructurings, which all wait for y. What is left of it before y came
+// nests six times as deep as there are calls.
+const NEST: &[u8] = b"type Five = (((Int || Int) || Int) || Int) || Int
+fun five(y : Int) : Five = wait y in {((((y, y), y), y), y)}
+fun nest{n : Int}(y : Int) : Int =
+  if n < 1 then y
+  else let u = five(y) in let (a, b) = u in let (c, d) = a in let (e, f) = c in let (g, h) = e in nest{n - 1}(g)
+main(x : Int; y : Int) : Int = wait x in nest{x}(y)";
+
+// The frames of `F int 900`, `cut` and `int 5`, and where the first of them ends.
+const NINE_HUNDRED: &[u8] = b"DEV1\x01\x03\x11\0\0\0\0\0\0\x03\x84\0\x14\0\x11\0\0\0\0\0\0\0\x05";
+
+const END_OF_FIRST: usize = 15;
+
+// What is said of them: 5.
+const NESTED: &[u8] = b"DEV1\0\x11\0\0\0\0\0\0\0\x05";
+
+// Whether the nest is run to its end, and its state, which nests too deep to be read, isn't left before that.
+fn leaves_none_too_deep(alloc: Global) -> Result<bool, Fail> {
+    let mut shelf = shelf_of(alloc, NEST, b"before")?;
+    let first = NINE_HUNDRED.get(..END_OF_FIRST).unwrap_or(b"");
+    let whole = answer_to(alloc, "run program", &mut shelf, NINE_HUNDRED)?;
+    let saved = answer_to(alloc, "save program state", &mut shelf, first)?;
+    let answered = whole.status == 0 && whole.bytes.as_slice() == NESTED;
+    let told = saved.status == 8 && saved.note.as_slice() == b"delta: no memory\n".as_slice();
+    Ok(answered && told && holds(&mut shelf, "state", b"before"))
+}
+
+#[test]
+fn no_state_is_left_that_is_too_deep(rt: HostRuntime) -> Result<(), Fail> {
+    assert!(rt; leaves_none_too_deep(rt.alloc())?);
+    Ok(())
+}
