@@ -17,6 +17,8 @@ mod long_load;
 #[cfg(test)]
 mod outside;
 #[cfg(test)]
+mod program_run;
+#[cfg(test)]
 mod refusals;
 #[cfg(test)]
 mod tables;

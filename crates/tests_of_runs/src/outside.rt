@@ -53,8 +53,8 @@ fn shelf_of(alloc: Global, given: &Given<'_>) -> Result<MemShelf, Fail> {
     Ok(MemShelf::new(alloc, files, given.fail_calls.to_vec(alloc)?))
 }
 
-// A link whose input comes in pieces.
-fn link_of(alloc: Global, given: &Given<'_>) -> Result<MemLink, Fail> {
+/// A link whose input comes in pieces.
+pub fn link_of(alloc: Global, given: &Given<'_>) -> Result<MemLink, Fail> {
     let mut pieces = Vec::new(alloc);
     for piece in given.input.chunks(given.piece.max(1)) {
         pieces.push(piece.to_vec(alloc)?)?;
@@ -64,8 +64,8 @@ fn link_of(alloc: Global, given: &Given<'_>) -> Result<MemLink, Fail> {
     Ok(MemLink::new(alloc, pieces, reads, writes, given.most.max(1)))
 }
 
-// Whether these bytes were written, and no others.
-fn are_written(alloc: Global, link: &MemLink, output: &[u8]) -> Result<bool, Fail> {
+/// Whether these bytes were written, and no others.
+pub fn are_written(alloc: Global, link: &MemLink, output: &[u8]) -> Result<bool, Fail> {
     let mut bytes: Vec<u8> = Vec::new(alloc);
     for step in link.log() {
         if let Move::Out(piece) = step {

@@ -1,4 +1,4 @@
-//! What machines say first, and what the one that the command runs tells of its state and its place.
+//! What both machines say first, and what they tell of their state and their place.
 
 ghost use Rattle.std.specs.Prelude.{IsTrue};
 ghost use Rattle.core_term.specs.CoreTerm.{core_of, fits_of};
@@ -39,11 +39,19 @@ fn both_say_awaited(alloc: Global, checked: &Checked) -> Result<bool, Fail>
     Ok(says_awaited::<Coded>(alloc, checked)? && says_awaited::<Tree>(alloc, checked)?)
 }
 
-// The state and the place of a program before any event.
-fn first_state(alloc: Global, checked: &Checked) -> Result<(State, Place), Fail>
+// The state and the place of a program before any event, by the compiled machine.
+fn first_of_coded(alloc: Global, checked: &Checked) -> Result<(State, Place), Fail>
     requires { IsTrue (fits_of (core_of checked.now)) }
 {
     let (machine, _first) = Coded::start(alloc, checked, 0)?;
+    Ok(machine.to_state(alloc)?)
+}
+
+// The same by the plain one.
+fn first_of_tree(alloc: Global, checked: &Checked) -> Result<(State, Place), Fail>
+    requires { IsTrue (fits_of (core_of checked.now)) }
+{
+    let (machine, _first) = Tree::start(alloc, checked, 0)?;
     Ok(machine.to_state(alloc)?)
 }
 
@@ -54,13 +62,23 @@ fn awaits_two(state: &State, place: &Place) -> bool {
     in_turn && numbers && place.cuts.as_slice() == [false].as_slice()
 }
 
-// Whether the state and the place of the program with this core are so, and both machines say that the first is awaited.
+// Whether it is so where a machine told them.
+fn told_awaits_two(told: Result<(State, Place), Fail>) -> Result<bool, Fail> {
+    match told {
+        Ok((state, place)) => Ok(awaits_two(&state, &place)),
+        Err(fail) => Err(fail),
+    }
+}
+
+// Whether the state and the place of the program with this core are so on both machines, and both say that the first is
+// awaited.
 fn begins_with_its_first(alloc: Global, checked: &Checked) -> Result<bool, Fail> {
     if !fits(checked.core()) {
         return Ok(false);
     }
-    let (state, place) = first_state(alloc, checked)?;
-    Ok(awaits_two(&state, &place) && both_say_awaited(alloc, checked)?)
+    let coded = told_awaits_two(first_of_coded(alloc, checked))?;
+    let tree = told_awaits_two(first_of_tree(alloc, checked))?;
+    Ok(coded && tree && both_say_awaited(alloc, checked)?)
 }
 
 // Whether it is so for a pair in turn.
