@@ -6,7 +6,7 @@ ghost use Rattle.event_frame.specs.Frames.{frame, longest};
 ghost use Rattle.command_text.specs.Conversion.{frames_of_lines, Ended};
 ghost use Rattle.delta_end.specs.End.{ReadCause, WriteCause};
 ghost use Rattle.command_text.specs.Loop.{Feeds, given_to};
-ghost use Rattle.delta_loop.specs.History.{Writes, History};
+ghost use Rattle.delta_loop.specs.History.{Writes};
 ghost use Rattle.command_text.specs.Sending.{IsOfSending};
 
 use crate::fault::input_fault;

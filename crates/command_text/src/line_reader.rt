@@ -1,6 +1,6 @@
 //! A reader of lines, a byte at a time.
 
-ghost use Rattle.std.specs.Prelude.{◌≡◌, ◌+◌, ◌<◌, ◌≤◌, ◌^◌, [], ◌∷◌, List, ℕ, length, IfOk, IfErr, IfSome, OnErr, Some, None};
+ghost use Rattle.std.specs.Prelude.{◌≡◌, ◌+◌, ◌<◌, ◌≤◌, ◌^◌, ◌∷◌, List, ℕ, length, IfOk, IfErr, IfSome, OnErr, Some, None};
 ghost use Rattle.event_frame.specs.declared.version.Version.{Version};
 ghost use Rattle.event_frame.specs.Frames.{longest};
 ghost use Rattle.command_text.specs.Reading.{event_of, taken_from, first_line};

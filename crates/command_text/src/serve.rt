@@ -1,6 +1,6 @@
 //! The loop: reads lines to the end of the input, and writes each event's frame before the next read.
 
-ghost use Rattle.std.specs.Prelude.{◌≡◌, ◌^◌, [], List, ℕ, Option, true, false};
+ghost use Rattle.std.specs.Prelude.{◌≡◌, ◌^◌, [], List, ℕ, Option, false};
 ghost use Rattle.port.specs.declared.link.Move.{Move};
 ghost use Rattle.command_text.specs.Conversion.{frames_of_lines, Ran};
 ghost use Rattle.delta_end.specs.End.{ReadCause, WriteCause};

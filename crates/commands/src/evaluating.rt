@@ -1,6 +1,6 @@
 //! Evaluates the program of a text.
 
-ghost use Rattle.std.specs.Prelude.{◌≡◌, ◌≤◌, ◌<◌, ◌^◌, ◌++◌, ◌⊎◌, [], List, ℕ, true, IfOk, IfErr};
+ghost use Rattle.std.specs.Prelude.{◌≡◌, ◌≤◌, ◌<◌, ◌^◌, ◌++◌, ◌⊎◌, [], List, ℕ, IfOk, IfErr};
 ghost use Rattle.stream_type.specs.StreamType.{type_of, reach_of};
 ghost use Rattle.stream_prefix.specs.StreamPrefix.{IsPrefix};
 ghost use Rattle.stream_prefix.specs.Tree.{prefix_of};

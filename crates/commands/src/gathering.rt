@@ -1,6 +1,6 @@
 //! Reads a whole input.
 
-ghost use Rattle.std.specs.Prelude.{◌≡◌, [], ⊤, IfOk};
+ghost use Rattle.std.specs.Prelude.{[], ⊤, IfOk};
 ghost use Rattle.stream_type.specs.StreamType.{type_of};
 ghost use Rattle.commands.specs.Gathering.{gathering, Gathers};
 

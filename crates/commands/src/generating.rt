@@ -1,6 +1,6 @@
 //! Runs the load's program on the load, and writes the line that tells of it.
 
-ghost use Rattle.std.specs.Prelude.{◌≡◌, ◌≢◌, ◌≤◌, List, ℕ};
+ghost use Rattle.std.specs.Prelude.{◌≡◌, ◌≤◌, List, ℕ};
 ghost use Rattle.delta_end.specs.declared.end.End.{End};
 ghost use Rattle.delta_end.specs.End.{WriteCause};
 ghost use Rattle.delta_loop.specs.History.{Writes};

@@ -33,4 +33,4 @@ pub mod Retyping
 pub mod RenamedPrograms
 mod LawExamples
 mod Examples
-mod Programs
+mod ProgramExamples

@@ -21,9 +21,6 @@ use Rattle.core_term.proofs.TypedTerms.{PastTypes, StandBefore, HasMore, more_un
 pub record Within (O Q : Facts) : Type 0 where
   pub at : (x y : ℕ) → O x y ≡ true → Q x y ≡ true
 
-pub within_same : (O : Facts) → Within O O
-within_same O = record { at = λ x y h. h }
-
 -- each name of the first list is in the second
 pub record Among (xs ys : List ℕ) : Type 0 where
   pub at : (x : ℕ) → holds x xs ≡ true → holds x ys ≡ true

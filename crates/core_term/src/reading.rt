@@ -1,6 +1,6 @@
 //! What a program says: its functions by number, and whether its types are low enough.
 
-ghost use Rattle.std.specs.Prelude.{◌≡◌, ℕ, nat_le, ◌<◌, ◌≤◌, true, false, IfSome, IfNone};
+ghost use Rattle.std.specs.Prelude.{◌≡◌, nat_le, ◌<◌, true, false, IfSome, IfNone};
 ghost use Rattle.stream_type.specs.StreamType.{type_of, height_of};
 ghost use Rattle.bunch.specs.BunchTree.{tree_of, as_type};
 ghost use Rattle.core_term.specs.CoreTerm.{core_body_of, core_of, fun_at, is_there, fits_of};

@@ -1,7 +1,6 @@
 -- The first name without a size, one node more.
 use mathlib.Core.Former.{Count}
 use Rattle.std.proofs.Common.{◌≡◌, ◌∙◌, ◌<◌, ◌+◌, ℕ, Bool, List, drop, get_or, length, refl, ap}
-use Rattle.std.specs.Prelude.{Result, Ok, Err, IfOk, Option, option_map}
 use Rattle.std.specs.declared.vec.Vec.{Vec}
 use Rattle.std.specs.declared.alloc.Global.{Global}
 use Rattle.core_term.specs.declared.term.Node.{Node}
@@ -14,8 +13,7 @@ use Rattle.core_term.specs.CoreTerm.{CoreBody}
 use Rattle.core_term.specs.Inert.{is_inert_fun}
 use Rattle.core_term.specs.TypeFaults.{first_some}
 use Rattle.core_term.specs.Typing.{Context}
-use Rattle.delta_bound.specs.declared.stop.Unsized.{Unsized}
-use Rattle.delta_bound.specs.Unsized.{told, unsized_at, unsized_row, unsized_of, unsized_among, unsized_in}
+use Rattle.delta_bound.specs.Unsized.{unsized_at, unsized_row, unsized_of, unsized_among, unsized_in}
 use Rattle.delta_bound.proofs.ListPlaces.{drop-next}
 
 module _ (funs : List CoreBody) (counts : ℕ → Bool) where
@@ -35,8 +33,3 @@ module _ (funs : List CoreBody) (counts : ℕ → Bool) where
 -- the marks of the inert functions count them
 pub body-is : (funs : List CoreBody) (counts : ℕ → Bool) (b : Body) → ((f : ℕ) → counts f ≡ is_inert_fun funs f) → unsized_in funs counts b ≡ unsized_in funs (is_inert_fun funs) b
 body-is funs counts b h = ap (λ k. unsized_in funs k b) (λ i f. h f i)
-
--- what is told of a result's value
-pub if_ok-told : {E : Type 0} (r : Result (Option Unsized) E) (x y : Option (ℕ × ℕ)) → x ≡ y → IfOk r (λ o. option_map told o ≡ x) → IfOk r (λ o. option_map told o ≡ y)
-if_ok-told (Ok o) x y e h = h ∙ e
-if_ok-told (Err m) x y e h = tt

@@ -1,5 +1,5 @@
 -- Where numbers differ.
-use Rattle.std.proofs.Common.{◌≡◌, ◌∙◌, ◌<◌, ◌≤◌, ◌+◌, ◌^◌, ℕ, zero, suc, Bool, true, false, add-one, drop, get_or, List, [], ◌∷◌, length, if◌then◌else◌, ap, ap₂, refl, sym, arith}
+use Rattle.std.proofs.Common.{◌≡◌, ◌∙◌, ◌<◌, ◌≤◌, ◌+◌, ◌^◌, ℕ, zero, suc, Bool, true, false, drop, List, [], ◌∷◌, length, if◌then◌else◌, ap, refl, arith}
 use Rattle.std.specs.Prelude.{Option, Some, None}
 use Rattle.std.specs.Borrow.{Bor}
 use Rattle.std.specs.Slice.{IsItemAt}
@@ -9,14 +9,6 @@ use Rattle.delta_check.proofs.Joined.{node_count-one}
 use Rattle.state_bounds.specs.Bounds.{Bound}
 use Rattle.state_bounds.specs.ProgramBound.{is_same_bound, first_other, first_cycle, program_numbers, numbers_after, reached_marks, mark_count}
 use Rattle.state_bounds.proofs.ProgramNumbers.{length-numbers}
-use Rattle.delta_bound.proofs.ListPlaces.{drop-next}
-
--- numbers from a place on differ first there, or in the rest
-pub other-next : (ms ns : List Bound) (i : ℕ) (m n : Bound) → i < length ms → m ≡ get_or ms i m → i < length ns → n ≡ get_or ns i n
-    → first_other i (drop i ms) (drop i ns) ≡ (if is_same_bound m n then first_other (i + 1) (drop (i + 1) ms) (drop (i + 1) ns) else Some i)
-other-next ms ns i m n h k p q =
-    ap₂ (first_other i) (drop-next ms i m h k) (drop-next ns i n p q)
-    ∙ ap (λ j. if is_same_bound m n then first_other j (drop (i + 1) ms) (drop (i + 1) ns) else Some i) (sym (add-one i))
 
 -- where a list has nothing at a place, the place is past its end
 pub past_end : {X : Type 0} (xs : List X) (i : ℕ) (r : Option (Bor X)) → IsItemAt xs i r → r ≡ None → length xs ≤ i
@@ -36,9 +28,6 @@ no_other i (m ∷ ms) = refl
 
 pub other-end : (ms ns : List Bound) (i : ℕ) → length ns ≤ i → first_other i (drop i ms) (drop i ns) ≡ None
 other-end ms ns i h = ap (first_other i (drop i ms)) (drop-end ns i h) ∙ no_other i (drop i ms)
-
-pub first-end : (ms ns : List Bound) (i : ℕ) → length ms ≤ i → first_other i (drop i ms) (drop i ns) ≡ None
-first-end ms ns i h = ap (λ l. first_other i l (drop i ns)) (drop-end ms i h)
 
 -- where they differ there is a number
 other_below : (i : ℕ) (ms ns : List Bound) (f : ℕ) → first_other i ms ns ≡ Some f → f < i + length ms

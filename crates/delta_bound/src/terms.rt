@@ -1,6 +1,6 @@
 //! What a term can hold at most, with a number for each function.
 
-ghost use Rattle.std.specs.Prelude.{◌≡◌, map};
+ghost use Rattle.std.specs.Prelude.{map};
 ghost use Rattle.stream_type.specs.StreamType.{type_of};
 ghost use Rattle.core_term.specs.CoreTerm.{term_of, terms_from, core_of};
 ghost use Rattle.core_term.specs.FreeNames.{free_names};

@@ -1,14 +1,13 @@
 -- The names of what is given in a list.
 use Rattle.std.proofs.Common.{◌≡◌, ◌∙◌, ◌<◌, ◌+◌, inl, inr, ℕ, Bool, true, false, ◌||◌, length, take, get_or, List, [], ◌∷◌, ◌++◌, refl, ap, sym}
-use Rattle.std.specs.Prelude.{Option, Some, None, if◌then◌else◌, ◌==◌, is_some}
+use Rattle.std.specs.Prelude.{Some, None, if◌then◌else◌, ◌==◌, is_some}
 use Rattle.std.proofs.lemmas.List.{take_more}
 use Rattle.bunch.specs.declared.name.Name.{Name}
 use Rattle.bunch.specs.Names.{numbers_of, holds}
 use Rattle.bunch.proofs.NameLists.{holds-append, numbers_of-append}
-use Rattle.core_term.specs.TypeFaults.{first_some}
 use Rattle.core_term.proofs.Sides.{or_split, or_first, or_second}
 use Rattle.hist_value.specs.declared.hist_type.HTy.{HTy}
-use Rattle.hist_value.specs.HistType.{HistType, hist_type_of}
+use Rattle.hist_value.specs.HistType.{hist_type_of}
 use Rattle.delta_check.specs.Scopes.{given_at, historical_of}
 
 -- whether something is given of the name, with one more entry at the end
@@ -48,9 +47,3 @@ next_given past i p names more h e m known x k =
       | inl a ↦ or_first (holds x (numbers_of names)) ((x == p.0.0) || false) (known x a)
       | inr b ↦ or_second (holds x (numbers_of names)) ((x == p.0.0) || false) (or_first (x == p.0.0) false b)
     ])
-
--- a name of either kind is there where each is
-pub of_either : (o p : Option HistType) (b d : Bool) → (is_some p ≡ true → b ≡ true) → (b ≡ true → d ≡ true) → (is_some o ≡ true → d ≡ true)
-    → is_some (first_some o p) ≡ true → d ≡ true
-of_either None p b d outer kept given h = kept (outer h)
-of_either (Some t) p b d outer kept given h = given h

@@ -1,11 +1,10 @@
 -- There are as many places as nodes.
 use mathlib.Core.Former.{Count}
-use Rattle.std.proofs.Common.{◌≡◌, ℕ, suc, arith, ◌+◌, List, [], ◌∷◌, ◌++◌, length, length-append, map, refl}
-use Rattle.std.specs.List.{concat}
+use Rattle.std.proofs.Common.{◌≡◌, ℕ, suc, arith, ◌+◌, List, [], ◌∷◌, ◌++◌, length, length-append, refl}
 use Rattle.core_term.specs.declared.term.Node.{Node}
 use Rattle.core_term.specs.declared.term.Term.{Term, Row_of-Node, end_of-Node, more_of-Node}
 use Rattle.core_term.specs.declared.term.Term.TheVariants.{Var, Eps, Unit as IsUnit, Past, Par', Cat', Inl', Inr', Nil, Cons', Let', LetPar', LetCat', CaseSum', CaseStar', Wait', Call'}
-use Rattle.core_term.specs.CoreTerm.{term_of, term_in, terms_of, terms_from, places_of, places_in, places_among, node_count, node_counts}
+use Rattle.core_term.specs.CoreTerm.{term_of, term_in, terms_of, places_of, places_in, places_among, node_count, node_counts}
 
 both : (i j : ℕ) (ps qs : List ℕ) (m n : ℕ) → suc (length ps) ≡ m → suc (length qs) ≡ n → suc (length ((i ∷ ps) ++ (j ∷ qs))) ≡ 1 + (m + n)
 both i j ps qs m n h k = let e = length-append (i ∷ ps) (j ∷ qs) in omega (arith, e, h, k)
@@ -44,9 +43,3 @@ mutual
 -- those of a node
 pub length-places : (n : Node) → length (places_of n) ≡ node_count (term_of n)
 length-places n = length-places_in n.term
-
--- those of nodes, in turn
-pub length-places_all : (ns : List Node) → length (concat (map places_of ns)) ≡ node_counts (terms_from (map term_of ns))
-length-places_all [] = refl
-length-places_all (n ∷ ns) =
-    let e = length-append (places_of n) (concat (map places_of ns)) in omega (arith, e, length-places n, length-places_all ns)

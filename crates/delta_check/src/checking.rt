@@ -1,11 +1,11 @@
 //! The check of a whole program: the first node that breaks a rule.
 
-ghost use Rattle.std.specs.Prelude.{◌≡◌, ◌+◌, ◌++◌, ◌≤◌, ◌<◌, ◌^◌, ℕ, List, [], ◌∷◌, map, length, slice_index_or, Option, IfOk, IfErr};
+ghost use Rattle.std.specs.Prelude.{◌≡◌, ◌+◌, ◌++◌, ◌≤◌, ◌<◌, ◌^◌, ℕ, [], ◌∷◌, map, slice_index_or, IfOk, IfErr};
 ghost use Rattle.std.specs.List.{concat};
 ghost use Rattle.stream_type.specs.StreamType.{type_of, eps};
 ghost use Rattle.bunch.specs.BunchTree.{tree_of, empty};
 ghost use Rattle.core_term.specs.CoreTerm.{term_of, term_in, terms_from, places_of, places_in, core_of, core_body_of, fun_at, leaf_types, node_count, node_counts, body_places, core_places};
-ghost use Rattle.core_term.specs.FreeNames.{IsCore, HasFewNodes, nodes_of_bodies};
+ghost use Rattle.core_term.specs.FreeNames.{IsCore, HasFewNodes};
 ghost use Rattle.core_term.specs.Inert.{is_inert_fun};
 ghost use Rattle.core_term.specs.Typing.{IsTypedCore, type_at, with_name, with_let};
 ghost use Rattle.core_term.specs.TypeFaults.{node, nodes_of, nodes_among, nodes_of_body, program_nodes, first_fault};

@@ -5,7 +5,7 @@ ghost use Rattle.stream_type.specs.StreamType.{type_of, eps};
 ghost use Rattle.bunch.specs.BunchTree.{tree_of};
 ghost use Rattle.hist_value.specs.HistExpr.{expr_of};
 ghost use Rattle.core_term.specs.CoreTerm.{term_of, terms_from, core_of, fun_at, leaf_types, call_term};
-ghost use Rattle.core_term.specs.Inert.{is_inert, are_inert, inert_after, is_inert_fun};
+ghost use Rattle.core_term.specs.Inert.{is_inert, are_inert, is_inert_fun};
 ghost use Rattle.delta_check.specs.Counting.{counts_in, IsRound};
 
 use crate::params::{has_arity, type_at};

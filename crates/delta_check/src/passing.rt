@@ -3,7 +3,7 @@
 ghost use Rattle.std.specs.Prelude.{◌≡◌, ℕ, false, [], map, option_map, IfOk, IfSome, IfNone};
 ghost use Rattle.std.specs.List.{list_any};
 ghost use Rattle.bunch.specs.Names.{numbers_of, number_of};
-ghost use Rattle.bunch.specs.BunchTree.{tree_of, leaf_names, stands_before};
+ghost use Rattle.bunch.specs.BunchTree.{tree_of, stands_before};
 ghost use Rattle.core_term.specs.CoreTerm.{term_of, terms_from, core_body_of, core_of, fun_at, eps_term};
 ghost use Rattle.core_term.specs.Agreement.{types_in};
 ghost use Rattle.core_term.specs.Inert.{is_inert};

@@ -138,17 +138,8 @@ pub ruleset aliasing = (alias_put, alias_none)
 pub same_eased : {a b w z : StateTree} → Eased a b → w ≡ a → z ≡ b → Eased w z
 same_eased h e f = eased_then (eased_same e) (eased_then h (eased_same (sym f)))
 
-pub par_eased : {a b c d w z : StateTree} → Eased a b → Eased c d → w ≡ par_state a c → z ≡ par_state b d → Eased w z
-par_eased h k e f = same_eased (eased_par h k) e f
-
-pub cat_eased : {a b w z : StateTree} {l : LaterTree} → Eased a b → w ≡ cat_state a l → z ≡ cat_state b l → Eased w z
-cat_eased h e f = same_eased (eased_cat h) e f
-
 pub let_eased : {a b c d w z : StateTree} {x : ℕ} {s : StreamType} → Eased a b → Eased c d → w ≡ let_state x s a c → z ≡ let_state x s b d → Eased w z
 let_eased h k e f = same_eased (eased_let h k) e f
-
-pub let_par_eased : {a b w z : StateTree} {x y u : ℕ} → Eased a b → w ≡ let_par_state x y u a → z ≡ let_par_state x y u b → Eased w z
-let_par_eased h e f = same_eased (eased_let_par h) e f
 
 pub let_cat_eased : {a b w z : StateTree} {x y u : ℕ} → Eased a b → w ≡ let_cat_state x y u a → z ≡ let_cat_state x y u b → Eased w z
 let_cat_eased h e f = same_eased (eased_let_cat h) e f

@@ -184,9 +184,5 @@ turn_waits one whole q x y s u later n l waits run rest made h =
 pub turn_goes : (q : Result Begun Stop) (x y : Run) (u v : StateTree) (n l : ℕ) → is_maximal x.out ≡ true → Gives q (cat_run x y) u n l → Gives q (cat_run x y) (if is_maximal x.out then u else v) n l
 turn_goes q x y u v n l goes h = subst (λ (w : Bool). Gives q (cat_run x y) (if w then u else v) n l) (sym goes) h
 
--- the same run and the same state under other names
-pub same_gives : {r : Result Begun Stop} {x y : Run} {s t : StateTree} {n l : ℕ} → x ≡ y → s ≡ t → Gives r x s n l → Gives r y t n l
-same_gives {r} {x} {y} {s} {t} {n} {l} e f h = subst (λ (z : Run). Gives r z t n l) e (subst (λ (z : StateTree). Gives r x z n l) f h)
-
 pub same_gives_all : {r : Result Passed Stop} {x y : Runs} {s t : ArgumentTrees} {n l : ℕ} → x ≡ y → s ≡ t → GivesAll r x s n l → GivesAll r y t n l
 same_gives_all {r} {x} {y} {s} {t} {n} {l} e f h = subst (λ (z : Runs). GivesAll r z t n l) e (subst (λ (z : ArgumentTrees). GivesAll r x z n l) f h)

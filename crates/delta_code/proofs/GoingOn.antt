@@ -42,9 +42,6 @@ lacks = halts (λ q. cc) (λ q. cc)
 pub lacks_as : {x : Run} {s v : StateTree} {n l : ℕ} → GoesOnAs (Err Memory) x s v n l
 lacks_as = halts_as (λ q. cc) (λ q. cc)
 
-pub all_lack : {x : Runs} {s v : ArgumentTrees} {lent before found : List HeldName} {n l : ℕ} → AllGoOn (Err Memory) x s v lent before found n l
-all_lack = all_halt (λ q. cc) (λ q. cc)
-
 -- a state gives something, and is then this one
 pub went : (a : Told) (x : Run) (s v : StateTree) (n l : ℕ) → told a ≡ x → Eased s v → a.calls ≤ n → a.level ≤ l → GoesOn (Ok a) x s v n l
 went a x s v n l e f h k = record { run = e; rest = f; counted = h; shallow = k; spent = tt; deep = tt }
@@ -113,9 +110,6 @@ part_ends f g h = halts (λ q. f (h.spent q)) (λ q. g (h.deep q))
 
 pub part_ends_as : {stop : Stop} {y z : Run} {s v u w : StateTree} {m n j l : ℕ} → (m < y.calls → n < z.calls) → (j < y.level → l < z.level) → GoesOn (Err stop) y s v m j → GoesOnAs (Err stop) z u w n l
 part_ends_as f g h = halts_as (λ q. f (h.spent q)) (λ q. g (h.deep q))
-
-pub argument_ends : {stop : Stop} {y : Run} {z : Runs} {s v : StateTree} {u w : ArgumentTrees} {lent before found : List HeldName} {m n j l : ℕ} → (m < y.calls → n < z.calls) → (j < y.level → l < z.level) → GoesOn (Err stop) y s v m j → AllGoOn (Err stop) z u w lent before found n l
-argument_ends f g h = all_halt (λ q. f (h.spent q)) (λ q. g (h.deep q))
 
 pub arguments_end : {stop : Stop} {y : Runs} {z : Run} {s v : ArgumentTrees} {u w : StateTree} {lent before found : List HeldName} {m n j l : ℕ} → (m < y.calls → n < z.calls) → (j < y.level → l < z.level) → AllGoOn (Err stop) y s v lent before found m j → GoesOn (Err stop) z u w n l
 arguments_end f g h = halts (λ q. f (h.spent q)) (λ q. g (h.deep q))

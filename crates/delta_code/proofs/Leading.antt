@@ -2,8 +2,8 @@
 use Rattle.std.proofs.Common.{ℕ, ◌≡◌, ◌∙◌, ◌+◌, ◌<◌, ◌≤◌, max, sym, ap, subst, IfErr, Ok, Err, arith}
 use Rattle.std.proofs.lemmas.Result.{IfOk-weaker, MatchResult-weaker}
 use Rattle.std.specs.Prelude.{Result}
-use Rattle.core_term.specs.Run.{Run, Runs}
-use Rattle.delta_state.specs.StateTree.{StateTree, ArgumentTrees}
+use Rattle.core_term.specs.Run.{Run}
+use Rattle.delta_state.specs.StateTree.{StateTree}
 use Rattle.machine_parts.specs.declared.stop.Stop.{Stop}
 use Rattle.machine_parts.specs.declared.stop.Stop.TheVariants.{Memory, Spent, Deep}
 use Rattle.template_state.specs.declared.code.Code.{Code}
@@ -13,7 +13,7 @@ use Rattle.delta_code.specs.declared.way.Reached.{Reached}
 use Rattle.delta_code.specs.declared.way.Reached.TheVariants.{Given}
 use Rattle.delta_code.specs.Begun.{run_of, rest_of}
 use Rattle.delta_code.specs.Eased.{Eased}
-use Rattle.delta_code.specs.Gives.{Gives, GivesAll, Leads}
+use Rattle.delta_code.specs.Gives.{Gives, Leads}
 use Rattle.delta_code.specs.Way.{within, after, reached_run, reached_rest}
 use Rattle.delta_code.proofs.Easing.{eased_same, eased_then, within_eased}
 use Rattle.delta_code.proofs.Giving.{stopped}
@@ -29,9 +29,6 @@ lead_refused c k v w x s n l = lost Memory c k v w x s n l (λ q. cc) (λ q. cc)
 -- a part stops, or the arguments of a call do
 pub lead_stops : {stop : Stop} {c : Code} {k : ℕ} {v w : Way} {y z : Run} {t u : StateTree} {m n j l : ℕ} → (m < y.calls → n < z.calls) → (j < y.level → l < z.level) → Gives (Err stop) y t m j → Leads (Err stop) c k v w z u n l
 lead_stops {stop} {c} {k} {v} {w} {y} {z} {t} {u} {m} {n} {j} {l} f g h = lost stop c k v w z u n l (λ q. f (h.spent q)) (λ q. g (h.deep q))
-
-pub lead_ends : {stop : Stop} {c : Code} {k : ℕ} {v w : Way} {y : Runs} {z : Run} {t : ArgumentTrees} {u : StateTree} {m n j l : ℕ} → (m < y.calls → n < z.calls) → (j < y.level → l < z.level) → GivesAll (Err stop) y t m j → Leads (Err stop) c k v w z u n l
-lead_ends {stop} {c} {k} {v} {w} {y} {z} {t} {u} {m} {n} {j} {l} f g h = lost stop c k v w z u n l (λ q. f (h.spent q)) (λ q. g (h.deep q))
 
 -- one stops on the way that began where one stands
 pub way_stops : {stop : Stop} {c : Code} {k : ℕ} {v w : Way} {x : Run} {s : StateTree} {n l : ℕ} → Leads (Err stop) c k v w x s n l → Gives (Err stop) x s n l

@@ -2,7 +2,7 @@
 -- goes on by the entries alone whose names it uses.
 use Rattle.std.proofs.Common.{ℕ, ◌≡◌, ◌∙◌, ◌+◌, ◌<◌, ◌++◌, Bool, true, false, true≢false, List, [], ◌∷◌, eqb, if◌then◌else◌, refl, sym, ap, subst, Ok, Err, arith}
 use Rattle.std.proofs.lemmas.Bool.{eqb-true}
-use Rattle.std.proofs.lemmas.List.Elements.{All-head, All-tail, All-append}
+use Rattle.std.proofs.lemmas.List.Elements.{All-head, All-tail}
 use Rattle.std.specs.Prelude.{Result, max}
 use Rattle.stream_type.specs.StreamType.{StreamType, par}
 use Rattle.stream_prefix.specs.StreamPrefix.{emp, der}
@@ -26,27 +26,12 @@ use Rattle.state_rewriting.specs.Rewriting.{SimplerBy}
 use Rattle.state_rewriting.proofs.RewritingsInside.{by_same, by_then, by_par}
 use Rattle.state_rewriting.proofs.StillStates.{stays}
 use Rattle.machine_parts.specs.declared.stop.Stop.{Stop}
-use Rattle.machine_parts.specs.declared.stop.Stop.TheVariants.{Memory, Spent, Deep}
+use Rattle.machine_parts.specs.declared.stop.Stop.TheVariants.{Spent, Deep}
 use Rattle.delta_code.specs.declared.told.Told.{Told}
-use Rattle.delta_code.specs.declared.touched.Touch.{Touch}
-use Rattle.delta_code.specs.declared.touched.Touch.TheVariants.{Nothing, One, Many}
-use Rattle.delta_code.specs.Beside.{Untouched, UntouchedBut, Tells, used_of, IsReady, IsBeside, Advances}
+use Rattle.delta_code.specs.Beside.{UntouchedBut, used_of, IsReady, IsBeside, Advances}
 use Rattle.delta_code.specs.GoesOn.{GoesOn}
 use Rattle.delta_code.specs.Told.{told}
 use Rattle.delta_code.proofs.FreeStateRests.{state_rest_same, typed_holds_free}
-
--- where nothing comes on any name, nothing comes on any but one,
-pub but_one : (x : ℕ) (entries : List HeldName) → Untouched entries → UntouchedBut x entries
-but_one x entries h = record { at = λ k d lt q. h k d lt }
-
--- and what is told of two lists is told of both
-pub none_then : (other : Touch) (entries more : List HeldName) → Untouched entries → Tells other more → Tells other (entries ++ more)
-none_then Nothing entries more h k = All-append (λ (e : HeldName). e.prefix ≡ emp e.type) entries more h k
-none_then (One x) entries more h k = record { at = All-append (λ (e : HeldName). eqb e.name x.0 ≡ false → e.prefix ≡ emp e.type) entries more (but_one x.0 entries h).at k.at }
-none_then Many entries more h k = tt
-
-pub one_then : (x : ℕ) (entries more : List HeldName) → UntouchedBut x entries → Untouched more → UntouchedBut x (entries ++ more)
-one_then x entries more h k = record { at = All-append (λ (e : HeldName). eqb e.name x ≡ false → e.prefix ≡ emp e.type) entries more h.at (but_one x more k).at }
 
 -- a name other than that one has nothing on it
 untouched_at : (x : ℕ) (entries : List HeldName) → UntouchedBut x entries → (y : ℕ) → eqb y x ≡ false → prefixes_held entries y ≡ emp (types_held entries y)
@@ -133,10 +118,6 @@ module _ (funs : List CoreBody) (entries : List HeldName) where
 -- a step stops, and says of the run what is so
 pub ends : {stop : Stop} {x : Run} {s v : StateTree} {t u : StreamType} {n l : ℕ} → (stop ≡ Spent → n < x.calls) → (stop ≡ Deep → l < x.level) → Advances (Err stop) x s v t u n l
 ends f g = record { run = tt; rest = tt; output = tt; counted = tt; shallow = tt; spent = f; deep = g }
-
--- memory was refused
-pub wants : {x : Run} {s v : StateTree} {t u : StreamType} {n l : ℕ} → Advances (Err Memory) x s v t u n l
-wants = ends (λ q. cc) (λ q. cc)
 
 -- the first of two sides stops
 pub side_ends : (y : Run) {stop : Stop} {x : Run} {s v w z : StateTree} {t t' u u' : StreamType} {n l : ℕ} → Advances (Err stop) x s v t t' n l → Advances (Err stop) (par_run x y) w z u u' n l

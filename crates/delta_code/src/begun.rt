@@ -1,15 +1,15 @@
 //! What steps give, and how those of the parts of a form make that of the whole: the run and the state left.
 
-ghost use Rattle.std.specs.Prelude.{◌≡◌, ◌+◌, ◌<◌, ◌^◌, ◌∷◌, true, IfOk};
+ghost use Rattle.std.specs.Prelude.{◌≡◌, ◌+◌, ◌<◌, ◌^◌, true, IfOk};
 ghost use Rattle.stream_type.specs.StreamType.{type_of};
 ghost use Rattle.stream_prefix.specs.Tree.{prefix_of};
-ghost use Rattle.stream_prefix.specs.StreamPrefix.{cat_fst, in_left, in_right, star_rest, is_maximal, der};
+ghost use Rattle.stream_prefix.specs.StreamPrefix.{cat_fst, in_left, in_right, der};
 ghost use Rattle.core_term.specs.Parts.{as_star};
 ghost use Rattle.core_term.specs.Run.{deeper, quiet, relabel, par_run, cat_run_at, let_run, no_runs, run_before, frame_run, call_run, one_call};
-ghost use Rattle.delta_state.specs.StateTree.{sink, var_state, par_state, cat_state, let_state, let_par_state, let_cat_state, frame_state, no_arguments, argument_before};
+ghost use Rattle.delta_state.specs.StateTree.{sink, var_state, par_state, cat_state, let_state, let_cat_state, frame_state, no_arguments, argument_before};
 ghost use Rattle.delta_state.specs.Rest.{cut_state};
 ghost use Rattle.machine_parts.specs.Levels.{below};
-ghost use Rattle.template_state.specs.Readers.{state_in, later_in, arguments_in};
+ghost use Rattle.template_state.specs.Readers.{state_in, later_in};
 ghost use Rattle.delta_code.specs.Begun.{run_of, rest_of, runs_of, rests_of};
 
 use bunch::Name;
@@ -298,21 +298,6 @@ pub fn one_call(a: Begun) -> Begun
         level: a.level,
         state: a.state,
     }
-}
-
-/// `let (x, y) = z` round what is left. Its only error is want of memory.
-#[inline(never)]
-pub fn parted(alloc: Global, x: Name, y: Name, z: Name, a: Begun) -> Result<Begun, Memory>
-    ensures run { IfOk result (λ r. run_of r ≡ run_of a) }
-    ensures rest { IfOk result (λ r. rest_of r ≡ let_par_state x.0 y.0 z.0 (rest_of a)) }
-{
-    let state = Box::new(alloc, Live::LetPar(x, y, z, a.state))?;
-    Ok(Begun {
-        output: a.output,
-        calls: a.calls,
-        level: a.level,
-        state,
-    })
 }
 
 /// `let (x; y) = z`, of this type, after this on z, round what is left. Its only error is want of memory.

@@ -1,6 +1,6 @@
 //! The types of arguments while they are lent to the entries of a frame's body.
 
-ghost use Rattle.std.specs.Prelude.{◌≡◌, ◌++◌, ◌∷◌, ◌&&◌, ◌||◌, [], map, IfOk, OnOk};
+ghost use Rattle.std.specs.Prelude.{◌≡◌, ◌++◌, ◌∷◌, ◌||◌, [], map, IfOk, OnOk};
 ghost use Rattle.stream_type.specs.StreamType.{type_of, eps};
 ghost use Rattle.stream_prefix.specs.StreamPrefix.{is_maximal, der};
 ghost use Rattle.stream_prefix.specs.Tree.{prefix_of};

@@ -11,7 +11,6 @@ ghost use Rattle.hist_value.specs.Wholes.{value_of};
 ghost use Rattle.core_term.specs.Meaning.{values};
 ghost use Rattle.core_term.specs.CoreTerm.{is_var, typed_names_of};
 ghost use Rattle.delta_state.specs.StateMeaning.{past_in};
-ghost use Rattle.delta_state.specs.StateTree.{LaterTree, Known as KnownName};
 ghost use Rattle.delta_state.specs.Rest.{known_of};
 ghost use Rattle.template_state.specs.Readers.{op_term, known_in, later_in};
 

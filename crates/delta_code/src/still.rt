@@ -63,16 +63,6 @@ pub fn no_items(alloc: Global) -> Result<Begun, Memory>
     at_once(alloc, over_star(alloc))
 }
 
-/// Nothing of a type that is null, and its state again. Its only error is want of memory.
-#[inline(never)]
-pub fn sunk(alloc: Global, t: &Ty) -> Result<Begun, Memory>
-    ensures run { IfOk result (λ r. run_of r ≡ quiet (emp (type_of t.now))) }
-    ensures rest { IfOk result (λ r. rest_of r ≡ sink (type_of t.now)) }
-{
-    let ty = stream_type::copy(alloc, t)?;
-    waiting(alloc, t, Live::Sink(ty))
-}
-
 /// What is whole of a type, and what is left of the type. Its only error is want of memory.
 #[inline(never)]
 pub fn over_at(alloc: Global, t: &Ty, output: Prefix) -> Result<Begun, Memory>

@@ -22,9 +22,6 @@ pub found : {A : Type 0} (c : Bool) (a b : A) → found_where c a ≡ Some b →
 found true a b h = (refl, some_same h)
 found false a b h = none_some h
 
-pub found_true : {A : Type 0} (c : Bool) (a : A) → c ≡ true → found_where c a ≡ Some a
-found_true c a h = ap (λ d. found_where d a) h
-
 pub and_both : (a b : Bool) → (a && b) ≡ true → (a ≡ true) × (b ≡ true)
 and_both true b h = (refl, h)
 and_both false b h = absurd (true≢false (sym h))

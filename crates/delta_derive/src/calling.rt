@@ -1,6 +1,6 @@
 //! The rule of a call.
 
-ghost use Rattle.std.specs.Prelude.{◌≡◌, ◌==◌, ◌&&◌, [], length, map, IfOk, MatchOption, None};
+ghost use Rattle.std.specs.Prelude.{◌≡◌, ◌==◌, ◌&&◌, length, map, IfOk, MatchOption, None};
 ghost use Rattle.stream_type.specs.StreamType.{type_of};
 ghost use Rattle.bunch.specs.BunchTree.{tree_of};
 ghost use Rattle.hist_value.specs.HistExpr.{expr_of};
@@ -10,7 +10,7 @@ ghost use Rattle.core_term.specs.Parts.{is_same_type};
 ghost use Rattle.delta_check.specs.Counting.{counts_in};
 ghost use Rattle.delta_derive.specs.Rearranged.{then_by};
 ghost use Rattle.delta_derive.specs.Claims.{call_parts, is_called, passes, first_shared, shares, with_claims, all_shared};
-ghost use Rattle.delta_derive.specs.OpenTerms.{claim_of, Adds, Shared};
+ghost use Rattle.delta_derive.specs.OpenTerms.{Adds, Shared};
 
 use crate::jumpy::is_still;
 use crate::open::{OpenTerm, add_in};

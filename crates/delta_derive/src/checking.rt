@@ -6,7 +6,6 @@ ghost use Rattle.bunch.specs.BunchTree.{as_type};
 ghost use Rattle.core_term.specs.CoreTerm.{core_of};
 ghost use Rattle.core_term.specs.FreeNames.{IsCore, HasFewNodes};
 ghost use Rattle.core_term.specs.Typing.{IsTypedCore};
-ghost use Rattle.core_term.specs.Inert.{is_inert_fun};
 ghost use Rattle.delta_check.specs.Counting.{counts_in};
 ghost use Rattle.delta_derive.specs.LineText.{line_in, lines_in};
 ghost use Rattle.delta_derive.specs.OpenTerms.{claims_in};

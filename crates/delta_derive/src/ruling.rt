@@ -3,9 +3,8 @@
 ghost use Rattle.std.specs.Prelude.{◌≡◌, ◌∷◌, [], map, false, IfOk, IsOkAnd, Some};
 ghost use Rattle.stream_type.specs.StreamType.{type_of};
 ghost use Rattle.bunch.specs.BunchTree.{tree_of, empty, comma, semi, leaf};
-ghost use Rattle.hist_value.specs.HistExpr.{expr_of};
 ghost use Rattle.hist_value.specs.Environment.{types_of};
-ghost use Rattle.core_term.specs.CoreTerm.{term_of, terms_from, core_of, par_term, cat_term, cons_term, inl_term, inr_term, let_term, let_par_term, let_cat_term, case_sum_term, case_star_term, wait_term, call_term, past_term};
+ghost use Rattle.core_term.specs.CoreTerm.{term_of, core_of, par_term, cat_term, cons_term, inl_term, inr_term, let_par_term, let_cat_term, case_sum_term, case_star_term, wait_term};
 ghost use Rattle.delta_check.specs.Counting.{counts_in};
 ghost use Rattle.bunch_rules.specs.Derivation.{hidden, learned};
 ghost use Rattle.delta_derive.specs.LineText.{turn_of};

@@ -1,11 +1,10 @@
 //! The first thing that is wrong with a program, and the types that it declares.
 
-ghost use Rattle.std.specs.Prelude.{◌≡◌, [], ◌++◌, map, IfOk, IfErr};
+ghost use Rattle.std.specs.Prelude.{◌≡◌, [], map, IfOk, IfErr};
 ghost use Rattle.delta_tree.specs.Tree.{function_of, declaration_of, program_of};
 ghost use Rattle.core_term.specs.CoreTerm.{typed_names_of};
 ghost use Rattle.delta_meaning.specs.TypeNames.{no_type_names};
 ghost use Rattle.delta_meaning.specs.KnownTypes.{names_known};
-ghost use Rattle.delta_meaning.specs.SourceBody.{names_below_all};
 ghost use Rattle.delta_meaning.specs.Faults.{function_faults, main_faults, declaration_faults, faults};
 ghost use Rattle.delta_elab.specs.Aliases.{aliases_among};
 ghost use Rattle.delta_elab.specs.Bounds.{is_declared};

@@ -1,7 +1,6 @@
 //! The first thing that is wrong with written types.
 
 ghost use Rattle.std.specs.Prelude.{map};
-ghost use Rattle.stream_type.specs.StreamType.{StreamType};
 ghost use Rattle.bunch.specs.BunchTree.{as_type};
 ghost use Rattle.delta_tree.specs.Tree.{type_tree_of, context_of, past_of};
 ghost use Rattle.delta_meaning.specs.TypeNames.{params_meant};

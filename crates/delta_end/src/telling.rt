@@ -1,6 +1,6 @@
 //! Writes the line that tells how a run ended, in pieces and without taking memory.
 
-ghost use Rattle.std.specs.Prelude.{◌≡◌, ◌++◌, [], ◌∷◌, List, IsOk, codes, decimal};
+ghost use Rattle.std.specs.Prelude.{◌≡◌, ◌++◌, [], ◌∷◌, IsOk, codes, decimal};
 ghost use Rattle.port.specs.Faults.{HasCause};
 ghost use Rattle.program_refusal.specs.RefusalName.{refusal_name as name_of_refusal};
 ghost use Rattle.delta_end.specs.Note.{note_of, name_of, refusal_note, table_note, objection_note, place_of, Says};

@@ -1,5 +1,5 @@
 -- Lists written item by item, and read so.
-use Rattle.std.proofs.Common.{◌≡◌, ◌∙◌, ◌+◌, ℕ, List, [], ◌∷◌, ◌++◌, map, length, ap, refl, sym, append_assoc, length-append}
+use Rattle.std.proofs.Common.{◌≡◌, ◌∙◌, ◌+◌, ℕ, List, [], ◌∷◌, ◌++◌, map, length, ap, sym, append_assoc, length-append}
 use Rattle.std.specs.List.{concat}
 use Rattle.std.proofs.lemmas.List.{append-nil, map-append, length-map}
 use Rattle.std.proofs.lemmas.List.Folds.{concat-append}
@@ -29,10 +29,6 @@ read_all f g xs n bytes start rest e k len =
     e
     ∙ (ap (λ bs. short_bytes n ++ bs) k
     ∙ (sym (append_assoc (short_bytes n) (items_bytes f g xs) rest) ∙ ap (λ m. (short_bytes m ++ items_bytes f g xs) ++ rest) (sym len ∙ sym (length-map xs g))))
-
--- nothing was read before the first item
-pub read_none : {A B : Type 0} (f : B → List ℕ) (g : A → B) (start : List ℕ) → start ≡ items_bytes f g [] ++ start
-read_none f g start = refl
 
 -- what was read with what was pushed
 pub read_next : {A B : Type 0} (f : B → List ℕ) (g : A → B) (xs next : List A) (x y : A) (start rest behind : List ℕ) → next ≡ xs ++ x ∷ [] → x ≡ y → start ≡ items_bytes f g xs ++ rest → rest ≡ f (g y) ++ behind → start ≡ items_bytes f g next ++ behind

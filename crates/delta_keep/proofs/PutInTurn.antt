@@ -1,15 +1,11 @@
 -- Bytes that are put out in turn.
-use Rattle.std.proofs.Common.{◌≡◌, ◌∙◌, ◌<◌, ◌≤◌, ◌+◌, ℕ, zero, suc, Bool, false, List, [], ◌∷◌, ◌++◌, map, length, take, get_or, ap, refl, sym, arith, append_assoc}
+use Rattle.std.proofs.Common.{◌≡◌, ◌∙◌, ◌<◌, ◌+◌, ℕ, zero, suc, Bool, false, List, [], ◌∷◌, ◌++◌, length, take, get_or, ap, refl, sym, arith, append_assoc}
 use Rattle.std.specs.Int.{from_bool}
-use Rattle.std.proofs.lemmas.List.{append-nil, length-map, take_all, take_more}
-use Rattle.kept_state.specs.KeptBytes.{short_bytes, list_bytes, bool_bytes}
+use Rattle.std.proofs.lemmas.List.{take_more}
+use Rattle.kept_state.specs.KeptBytes.{bool_bytes}
 use Rattle.delta_keep.specs.declared.output.Output.{Output}
 use Rattle.delta_keep.specs.Putting.{Puts}
 use Rattle.delta_keep.proofs.Lists.{items_bytes, one_more}
-
--- nothing is put out where nothing happens
-pub puts_none : (o : Output) → Puts o o []
-puts_none o = record { begun = λ k. k; put = λ k. sym (append-nil o.bytes.items) }
 
 -- the same bytes, said otherwise
 pub puts_same : {o0 o1 : Output} {a b : List ℕ} → a ≡ b → Puts o0 o1 a → Puts o0 o1 b
@@ -50,11 +46,6 @@ pub puts_more : {A B : Type 0} (f : B → List ℕ) (g : A → B) (xs : List A) 
     → Puts start next (items_bytes f g (take (i + 1) xs))
 puts_more f g xs i x h is p q =
     puts_same (sym (one_more f g (take i xs) x) ∙ ap (λ ys. items_bytes f g ys) (ap (λ y. take i xs ++ y ∷ []) is ∙ sym (take_more xs i x h))) (puts_2 p q)
-
--- what was put out when all items were
-pub puts_all : {A B : Type 0} (f : B → List ℕ) (g : A → B) (xs : List A) (i n : ℕ) {old start out : Output} → length xs ≤ i → n ≡ length xs → Puts old start (short_bytes n) → Puts start out (items_bytes f g (take i xs)) → Puts old out (list_bytes f (map g xs))
-puts_all f g xs i n h len p q =
-    puts_2 (puts_same (ap short_bytes (len ∙ sym (length-map xs g))) p) (puts_same (ap (λ ys. items_bytes f g ys) (take_all i xs h)) q)
 
 -- an element that is there is the same whatever stands for one that isn't
 get_there : {A : Type 0} (xs : List A) (i : ℕ) (d e : A) → i < length xs → get_or xs i d ≡ get_or xs i e

@@ -14,7 +14,7 @@ use Rattle.delta_keep.specs.Putting.{Puts, IsCounted}
 use Rattle.delta_keep.specs.Reads.{FitsList}
 use Rattle.delta_keep.specs.Written.{written_node, written_argument}
 use Rattle.delta_keep.proofs.Lists.{items_bytes}
-use Rattle.delta_keep.proofs.PutInTurn.{puts_none, puts_more}
+use Rattle.delta_keep.proofs.PutInTurn.{puts_more}
 use Rattle.delta_keep.proofs.ReadLists.{all_more}
 
 -- what was put out before can be counted too,
@@ -132,10 +132,6 @@ list_fits_count f ys {o0} {o1} h p n =
 pub record PutSome {A B : Type 0} (f : B → List ℕ) (g : A → B) (Fits : B → Type 0) (start out : Output) (xs : List A) : Type 0 where
   pub puts : Puts start out (items_bytes f g xs)
   pub sizes : IsCounted out → AllByRecursion Fits (map g xs)
-
--- none at first,
-pub some_none : {A B : Type 0} (f : B → List ℕ) (g : A → B) (Fits : B → Type 0) (o : Output) → PutSome f g Fits o o []
-some_none f g Fits o = record { puts = puts_none o; sizes = λ n. tt }
 
 -- then one more,
 pub some_more : {A B : Type 0} (f : B → List ℕ) (g : A → B) (Fits : B → Type 0) (xs : List A) (i : ℕ) (x : A) {start out next : Output} → i < length xs → x ≡ get_or xs i x

@@ -1,6 +1,6 @@
 //! What is counted of a word.
 
-ghost use Rattle.std.specs.Prelude.{◌≡◌, ◌+◌, ◌^◌, ◌≤◌, ◌⊎◌, [], ◌∷◌, ◌++◌, List, length, IfSome, IsNone};
+ghost use Rattle.std.specs.Prelude.{◌≡◌, ◌+◌, [], ◌∷◌, ◌++◌, List, length, IfSome, IsNone};
 ghost use Rattle.event_word.specs.StreamEvent.{StreamEvent};
 ghost use Rattle.event_frame.specs.declared.version.Version.TheVariants.{V1};
 ghost use Rattle.event_frame.specs.Frames.{frame};

@@ -1,14 +1,9 @@
 -- What is left of an input, one read on.
-use Rattle.std.proofs.Common.{◌≡◌, ℕ, ◌≤◌, List, [], ◌∷◌, ◌++◌, true, Option, Some, length, take, ◌∙◌, ap, sym, refl, append_assoc, append-nil, arith, length-take}
+use Rattle.std.proofs.Common.{◌≡◌, ℕ, ◌≤◌, List, [], ◌++◌, Option, Some, length, take, ◌∙◌, ap, sym, refl, append_assoc, append-nil, arith, length-take}
 use Rattle.port.specs.Told.{Loses, IsUsedUp}
-use Rattle.delta_loop.specs.History.{is_empty}
 
 pub nothing_taken : (n : ℕ) (xs : List ℕ) → n ≤ length xs → take n xs ≡ [] → n ≡ 0
 nothing_taken n xs within none = omega (arith, length-take n xs, ap length none)
-
-pub empty_is : (xs : List ℕ) → is_empty xs ≡ true → xs ≡ []
-empty_is [] is = refl
-empty_is (x ∷ xs) is = cc
 
 pub loses_nothing : (old new : Option (List ℕ)) → new ≡ old → Loses old new []
 loses_nothing old new same told is = (told, same ∙ is, refl)

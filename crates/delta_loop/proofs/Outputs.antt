@@ -3,7 +3,6 @@ use Rattle.std.proofs.Common.{◌≡◌, ℕ, List, [], ◌∷◌, ◌++◌, Opt
 use Rattle.event_word.specs.StreamEvent.{StreamEvent}
 use Rattle.event_word.specs.declared.fault.EventFault.{EventFault}
 use Rattle.event_frame.specs.Reading.{whole}
-use Rattle.event_frame.proofs.MoreBytes.{more_bytes}
 use Rattle.delta_loop.specs.Meaning.{Meaning}
 use Rattle.delta_loop.specs.Output.{up_to_fault, accepted, accepted_after, answers_after, opening, output, due}
 use Rattle.delta_loop.specs.Return.{Begins}
@@ -72,20 +71,3 @@ accepted_front P before (x ∷ word) more all = by_fault (P.fault before x) all 
 -- what is written for a front of the accepted events is a part of what is due
 pub output_begins : (P : Meaning) (input : List ℕ) (word : List StreamEvent) → Begins word (accepted P (whole input)) → Begins (output P word) (due P input)
 output_begins P input word begins = (answers_after P word begins.0, ap (output P) begins.1 ∙ output-append P word begins.0)
-
--- what is accepted of a front of a word is a front of what is accepted of the word
-pub accepted_grows : (P : Meaning) (before word more : List StreamEvent) → Begins (accepted_after P before word) (accepted_after P before (word ++ more))
-accepted_grows P before [] more = (accepted_after P before more, refl)
-accepted_grows P before (x ∷ word) more = by_fault (P.fault before x) (accepted_grows P (before ++ x ∷ []) word more)
-  where
-    by_fault : (o : Option EventFault) → Begins (accepted_after P (before ++ x ∷ []) word) (accepted_after P (before ++ x ∷ []) (word ++ more))
-        → Begins (up_to_fault o x (accepted_after P (before ++ x ∷ []) word)) (up_to_fault o x (accepted_after P (before ++ x ∷ []) (word ++ more)))
-    by_fault None begins = (begins.0, ap (λ (w : List StreamEvent). x ∷ w) begins.1)
-    by_fault (Some fault) begins = ([], refl)
-
--- nothing that was due is revised where more bytes come
-pub due_grows : (P : Meaning) (bytes more : List ℕ) → Begins (due P bytes) (due P (bytes ++ more))
-due_grows P bytes more =
-    let events = (more_bytes bytes more).0 in
-    let grows = accepted_grows P [] (whole bytes) events.0 in
-    output_begins P (bytes ++ more) (accepted P (whole bytes)) (grows.0, ap (accepted P) events.1 ∙ grows.1)

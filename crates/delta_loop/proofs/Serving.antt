@@ -17,10 +17,10 @@ use Rattle.delta_loop.specs.Output.{accepted, output, due}
 use Rattle.delta_loop.specs.Finding.{byte_finding, finding}
 use Rattle.delta_loop.specs.History.{History, is_empty}
 use Rattle.delta_loop.specs.Return.{MayEnd}
-use Rattle.delta_loop.specs.Loop.{Serves, Feeds, Settles, Goes, Pulls, PullEnds, Ended, Ran, RanTo, IsFresh}
+use Rattle.delta_loop.specs.Loop.{Feeds, Settles, Goes, Pulls, PullEnds, Ended, Ran, RanTo}
 use Rattle.delta_loop.proofs.Early.{ran_early}
 use Rattle.delta_loop.proofs.Findings.{due_all, finding_all}
-use Rattle.delta_loop.proofs.Lefts.{loses_more, read_all, loses_nothing}
+use Rattle.delta_loop.proofs.Lefts.{loses_more, read_all}
 use Rattle.delta_loop.proofs.Limits.{within_limit}
 
 not_empty : (xs : List ℕ) → 0 < length xs → is_empty xs ≡ false
@@ -184,13 +184,3 @@ module _ {M : Type 0} (stands : M → Meaning → List StreamEvent → Type 0) (
         taken = loses_more left left0 left1 now.input bytes now.taken taken;
         used_up = λ never. cc;
       } refl
-
--- before the first read
-pub goes_first : {M : Type 0} (stands : M → Meaning → List StreamEvent → Type 0) (P : Meaning) (start log : Option (List Move)) (left : Option (List ℕ)) (m : M) (r : FrameReader)
-    → Serves stands P start log m [] [] → IsFresh r → Goes stands P start log left left m r 0
-goes_first stands P start log left m r serves fresh = record {
-  input = [];
-  settles = record { word = []; serves = serves; reads = fresh.reads; all = refl; sound = λ fault e. cc };
-  count = refl;
-  taken = loses_nothing left left refl;
-}

@@ -4,7 +4,7 @@ ghost use Rattle.std.specs.Prelude.{◌≡◌, ◌≢◌, ◌⊎◌};
 ghost use Rattle.port.specs.Faults.{Rose};
 ghost use Rattle.delta_end.specs.declared.end.End.{End};
 ghost use Rattle.delta_loop.specs.Answer.{Adds, AtReturn, IsComplete, ReadsWell};
-ghost use Rattle.delta_end.specs.Status.{AnswerOf, IsStatus, IsStill};
+ghost use Rattle.delta_end.specs.Status.{IsStatus, IsStill};
 ghost use Rattle.delta_end.specs.End.{IsOfLoop, ReadCause, WriteCause};
 ghost use Rattle.delta_loop.specs.Loop.{RanTo, IsFresh};
 ghost use Rattle.delta_loop.specs.Meaning.{Meaning, Begun, HasBegun};

@@ -1,6 +1,6 @@
 //! The loop: reads the input to its end, and answers each event as soon as its frame is whole.
 
-ghost use Rattle.std.specs.Prelude.{◌≡◌, ◌≢◌, ◌≤◌, ◌^◌, [], List, ℕ, true, Option};
+ghost use Rattle.std.specs.Prelude.{◌≡◌, ◌≢◌, ◌^◌, [], List, ℕ, true, Option};
 ghost use Rattle.port.specs.declared.link.Move.{Move};
 ghost use Rattle.event_word.specs.StreamEvent.{StreamEvent};
 ghost use Rattle.event_frame.specs.declared.fault.FrameFault.{FrameFault};

@@ -1,6 +1,6 @@
 //! A program that runs event by event, as the loop sees it.
 
-ghost use Rattle.std.specs.Prelude.{◌≡◌, ◌++◌, [], ◌∷◌, List, ℕ, None, Some, true, IfOk, OnErr, IsErrOf};
+ghost use Rattle.std.specs.Prelude.{◌≡◌, ◌++◌, [], ◌∷◌, List, None, Some, true, IfOk, OnErr, IsErrOf};
 ghost use Rattle.event_word.specs.StreamEvent.{StreamEvent};
 ghost use Rattle.delta_loop.specs.declared.stepper.StepFault.TheVariants.{Memory as OutOfMemory};
 ghost use Rattle.delta_loop.specs.Meaning.{Meaning, Stands, IsCostly, IsDeep};

@@ -1,6 +1,6 @@
 -- The run of the main program, in a scope of its parameters.
 use mathlib.Core.Path.{fun_ext}
-use Rattle.std.proofs.Common.{◌≡◌, ℕ, List, [], refl, ap, ◌∙◌}
+use Rattle.std.proofs.Common.{◌≡◌, ℕ, List, [], ap, ◌∙◌}
 use Rattle.stream_type.specs.StreamType.{StreamType, eps}
 use Rattle.stream_prefix.specs.StreamPrefix.{StreamPrefix, eps_emp}
 use Rattle.bunch.specs.Names.{value_at}
@@ -27,10 +27,6 @@ params_have_types b xs ts e h = ap (λ l. value_at eps l ts) e ∙ (ap (value_at
 -- what has come on them
 params_have_parts : (b : BunchTree) (xs : List ℕ) (ps : List StreamPrefix) (p : StreamPrefix) → xs ≡ leaf_names b → ps ≡ parts b p → value_at eps_emp xs ps ≡ split b p
 params_have_parts b xs ps p e h = ap (λ l. value_at eps_emp l ps) e ∙ (ap (value_at eps_emp (leaf_names b)) h ∙ parts_are_split b p)
-
--- no entry gives no name a value
-no_entries : environment_of [] ≡ no_past
-no_entries = refl
 
 -- of equal functions, names of types and parameters a body gives equal runs
 pub same_main_runs : (bs cs : List SourceBody) (k n : ℕ) (ns ms : TypeNames) (e : Expression) (b : BunchTree) (t u : StreamType) (xs : List ℕ) (ts : List StreamType) (ps : List StreamPrefix) (p : StreamPrefix)

@@ -70,10 +70,6 @@ place_last (t ∷ ts) n d z h =
     let e : length (t ∷ ts) - 1 ≡ length ts = omega arith in
     rw e (place_past 0 t ts n d h)
 
-pub place_none : (ts : List Token) (n : ℕ) → length ts ≡ 0 → place_at (lexemes ts) n ≡ 0
-place_none [] n z = refl
-place_none (t ∷ ts) n z = absurd (omega arith)
-
 -- a token as the grammar sees it, from its parts
 pub token_made : (names : List (List ℕ)) (t : Token) (k : Terminal) (name : ℕ) (number : ℤ) → k ≡ terminal_of t.kind t.text.now → name ≡ name_of names t.kind t.text.now → number ≡ worth_of t.kind t.text.now
     → record { kind = k; at = t.at; worth = record { name = name; number = number } } ≡ token_with names (lexeme_of t)

@@ -2,7 +2,7 @@
 
 ghost use Rattle.std.specs.Prelude.{◌≡◌, false, IfOk, OnOk, IfSome, IfNone};
 ghost use Rattle.delta_parse.specs.Terminals.{plain_of, plains};
-ghost use Rattle.delta_parse.specs.Bindings.{in_header, in_type, before_first, behind_first, stand_within, stand_after, rivals, has, is_full, is_repeated, is_excess, with_name, with_token, after_token, begun, none_bound, bound_of, IsFaultOf, IsFirstFault};
+ghost use Rattle.delta_parse.specs.Bindings.{in_header, in_type, before_first, behind_first, stand_within, stand_after, rivals, has, is_full, is_repeated, is_excess, with_name, after_token, none_bound, bound_of, IsFaultOf, IsFirstFault};
 
 use crate::plain::Plain;
 use crate::terminal::{Terminal, same_kind};

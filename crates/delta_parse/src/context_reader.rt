@@ -19,14 +19,7 @@ use bunch::Name;
 use delta_tree::{Ctx, TyExp};
 use std::alloc::Global;
 
-/// The stream parameters of a function in their brackets, and the tokens after them.
-pub fn read_parameters<'a>(alloc: Global, tokens: &'a [Plain]) -> Result<(Ctx, &'a [Plain]), Halt>
-    ensures given { Gives (λ x. context_of x.0) (λ x. plains x.1.now) result (reading parameters (plains tokens.now)) }
-    ensures shorter { IfOk result (λ x. length x.1.now < length tokens.now) }
-{
-    read_bracketed(alloc, tokens)
-}
-
+// The stream parameters of a function in their brackets, and the tokens after them.
 pub(crate) fn read_bracketed<'a>(
     alloc: Global,
     tokens: &'a [Plain],

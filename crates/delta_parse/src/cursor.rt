@@ -14,7 +14,9 @@ use std::alloc::{AllocError, AllocFailed};
 /// Why a reader stopped: no memory, or so many tokens are left, of which the first doesn't fit.
 #[derive(Drop)]
 pub enum Halt {
+    /// Memory was wanting.
     Memory,
+    /// So many tokens are left, and the first of them doesn't fit.
     At(usize),
 }
 

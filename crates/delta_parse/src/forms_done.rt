@@ -2,7 +2,7 @@
 //!
 //! Nothing here calls back, so the readers that go through an expression have little more than their calls.
 
-ghost use Rattle.std.specs.Prelude.{◌≡◌, ◌<◌, ℕ, List, [], ◌∷◌, length, map};
+ghost use Rattle.std.specs.Prelude.{◌≡◌, ◌<◌, ℕ, List, length, map};
 ghost use Rattle.grammar.specs.Reading.{Outcome, got};
 ghost use Rattle.delta_tree.specs.SyntaxTree.{Expression, WrittenHist, wait_at, if_at, typed_at, call_at, call_head, typed_head};
 ghost use Rattle.delta_tree.specs.Tree.{expression_of, expression_form_of, head_of, head_form_of, hist_of, type_tree_of};

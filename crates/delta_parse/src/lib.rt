@@ -27,7 +27,7 @@ mod types_done;
 mod whole_reader;
 
 pub use bindings::{NameFault, first_name_fault};
-pub use context_reader::{read_entry, read_parameters};
+pub use context_reader::read_entry;
 pub use cursor::Halt;
 pub use fault::ParseFault;
 pub use history_reader::{read_histories, read_history};

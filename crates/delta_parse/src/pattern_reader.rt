@@ -17,8 +17,11 @@ use bunch::Name;
 /// What a `let` binds: one name, or two that come at once or one after the other.
 #[derive(Clone, Copy)]
 pub enum Pattern {
+    /// `x`
     One(Name),
+    /// `(x, y)`
     AtOnce(Name, Name),
+    /// `(x; y)`
     InTurn(Name, Name),
 }
 

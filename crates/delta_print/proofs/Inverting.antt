@@ -7,9 +7,6 @@ use Rattle.delta_parse.specs.Parts.{Thing, delta, Meant, RuleFor}
 use Rattle.delta_parse.specs.Rules.{rule_of}
 use Rattle.delta_parse.specs.Tables.{delta_grammar}
 
-abbrev pub Derived : {s : Sort Thing} → RuleFor s → List Tok → Meant s → Type 0
-Derived {s = s} a ts v = Derives delta delta_grammar s a ts v
-
 -- one part after the other
 pub record InTwo {s t : Sort Thing} (a : RuleFor s) (b : RuleFor t) (ts : List Tok) (x : Meant s) (y : Meant t) : Type 0 where
   pub front : List Tok

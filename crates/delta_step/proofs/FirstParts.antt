@@ -11,7 +11,7 @@ use Rattle.delta_step.specs.declared.reached.Reached.{Reached}
 use Rattle.delta_step.specs.declared.reached.Arguments.{Arguments}
 use Rattle.delta_step.specs.Reached.{run_of, rest_of}
 use Rattle.delta_step.specs.Gives.{Gives, GivesAll}
-use Rattle.delta_step.proofs.Giving.{stopped, all_stopped, one_part}
+use Rattle.delta_step.proofs.Giving.{stopped, one_part}
 
 -- the same run and the same state under other names
 pub same_gives : {r : Result Reached Stop} {x y : Run} {s t : StateTree} {n l : ℕ} → x ≡ y → s ≡ t → Gives r x s n l → Gives r y t n l
@@ -20,13 +20,6 @@ same_gives {r} {x} {y} {s} {t} {n} {l} e f h = subst (λ (z : Run). Gives r z t 
 -- the first part stops
 pub part_ends : {stop : Stop} {y z : Run} {t u : StateTree} {m n j l : ℕ} → (m < y.calls → n < z.calls) → (j < y.level → l < z.level) → Gives (Err stop) y t m j → Gives (Err stop) z u n l
 part_ends {stop} {y} {z} {t} {u} {m} {n} {j} {l} f g h = stopped stop z u n l (λ q. f (h.spent q)) (λ q. g (h.deep q))
-
--- the first arguments stop, or an argument does
-pub arguments_end : {stop : Stop} {y : Runs} {z : Run} {t : ArgumentTrees} {u : StateTree} {m n j l : ℕ} → (m < y.calls → n < z.calls) → (j < y.level → l < z.level) → GivesAll (Err stop) y t m j → Gives (Err stop) z u n l
-arguments_end {stop} {y} {z} {t} {u} {m} {n} {j} {l} f g h = stopped stop z u n l (λ q. f (h.spent q)) (λ q. g (h.deep q))
-
-pub argument_ends : {stop : Stop} {y : Run} {z : Runs} {t : StateTree} {u : ArgumentTrees} {m n j l : ℕ} → (m < y.calls → n < z.calls) → (j < y.level → l < z.level) → Gives (Err stop) y t m j → GivesAll (Err stop) z u n l
-argument_ends {stop} {y} {z} {t} {u} {m} {n} {j} {l} f g h = all_stopped stop z u n l (λ q. f (h.spent q)) (λ q. g (h.deep q))
 
 -- the first of two, which isn't whole: the second waits
 pub turn_waits : (one : Reached) (whole : Result Reached Refused) (q : Result Reached Stop) (x y : Run) (s u : StateTree) (later : LaterTree) (n l : ℕ)

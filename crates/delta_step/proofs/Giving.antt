@@ -23,9 +23,6 @@ all_stopped stop x s n l f g = record { runs = tt; rests = tt; counted = tt; sha
 pub refused : (x : Run) (s : StateTree) (n l : ℕ) → Gives (Err Memory) x s n l
 refused x s n l = stopped Memory x s n l (λ q. cc) (λ q. cc)
 
-pub all_refused : (x : Runs) (s : ArgumentTrees) (n l : ℕ) → GivesAll (Err Memory) x s n l
-all_refused x s n l = all_stopped Memory x s n l (λ q. cc) (λ q. cc)
-
 -- a step gives something
 pub given : (a : Reached) (x : Run) (s : StateTree) (n l : ℕ) → run_of a ≡ x → rest_of a ≡ s → x.calls ≤ n → x.level ≤ l → Gives (Ok a) x s n l
 given a x s n l e f h k =
@@ -34,17 +31,6 @@ given a x s n l e f h k =
       rest = f;
       counted = subst (λ (z : Run). z.calls ≤ n) (sym e) h;
       shallow = subst (λ (z : Run). z.level ≤ l) (sym e) k;
-      spent = tt;
-      deep = tt;
-    }
-
-pub all_given : (a : Arguments) (x : Runs) (s : ArgumentTrees) (n l : ℕ) → runs_of a ≡ x → rests_of a ≡ s → x.calls ≤ n → x.level ≤ l → GivesAll (Ok a) x s n l
-all_given a x s n l e f h k =
-    record {
-      runs = e;
-      rests = f;
-      counted = subst (λ (z : Runs). z.calls ≤ n) (sym e) h;
-      shallow = subst (λ (z : Runs). z.level ≤ l) (sym e) k;
       spent = tt;
       deep = tt;
     }

@@ -2,7 +2,6 @@
 
 ghost use Rattle.std.specs.Prelude.{◌≡◌, IfOk};
 ghost use Rattle.hist_value.specs.HistExpr.{expr_of};
-ghost use Rattle.delta_tree.specs.SyntaxTree.{WrittenHist};
 ghost use Rattle.delta_tree.specs.Tree.{type_form_of, type_tree_of, expression_form_of, expression_of, head_form_of, head_of, hist_of};
 
 use crate::expressions::{Exp, Form, Head, HeadForm, Hist};

@@ -24,15 +24,6 @@ pub record IsReadSoFar (word : List ℕ) (i value : ℕ) : Type 0 where
 split : (word : List ℕ) (i : ℕ) → i < length word → drop i word ≡ get_or word i 0 ∷ drop (i + 1) word
 split word i lt = rw add-one (drop-cons word i 0 lt)
 
--- a word that isn't digits is no number
-no_number : (most limit : ℕ) (word : List ℕ) → all_ascii_digits word ≡ false → number_within most limit word ≡ None
-no_number most limit word other = go (nat_lt 0 (length word)) (nat_le (length word) most) (nat_le (digits_value 10 word) limit)
-  where
-    go : (a b c : Bool) → cond ((a && (b && all_ascii_digits word)) && c) (Some (digits_value 10 word)) None ≡ None
-    go true true c = rw other refl
-    go true false c = refl
-    go false b c = refl
-
 -- a number above the limit is none
 above : (most limit : ℕ) (word : List ℕ) → limit < digits_value 10 word → number_within most limit word ≡ None
 above most limit word high = go (has_digits most word) (nat_le (digits_value 10 word) limit) refl
@@ -42,23 +33,11 @@ above most limit word high = go (has_digits most word) (nat_le (digits_value 10 
     go true false e = refl
     go false b e = refl
 
-pub not_digit : (most limit : ℕ) (word : List ℕ) (i value : ℕ) → IsReadSoFar word i value → i < length word → is_ascii_digit (get_or word i 0) ≡ false
-    → number_within most limit word ≡ None
-not_digit most limit word i value so_far lt other =
-    no_number most limit word (sym so_far.digits ∙ (rw (split word i lt, other) refl))
-
 pub too_high : (most limit : ℕ) (word : List ℕ) (i value : ℕ) → IsReadSoFar word i value → i < length word
     → limit < value * 10 + digit_value (get_or word i 0) → number_within most limit word ≡ None
 too_high most limit word i value so_far lt high =
     let e = (rw (split word i lt) at so_far.value_is) in
     above most limit word (omega (arith, e, grows (value * 10 + digit_value (get_or word i 0)) (drop (i + 1) word)))
-
-pub one_more : (word : List ℕ) (i value : ℕ) → IsReadSoFar word i value → i < length word → is_ascii_digit (get_or word i 0) ≡ true
-    → IsReadSoFar word (i + 1) (value * 10 + digit_value (get_or word i 0))
-one_more word i value so_far lt is = record {
-  value_is = (rw (split word i lt) at so_far.value_is);
-  digits = (rw (split word i lt, is) at so_far.digits);
-}
 
 -- what the first digits of a schedule, read so far, say of it
 pub record IsNamedSoFar (tables : ℕ) (word : List ℕ) (i : ℕ) (numbers : List ℕ) : Type 0 where

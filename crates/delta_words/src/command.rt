@@ -6,26 +6,42 @@ ghost use Rattle.delta_words.specs.Commands.{command_of, operands_alone, takes_o
 /// The command that the first word of a command line names.
 #[derive(Clone, Copy)]
 pub enum Command {
+    /// `run`
     Run,
+    /// `eval`
     Eval,
+    /// `check`
     Check,
+    /// `print`
     Print,
+    /// `text`
     Text,
+    /// `gen`
     Gen,
+    /// `bound`
     Bound,
+    /// `derive`
     Derive,
+    /// `feed`
     Feed,
+    /// `save`
     Save,
+    /// `resume`
     Resume,
 }
 
 /// What a command takes: how many operands must stand there and how many may, and which options, each at most once.
 #[derive(Clone, Copy)]
 pub struct Takes {
+    /// How many operands must stand there.
     pub operands: usize,
+    /// How many may.
     pub most: usize,
+    /// Whether `--budget` may stand there, with a number.
     pub budget: bool,
+    /// Whether `--v2` may.
     pub v2: bool,
+    /// Whether `--frames` may.
     pub frames: bool,
 }
 

@@ -12,10 +12,13 @@ use std::alloc::Global;
 /// What was read of a command line behind its first word.
 #[derive(Drop)]
 pub struct Line<'a> {
+    /// The operands, in turn.
     pub operands: Vec<&'a str>,
     /// The value of `--budget`.
     pub budget: Option<&'a [u8]>,
+    /// Whether `--v2` was read.
     pub v2: bool,
+    /// Whether `--frames` was.
     pub frames: bool,
     /// Whether `--` was read, after which each word is an operand.
     pub ended: bool,

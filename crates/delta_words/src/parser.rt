@@ -1,7 +1,7 @@
 //! The command as clap reads it, built from what each command takes.
 
-ghost use Rattle.std.specs.Prelude.{◌≡◌, ◌≢◌, [], false, map, string_bytes, IfOk, IfErr, nat_lt};
-ghost use Rattle.clap.specs.Words.{App, app_of, rule_of, new_app, with_subcommand, fault_of, subcommand_of, subcommand_rows_of};
+ghost use Rattle.std.specs.Prelude.{◌≡◌, ◌≢◌, [], false, map, string_bytes, IfOk, IfErr};
+ghost use Rattle.clap.specs.Words.{App, app_of, rule_of, with_subcommand, fault_of, subcommand_of, subcommand_rows_of};
 ghost use Rattle.clap.specs.declared.builder.Command.TheViews.{out-Command as fields_of};
 ghost use Rattle.delta_words.specs.ClapCommand.{Make, delta_app, delta_top, leaf_app, operand_that, option_that, with_rule_if, with_rules_of};
 ghost use Rattle.delta_words.specs.Commands.{takes_of};

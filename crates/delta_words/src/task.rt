@@ -14,7 +14,9 @@ use std::alloc::Global;
 /// The version of the frames that are written.
 #[derive(Clone, Copy, Debug, PartialEq, Eq)]
 pub enum Version {
+    /// Version 1: a path is a byte for each step.
     V1,
+    /// Version 2: a path is two bits for each step.
     V2,
 }
 

@@ -7,11 +7,6 @@ use Rattle.event_frame.specs.declared.version.Version.TheVariants.{V2}
 use Rattle.event_frame.specs.Frames.{step_code}
 use Rattle.event_frame.specs.Reading.{step_of, parts, Taken, before, first_then}
 
-pub step_of-step_code : (s : Step) → step_of (step_code s) ≡ Some s
-step_of-step_code Left = refl
-step_of-step_code Right = refl
-step_of-step_code First = refl
-
 pub code_below : (s : Step) → step_code s < 4
 code_below Left = omega arith
 code_below Right = omega arith

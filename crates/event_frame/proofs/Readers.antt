@@ -35,10 +35,6 @@ reads_on r all word reads = by_version r.version reads.split reads.place reads.e
         four V1 = refl
         four V2 = refl
 
--- the bytes pushed are those taken and those kept
-pub length_pushed : (r : FrameReader) (all : List ℕ) (word : List StreamEvent) → Reads r all word → length all ≡ r.taken + length r.kept
-length_pushed r all word reads = omega (arith, ap length reads.split, length-append (taken_bytes r.version word) r.kept, reads.place)
-
 -- where nothing is read of the kept bytes
 pub ends_so : (r : FrameReader) (end : Ending) → reading_from (place_of r.version) r.taken r.kept ≡ stop end
     → (all : List ℕ) (word : List StreamEvent) → Reads r all word → (whole all ≡ word) × (ending all ≡ end)
@@ -116,13 +112,6 @@ takes_header old new v more is kept is_new taken kept_new all word reads =
 pub header_bytes : (v : Version) (more : List ℕ) → header v ++ more ≡ 0x44 ∷ 0x45 ∷ 0x56 ∷ digit v ∷ more
 header_bytes V1 more = refl
 header_bytes V2 more = refl
-
--- bytes begin with one header
-pub one_header : (v w : Version) (a b : List ℕ) → header v ++ a ≡ header w ++ b → v ≡ w
-one_header V1 V1 a b e = refl
-one_header V2 V2 a b e = refl
-one_header V1 V2 a b e = let clash : ◌≡◌ {A = ℕ} 0x31 0x32 = cc in absurd (let none : ⊥ = omega arith in none)
-one_header V2 V1 a b e = let clash : ◌≡◌ {A = ℕ} 0x32 0x31 = cc in absurd (let none : ⊥ = omega arith in none)
 
 -- a header's step and then a frame's
 pub next_event : (result : Result (Option StreamEvent) FrameFault) (old mid new : FrameReader) → Stays old mid

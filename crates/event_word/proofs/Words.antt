@@ -1,10 +1,10 @@
 -- Words, and the prefixes that they stand for.
-use Rattle.std.proofs.Common.{◌≡◌, ◌≤◌, List, [], ◌∷◌, ◌++◌, refl, sym, ap, ◌∙◌, arith}
+use Rattle.std.proofs.Common.{◌≡◌, List, [], ◌∷◌, ◌++◌, refl, sym, ap, ◌∙◌}
 use Rattle.std.specs.Prelude.{IsTrue}
-use Rattle.stream_type.specs.StreamType.{StreamType, eps, one, int, cat, par, sum, star, null_of, reach_of}
+use Rattle.stream_type.specs.StreamType.{StreamType, eps, one, int, cat, par, sum, star, null_of}
 use Rattle.stream_prefix.specs.StreamPrefix.{StreamPrefix, emp, is_maximal, der, join, IsPrefix}
 use Rattle.stream_prefix.proofs.Derivations.{Derives, is_prefix, eps_has_emp, one_has_emp, one_has_full, int_has_emp, int_has_full, par_has_both, cat_has_fst, cat_has_both, sum_has_emp, sum_has_left, sum_has_right, star_has_emp, star_has_done, star_has_first, star_has_rest}
-use Rattle.stream_prefix.proofs.Joins.{emp_is_prefix, der-emp, join-emp, join-emp-der, der-join, join_is_prefix, join_assoc, null_of-der, reach_of-der}
+use Rattle.stream_prefix.proofs.Joins.{emp_is_prefix, der-emp, join-emp, join-emp-der, der-join, join_is_prefix, join_assoc, null_of-der}
 use Rattle.event_word.specs.declared.event.Step.{Step}
 use Rattle.event_word.specs.declared.event.Leaf.{Leaf}
 use Rattle.event_word.specs.StreamEvent.{StreamEvent}
@@ -78,11 +78,6 @@ pre-append s (x ∷ v) w h =
 -- words that stand for one prefix leave one type
 pub after_word-same : (s : StreamType) (v w : List StreamEvent) → IsWord s v → IsWord s w → pre s v ≡ pre s w → after_word v s ≡ after_word w s
 after_word-same s v w h k e = after_word-pre s v h ∙ ap (λ p. der p s) e ∙ sym (after_word-pre s w k)
-
--- no word leaves a type with a greater reach
-pub reach_of-after_word : (s : StreamType) (w : List StreamEvent) → IsWord s w → reach_of (after_word w s) ≤ reach_of s
-reach_of-after_word s w h =
-    let e = ap reach_of (after_word-pre s w h) in omega (arith, e, reach_of-der (word_derives s w h))
 
 -- a word and one event more
 pub word_push : (s : StreamType) (w : List StreamEvent) (x : StreamEvent) → IsWord s w → Admits (der (pre s w) s) x → IsWord s (w ++ x ∷ [])

@@ -27,13 +27,6 @@ other_number k m h = go (int_eq k m) refl
     go false e = refl
     go true e = absurd (true≢false (sym ((Decides-int_eq m k).1 (sym ((Decides-int_eq k m).0 e))) ∙ h))
 
-other_depth : (k m : ℕ) → eqb m k ≡ false → eqb k m ≡ false
-other_depth k m h = go (eqb k m) refl
-  where
-    go : (b : Bool) → eqb k m ≡ b → b ≡ false
-    go false e = refl
-    go true e = absurd (true≢false (sym (eq-eqb m k (sym (eqb-true k m e))) ∙ h))
-
 number_or_found : (f : ℤ → ℤ) (d : ℤ) (ks vs : List ℤ) (n : ℤ) → number_or (f d) ks (map f vs) n ≡ f (number_or d ks vs n)
 number_or_found f d [] vs n = refl
 number_or_found f d (k ∷ ks) [] n = refl

@@ -1,7 +1,7 @@
 -- Names that are distinct, gone through in turn.
-use Rattle.std.proofs.Common.{◌≡◌, ◌∙◌, ◌<◌, ◌≤◌, ◌+◌, ℕ, Bool, true, false, true≢false, ◌&&◌, ◌||◌, not, eqb, List, [], ◌∷◌, ◌++◌, length, get_or, take, drop, refl, ap, ap₂, sym}
+use Rattle.std.proofs.Common.{◌≡◌, ◌∙◌, ◌<◌, ◌+◌, ℕ, Bool, true, false, true≢false, ◌&&◌, ◌||◌, not, eqb, List, [], ◌∷◌, ◌++◌, length, get_or, take, drop, refl, ap, ap₂, sym}
 use Rattle.std.proofs.lemmas.Bool.{eqb-true}
-use Rattle.std.proofs.lemmas.List.{at_drop_more, take_all, take-append-drop, take-map, take_more, length-map}
+use Rattle.std.proofs.lemmas.List.{at_drop_more, take-append-drop, take-map, take_more, length-map}
 use Rattle.std.proofs.Math.Seq.{take-append_seam}
 use Rattle.bunch.specs.declared.name.Name.{Name}
 use Rattle.bunch.specs.Names.{holds, number_of, numbers_of}
@@ -45,10 +45,6 @@ module _ (names : List Name) (i : ℕ) (d : Name) (h : i < length names) where
       go : (b : Bool) → is_distinct (numbers_of names) ≡ b → b ≡ false
       go true e = absurd (distinct_apart (numbers_of (take i names)) (numbers_of (drop i names)) (ap is_distinct parts ∙ e) x f there)
       go false e = refl
-
--- with all of them gone through
-pub all_distinct : (names : List Name) (i : ℕ) → length names ≤ i → is_distinct (numbers_of (take i names)) ≡ true → true ≡ is_distinct (numbers_of names)
-all_distinct names i h d = sym (sym (ap (λ l. is_distinct (numbers_of l)) (take_all i names h)) ∙ d)
 
 -- names that were put behind others, as many as these
 module _ (old new : List Name) (own : List ℕ) (n : ℕ) (h : n ≡ length old) (e : numbers_of new ≡ numbers_of old ++ own) where

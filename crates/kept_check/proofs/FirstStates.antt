@@ -1,5 +1,5 @@
 -- The first state of a kept state that isn't typed, from what is found of its states in turn.
-use Rattle.std.proofs.Common.{◌≡◌, ℕ, zero, suc, ◌+◌, ◌<◌, List, [], ◌∷◌, refl, subst, arith}
+use Rattle.std.proofs.Common.{◌≡◌, ℕ, zero, suc, ◌+◌, ◌<◌, List, [], ◌∷◌, subst, arith}
 use Rattle.std.specs.Prelude.{Option, Some, None, slice_get, IsSomeAnd, Ok, Err}
 use Rattle.core_term.specs.CoreTerm.{CoreBody, CoreProgram}
 use Rattle.delta_state.specs.Stands.{depth_after}
@@ -28,10 +28,6 @@ module _ (funs : List CoreBody) (depth : ℕ) where
   bad_at [] i h = absurd h
   bad_at (k ∷ js) zero h = h
   bad_at (k ∷ js) (suc i) h = bad_at js i h.1
-
--- where it stands in no place of the input, it is the first state
-pub unplaced_first : (c : CoreProgram) (k : KeptTree) → (IsPlaced c k → ⊥) → IsFirstUntyped c k 0
-unplaced_first c k h = record { before = λ m j l e. absurd (omega (arith, l)); fails = λ g. h (g.placed refl) }
 
 -- where nothing is found it is typed
 pub typed_where : (c : CoreProgram) (k : KeptTree) (n next : ℕ) → IsPlaced c k → FindsBad c.funs (depth_after k.events) n (states_kept c k) (Ok next) → IsTypedKept c k

@@ -57,10 +57,6 @@ names_less v m xs ys zs h k x = h x ∙ (holds-joined x xs ys (numbers_of m) ∙
 pub names_once : (v : List Name) (xs : List ℕ) → numbers_of v ≡ once xs → HasNames v xs
 names_once v xs e x = ap (holds x) e ∙ holds-once x xs
 
--- names are the same names
-pub names_same : (v : List Name) → HasNames v (numbers_of v)
-names_same v x = refl
-
 -- a name that is left out, or put in
 module _ (x : ℕ) (found : List Name) (n : Name) (less : List ℕ) where
   same : (l : Bool) → holds n.0 less ≡ l → eqb x n.0 ≡ true → holds x less ≡ l

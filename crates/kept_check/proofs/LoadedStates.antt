@@ -1,13 +1,11 @@
 -- What is told of bytes, from what is found of the states that were read from them.
-use Rattle.std.proofs.Common.{◌≡◌, ◌∙◌, ℕ, Bool, false, true≢false, List, length, ap, sym, subst}
-use Rattle.std.specs.Prelude.{Result, Ok, Err, IsTrue, ◌↔◌}
-use Rattle.std.proofs.lemmas.List.{length-map}
+use Rattle.std.proofs.Common.{◌≡◌, ℕ, List, subst}
+use Rattle.std.specs.Prelude.{Result, Ok, Err}
 use Rattle.stream_type.specs.declared.ty.Ty.{Ty}
 use Rattle.stream_type.specs.StreamType.{StreamType}
 use Rattle.bunch.specs.declared.name.Name.{Name}
 use Rattle.bunch.specs.BunchTree.{leaf_names, stands_before}
 use Rattle.bunch.specs.Facts.{Facts}
-use Rattle.bunch.specs.Names.{numbers_of, number_of}
 use Rattle.core_term.specs.CoreTerm.{CoreProgram}
 use Rattle.core_term.specs.Params.{names_in, types_listed}
 use Rattle.core_term.specs.Typing.{Context}
@@ -17,16 +15,13 @@ use Rattle.delta_state.specs.Stands.{depth_after}
 use Rattle.kept_state.specs.KeptTree.{KeptTree}
 use Rattle.kept_state.specs.KeptTyping.{IsPlaced, context_kept}
 use Rattle.kept_rules.specs.InTurn.{states_of, states_kept}
-use Rattle.kept_rules.specs.FirstUntyped.{IsFirstUntyped}
 use Rattle.delta_keep.specs.declared.kept.Kept.{Kept}
 use Rattle.delta_keep.specs.KeptView.{kept_of}
-use Rattle.kept_check.specs.declared.fault.KeepFault.{KeepFault}
-use Rattle.kept_check.specs.declared.fault.KeepFault.TheVariants.{Memory as NoMemory, Form, Untyped, Version}
 use Rattle.kept_check.specs.declared.stop.Stop.{Stop}
 use Rattle.kept_check.specs.declared.stop.Stop.TheVariants.{Memory, At}
-use Rattle.kept_check.specs.Loading.{TellsKeepFault, TellsForm, TellsStop, TellsTyped}
+use Rattle.kept_check.specs.Loading.{TellsStop, TellsTyped}
 use Rattle.kept_check.specs.Walk.{FindsBad}
-use Rattle.kept_check.proofs.FirstStates.{unplaced_first, first_where, typed_where}
+use Rattle.kept_check.proofs.FirstStates.{first_where, typed_where}
 use Rattle.kept_check.proofs.InputContexts.{input_context}
 
 -- what is found in the scope of main's parameters is found of the states of the kept state
@@ -51,18 +46,3 @@ stop_told c k (At m) p h = first_where c (kept_of k) m p h
 pub typed_told : (c : CoreProgram) (k : Kept) (q : Result ℕ Stop) → IsPlaced c (kept_of k) → FindsBad c.funs (depth_after k.events) 0 (states_kept c (kept_of k)) q → TellsTyped c k q
 typed_told c k (Ok next) p h = typed_where c (kept_of k) 0 next p h
 typed_told c k (Err e) p h = stop_told c k e p h
-
--- there aren't as many types as names
-pub types_missing : (c : CoreProgram) (k : KeptTree) (names : List Name) (m n : ℕ) → numbers_of names ≡ leaf_names c.main.params → m ≡ length names → n ≡ length k.ins → (m ≡ n → ⊥) → IsFirstUntyped c k 0
-types_missing c k names m n e f g h = unplaced_first c k (λ p. h (f ∙ sym (length-map names number_of) ∙ ap length e ∙ sym p.has_types ∙ sym g))
-
--- or it is in no place of the input
-pub not_placed : (c : CoreProgram) (k : KeptTree) (b : Bool) → b ≡ false → (IsTrue b ↔ IsPlaced c k) → IsFirstUntyped c k 0
-not_placed c k b e h = unplaced_first c k (λ p. true≢false (sym (h.1 p) ∙ e))
-
--- what is wrong with the form is told as it is
-pub form_told : (c : CoreProgram) (bytes : List ℕ) (e : KeepFault) → TellsForm bytes (Err e) → TellsKeepFault c bytes (Err e)
-form_told c bytes NoMemory h = tt
-form_told c bytes (Form at) h = h
-form_told c bytes (Untyped n) h = absurd h
-form_told c bytes (Version n) h = h

@@ -1,5 +1,5 @@
 -- A runner that stands at no station takes an event by its machine.
-use Rattle.std.proofs.Common.{◌≡◌, ◌∙◌, ℕ, Option, None, Result, Ok, Err, IfOk, OnErr, List, [], ◌∷◌, ◌++◌, true, sym, ap, subst}
+use Rattle.std.proofs.Common.{◌≡◌, ◌∙◌, ℕ, Option, None, Result, Ok, Err, IfOk, OnErr, List, [], ◌∷◌, ◌++◌, sym, ap, subst}
 use Rattle.stream_type.specs.StreamType.{type_of}
 use Rattle.event_word.specs.StreamEvent.{StreamEvent}
 use Rattle.event_word.specs.EventFault.{fault_of}
@@ -55,10 +55,6 @@ taken_from old mid new x bytes same taken P word s = taken P word ((same P word)
 pub taken_by : (old mid new : Learner) (x : StreamEvent) (bytes : List ℕ) → HasTaken old mid x bytes → ((P : Meaning) (word : List StreamEvent) → StandsFor mid P word → StandsFor new P word)
     → HasTaken old new x bytes
 taken_by old mid new x bytes taken more P word s = let t = taken P word s in (t.0, more P (word ++ x ∷ []) t.1, t.2)
-
--- one that lost an answer stands for nothing
-pub lost_stands_not : (r : Learner) → r.lost ≡ true → (P : Meaning) (word : List StreamEvent) → StandsFor r P word → ⊥
-lost_stands_not r lost P word s = let both = sym lost ∙ s.runs.kept in cc
 
 -- what an answer tells, it tells of whatever follows from it
 pub ok_too : {A E : Type 0} (r : Result A E) (P Q : A → Type 0) → ((x : A) → P x → Q x) → IfOk r P → IfOk r Q

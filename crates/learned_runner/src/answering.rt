@@ -1,6 +1,6 @@
 //! An event taken by the machine, and the frames that answer it.
 
-ghost use Rattle.std.specs.Prelude.{◌≡◌, ◌<◌, ◌≤◌, ◌++◌, ◌∷◌, ◌^◌, [], ℕ, List, Some, None, IfOk, IsErrOf, length};
+ghost use Rattle.std.specs.Prelude.{◌≡◌, ◌<◌, List, Some, None, IfOk, IsErrOf};
 ghost use Rattle.stream_type.specs.StreamType.{type_of};
 ghost use Rattle.event_word.specs.StreamEvent.{StreamEvent};
 ghost use Rattle.event_word.specs.EventFault.{fault_of};

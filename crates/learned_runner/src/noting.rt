@@ -5,12 +5,11 @@ ghost use Rattle.stream_type.specs.StreamType.{type_of};
 ghost use Rattle.machine_parts.specs.AwaitedTree.{awaited_in};
 ghost use Rattle.core_term.specs.CoreTerm.{CoreProgram};
 ghost use Rattle.template_state.specs.Readers.{state_in};
-ghost use Rattle.template_state.specs.Templates.{bodies_in};
 ghost use Rattle.delta_code.specs.CodedView.{program_of};
 ghost use Rattle.stations.specs.StationTree.{station_in, AreRegisters};
 ghost use Rattle.learned_table.specs.StepTree.{step_of};
 ghost use Rattle.step_learning.specs.IsLearned.{IsLearned};
-ghost use Rattle.learned_runner.specs.Book.{At, IsTrue, stations_of, steps_of};
+ghost use Rattle.learned_runner.specs.Book.{At, IsTrue, stations_of};
 ghost use Rattle.learned_runner.specs.Noting.{Grown, StandsThere};
 
 use crate::book::{Book, Known};

@@ -1,6 +1,6 @@
 //! A running program to the loop that learns its steps.
 
-ghost use Rattle.std.specs.Prelude.{◌≡◌, ◌≤◌, ◌++◌, ◌∷◌, [], ℕ, List, Some, None, IsTrue, IfOk, IfSome, OnOk, OnErr, IsErrOf, Ok, Err, Result};
+ghost use Rattle.std.specs.Prelude.{◌≡◌, ◌≤◌, [], List, Some, None, IsTrue, IfOk, IfSome, OnOk, OnErr, IsErrOf, Ok, Err, Result};
 ghost use Rattle.stream_type.specs.StreamType.{reach_of};
 ghost use Rattle.event_word.specs.StreamEvent.{StreamEvent};
 ghost use Rattle.event_word.specs.declared.fault.EventFault.{EventFault};

@@ -1,12 +1,12 @@
 -- What is reckoned of parts, and what was seen of them.
-use Rattle.std.proofs.Common.{◌≡◌, ◌∙◌, ℤ, Option, Some, None, ap, ap₂, sym, subst, refl}
+use Rattle.std.proofs.Common.{◌≡◌, ◌∙◌, ℤ, Option, Some, None, ap, ap₂, sym, subst}
 use Rattle.std.specs.Prelude.{IfSome, IsSomeAnd, Result, Ok, true, Bool}
 use Rattle.std.specs.Ordering.{int_eq}
 use Rattle.stream_type.specs.declared.memory.Memory.{Memory}
 use Rattle.hist_value.specs.declared.expr.Op.{Op}
-use Rattle.hist_value.specs.Evaluate.{value, reckon_values, first_of, second_of}
+use Rattle.hist_value.specs.Evaluate.{value, reckon_values}
 use Rattle.hist_value.specs.HistExpr.{HistExpr, reckoned, pair_expr}
-use Rattle.hist_value.specs.HistValue.{HistValue, unit_value, number, pair_of, left_of, right_of, no_items, item_before}
+use Rattle.hist_value.specs.HistValue.{HistValue, unit_value, number, pair_of}
 use Rattle.core_term.specs.Meaning.{Past}
 use Rattle.filled_states.specs.Registers.{number_at}
 use Rattle.other_numbers.specs.Numbers.{exchanged_value, exchanged_past}
@@ -44,45 +44,6 @@ both_have l op a b past m n result h k g =
     (some_is (λ r. HasNow l b past (reckoned_value r)) n (Number d.second) d.is_second k x longer)
     ∙ d.is)
 
--- a part of what was seen
-part_seen : {V : Type 0} (read : V → HistValue) (part : HistValue → HistValue) → ((f : ℤ → ℤ) (v : HistValue) → part (exchanged_value f v) ≡ exchanged_value f (part v))
-    → (a : HistExpr) (past : Past) (seen result : Option V) → IfSome seen (λ v. (f : ℤ → ℤ) → value a (exchanged_past f past) ≡ exchanged_value f (read v))
-    → IfSome result (λ v. IsSomeAnd seen (λ p. part (read p) ≡ read v))
-    → IfSome result (λ v. (f : ℤ → ℤ) → part (value a (exchanged_past f past)) ≡ exchanged_value f (read v))
-part_seen read part goes a past seen result h g =
-    some_so result g (λ v k f. some_both _ seen h k (λ p whole is. ap part (whole f) ∙ goes f (read p) ∙ ap (exchanged_value f) is))
-
-first_goes : (f : ℤ → ℤ) (v : HistValue) → first_of (exchanged_value f v) ≡ exchanged_value f (first_of v)
-first_goes f unit_value = refl
-first_goes f (number n) = refl
-first_goes f (pair_of v w) = refl
-first_goes f (left_of v) = refl
-first_goes f (right_of v) = refl
-first_goes f no_items = refl
-first_goes f (item_before v w) = refl
-
-second_goes : (f : ℤ → ℤ) (v : HistValue) → second_of (exchanged_value f v) ≡ exchanged_value f (second_of v)
-second_goes f unit_value = refl
-second_goes f (number n) = refl
-second_goes f (pair_of v w) = refl
-second_goes f (left_of v) = refl
-second_goes f (right_of v) = refl
-second_goes f no_items = refl
-second_goes f (item_before v w) = refl
-
-pub first_seen : {V : Type 0} (read : V → HistValue) (a : HistExpr) (past : Past) (seen result : Option V) → IfSome seen (λ v. (f : ℤ → ℤ) → value a (exchanged_past f past) ≡ exchanged_value f (read v))
-    → IfSome result (λ v. IsSomeAnd seen (λ p. first_of (read p) ≡ read v)) → IfSome result (λ v. (f : ℤ → ℤ) → first_of (value a (exchanged_past f past)) ≡ exchanged_value f (read v))
-first_seen read = part_seen read first_of first_goes
-
-pub second_seen : {V : Type 0} (read : V → HistValue) (a : HistExpr) (past : Past) (seen result : Option V) → IfSome seen (λ v. (f : ℤ → ℤ) → value a (exchanged_past f past) ≡ exchanged_value f (read v))
-    → IfSome result (λ v. IsSomeAnd seen (λ p. second_of (read p) ≡ read v)) → IfSome result (λ v. (f : ℤ → ℤ) → second_of (value a (exchanged_past f past)) ≡ exchanged_value f (read v))
-second_seen read = part_seen read second_of second_goes
-
--- what a name stood for, with other numbers
-pub name_seen : {V : Type 0} (read : V → HistValue) (past : Past) (w : HistValue) (result : Option V) → IfSome result (λ v. w ≡ read v)
-    → IfSome result (λ v. (f : ℤ → ℤ) → exchanged_value f w ≡ exchanged_value f (read v))
-name_seen read past w result h = some_so result h (λ v is f. ap (exchanged_value f) is)
-
 -- the number that was found for what was seen
 pub seen_now : {V : Type 0} (read : V → HistValue) (l : RegisterLists) (e : HistExpr) (past : Past) (seen : Option V) (result : Option Reckoned)
     → IfSome seen (λ v. (f : ℤ → ℤ) → value e (exchanged_past f past) ≡ exchanged_value f (read v))
@@ -101,10 +62,6 @@ now_goes a v has g =
 abbrev pub or_unit : {V : Type 0} → (V → HistValue) → Option V → HistValue
 or_unit read (Some v) = read v
 or_unit read None = unit_value
-
-pub found_named : {V : Type 0} (read : V → HistValue) (w : HistValue) (o : Option V) → w ≡ or_unit read o → IfSome o (λ v. w ≡ read v)
-found_named read w None e = tt
-found_named read w (Some v) e = e
 
 -- the number that was found for a key stays
 pub number_found : (l : RegisterLists) (key n m : ℤ) → m ≡ n → beside int_eq l.keys l.numbers key ≡ Some n → (x : RegisterLists) → Longer l x → number (number_at x.keys x.numbers key) ≡ number m

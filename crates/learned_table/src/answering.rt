@@ -1,6 +1,6 @@
 //! The answer of a step that is made again.
 
-ghost use Rattle.std.specs.Prelude.{◌≡◌, ◌≤◌, ◌++◌, length, map, OnOk};
+ghost use Rattle.std.specs.Prelude.{◌≡◌, ◌++◌, map, OnOk};
 ghost use Rattle.event_word.specs.declared.event.Leaf.TheVariants.{Int};
 ghost use Rattle.event_word.specs.StreamEvent.{IsWithin};
 ghost use Rattle.event_frame.specs.Frames.{frames, longest};

@@ -6,7 +6,7 @@ ghost use Rattle.delta_state.specs.StateTree.{held_names};
 ghost use Rattle.delta_state.specs.StateMeaning.{types_held};
 ghost use Rattle.delta_state.specs.PlaceTree.{place_of};
 ghost use Rattle.machine_parts.specs.Entry.{entry_in};
-ghost use Rattle.machine_parts.specs.AwaitedTree.{awaited_in, still_entries, marks_of, place_in};
+ghost use Rattle.machine_parts.specs.AwaitedTree.{awaited_in, marks_of, place_in};
 
 use crate::awaited::{Awaited, still};
 use crate::entry::Entry;

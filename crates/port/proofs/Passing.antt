@@ -57,11 +57,6 @@ pub first_is : (piece : List ℕ) (at : ℕ) (rest view : List (List ℕ)) → S
 first_is piece at rest view stands =
     sym (first_of_put (drop at piece) rest (front_last piece at rest view stands)) ∙ ap first_piece stands.seen
 
--- where nothing of it is left, nothing is left at all
-pub none_left : (piece : List ℕ) (at : ℕ) (rest view : List (List ℕ)) → Stands piece at rest view → drop at piece ≡ [] → view ≡ []
-none_left piece at rest view stands none =
-    sym stands.seen ∙ (ap (λ front. put_piece front rest) none ∙ front_last piece at rest view stands none)
-
 -- the bytes passed over are within the piece
 pub pass_fits : (piece : List ℕ) (at count : ℕ) (rest view : List (List ℕ)) → Stands piece at rest view → count ≤ length (first_piece view) → at + count ≤ length piece
 pass_fits piece at count rest view stands few =

@@ -1,6 +1,6 @@
 //! A shelf, a link and a sink in memory whose calls fail where a list says so.
 
-ghost use Rattle.std.specs.Prelude.{◌≡◌, ◌<◌, ◌≤◌, ◌↔◌, ◌⊎◌, [], List, ℕ, Option, Some, Result, MatchResult, IfOk, OnOk, OnErr, length, take};
+ghost use Rattle.std.specs.Prelude.{◌≡◌, ◌<◌, ◌≤◌, ◌↔◌, ◌⊎◌, [], Some, Result, MatchResult, IfOk, OnOk, length, take};
 ghost use Rattle.port.specs.Faults.{HasCause};
 ghost use Rattle.port.specs.Files.{held_by, ChangesOnly, IsMissing, Keeps};
 ghost use Rattle.port.specs.Pieces.{joined, pieces_of};

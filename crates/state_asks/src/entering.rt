@@ -1,6 +1,6 @@
 //! Called bodies: what they see, and what a call asks by them.
 
-ghost use Rattle.std.specs.Prelude.{◌≡◌, ◌<◌, ◌-◌, true, false, map, IfOk, IfSome, IfNone};
+ghost use Rattle.std.specs.Prelude.{◌≡◌, ◌<◌, ◌-◌, false, map, IfOk, IfSome, IfNone};
 ghost use Rattle.stream_prefix.specs.Tree.{prefix_of};
 ghost use Rattle.hist_value.specs.HistValue.{hist_value_of};
 ghost use Rattle.hist_value.specs.HistExpr.{expr_of};

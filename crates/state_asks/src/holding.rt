@@ -2,7 +2,7 @@
 //!
 //! The type in a case or a wait plays no part in what is asked: `eps` stands for it.
 
-ghost use Rattle.std.specs.Prelude.{◌≡◌, map, OnOk};
+ghost use Rattle.std.specs.Prelude.{map, OnOk};
 ghost use Rattle.stream_type.specs.StreamType.{type_of, eps};
 ghost use Rattle.stream_prefix.specs.StreamPrefix.{is_maximal};
 ghost use Rattle.hist_value.specs.Wholes.{value_of};

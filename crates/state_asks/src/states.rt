@@ -2,7 +2,7 @@
 //!
 //! What a part gives, where another part goes on from it, is had by a step of a copy of that part.
 
-ghost use Rattle.std.specs.Prelude.{◌≡◌, ◌++◌, map, OnOk};
+ghost use Rattle.std.specs.Prelude.{OnOk};
 ghost use Rattle.stream_type.specs.StreamType.{type_of};
 ghost use Rattle.delta_state.specs.StateTree.{par_state, cat_state, let_state, let_par_state, let_cat_state, frame_state};
 ghost use Rattle.template_state.specs.Readers.{state_in, later_in, arguments_in};

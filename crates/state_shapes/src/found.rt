@@ -35,7 +35,7 @@ pub fn nothing(alloc: Global) -> Found
     }
 }
 
-// Whether it goes on behind this.
+/// Whether it goes on behind this.
 pub fn goes_on(before: &Result<bool, Memory>) -> bool
     ensures { IsTrue result ↔ (before.now ≡ Ok true) }
 {
@@ -45,7 +45,7 @@ pub fn goes_on(before: &Result<bool, Memory>) -> bool
     }
 }
 
-// Whether the key has this number. Where it had none before, it has from now on.
+/// Whether the key has this number. Where it had none before, it has from now on. Its only error is want of memory.
 pub fn number_goes(
     before: Result<bool, Memory>,
     key: i64,
@@ -63,7 +63,7 @@ pub fn number_goes(
     }
 }
 
-// Whether the key has this depth. Where it had none before, it has from now on.
+/// Whether the key has this depth. Where it had none before, it has from now on. Its only error is want of memory.
 pub fn depth_goes(
     before: Result<bool, Memory>,
     key: u64,

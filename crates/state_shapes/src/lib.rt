@@ -13,6 +13,6 @@ pub use filling::{copy, fill};
 pub use filling_values::{fill_past, fill_prefix, fill_value};
 pub use found::{Found, goes_on, nothing, number_goes};
 pub use matching::match_state;
-pub use matching_values::{match_prefix, match_value, value_goes};
+pub use matching_values::value_goes;
 pub use registers::{Registers, beside, depth_at, number_at};
 pub use same_code::{same_expr, same_op};

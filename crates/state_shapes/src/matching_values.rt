@@ -3,8 +3,7 @@
 ghost use Rattle.std.specs.Prelude.{◌≡◌, true, Ok, map};
 ghost use Rattle.stream_prefix.specs.Tree.{prefix_of, end_of};
 ghost use Rattle.hist_value.specs.HistValue.{hist_value_of};
-ghost use Rattle.filled_states.specs.Filled.{filled_value, filled_prefix};
-ghost use Rattle.state_shapes.specs.RegisterLists.{RegisterLists, IsParallel, Longer, lists_in};
+ghost use Rattle.state_shapes.specs.RegisterLists.{RegisterLists, lists_in};
 ghost use Rattle.state_shapes.specs.From.{value_from, prefix_from};
 ghost use Rattle.state_shapes.specs.Goes.{Goes};
 
@@ -12,26 +11,6 @@ use crate::found::{Found, goes_on, number_goes};
 use hist_value::Value;
 use stream_prefix::{Prefix, StarEnd};
 use stream_type::Memory;
-
-/// Whether the value is the shape with numbers in the place of its keys, those that were found before among them. The
-/// numbers of further keys are found. It is false where the forms differ, or where a key has another number already.
-/// Its only error is want of memory.
-pub fn match_value(shape: &Value, v: &Value, found: &mut Found) -> Result<bool, Memory>
-    ensures grown { Longer (lists_in found.old) (lists_in found.new) }
-    ensures holds { IsParallel (lists_in found.old) → result ≡ Ok true → (l : RegisterLists) → Longer (lists_in found.new) l
-        → hist_value_of v.now ≡ filled_value l.keys l.numbers (hist_value_of shape.now) }
-{
-    value_goes(Ok(true), shape, v, found)
-}
-
-/// The same of a prefix.
-pub fn match_prefix(shape: &Prefix, p: &Prefix, found: &mut Found) -> Result<bool, Memory>
-    ensures grown { Longer (lists_in found.old) (lists_in found.new) }
-    ensures holds { IsParallel (lists_in found.old) → result ≡ Ok true → (l : RegisterLists) → Longer (lists_in found.new) l
-        → prefix_of p.now ≡ filled_prefix l.keys l.numbers (prefix_of shape.now) }
-{
-    prefix_goes(Ok(true), shape, p, found)
-}
 
 /// A value, behind what was matched before.
 #[cycle(value_goes)]

@@ -1,5 +1,5 @@
 -- A shape lies on a state with what was found, and with some of each kind behind.
-use Rattle.std.proofs.Common.{◌≡◌, ◌<◌, Bool, true, List, [], ◌∷◌, ◌++◌, length, Result, Ok, refl, sym, arith, length-append}
+use Rattle.std.proofs.Common.{◌≡◌, ◌<◌, Bool, true, List, [], length, Result, Ok, refl, sym}
 use Rattle.std.proofs.lemmas.List.{append-nil}
 use Rattle.stream_type.specs.declared.memory.Memory.{Memory}
 use Rattle.delta_state.specs.StateTree.{StateTree}
@@ -23,11 +23,6 @@ lies shape state fits {n = n} p g h s =
 pub some_there : {A : Type 0} (keys values : List A) → 0 < length values → SomeBeside keys values keys values
 some_there keys values h =
     record { more_keys = []; more = []; are_beside = refl; then_keys = sym (append-nil keys); then_values = sym (append-nil values); is_some = h }
-
--- one is put behind
-pub some_put : {A : Type 0} (keys values : List A) (x : A) → SomeBeside keys values (keys ++ x ∷ []) (values ++ x ∷ [])
-some_put keys values x =
-    record { more_keys = x ∷ []; more = x ∷ []; are_beside = refl; then_keys = refl; then_values = refl; is_some = omega (arith, length-append values (x ∷ [])) }
 
 -- there are some of both kinds
 pub some_more : (before : Result Bool Memory) (l m : RegisterLists) → before ≡ Ok true → SomeBeside l.keys l.numbers m.keys m.numbers → SomeBeside l.depth_keys l.depths m.depth_keys m.depths → SomeMore before l m

@@ -12,16 +12,12 @@ use Rattle.stations.specs.declared.station.Run.{Run}
 use Rattle.stations.specs.declared.station.Standing.{Standing}
 use Rattle.stations.specs.declared.station.Values.{Values}
 use Rattle.stations.specs.Lies.{Lies}
-use Rattle.stations.specs.StationTree.{StationTree, station_in, AreRegisters}
-use Rattle.stations.specs.Stands.{HasInHand, InHand, IsAlike, Fills, Stands, StandsOn}
+use Rattle.stations.specs.StationTree.{StationTree, station_in}
+use Rattle.stations.specs.Stands.{HasInHand, IsAlike, Fills, StandsOn}
 
 -- both together
 pub stands : (s : StationTree) (run : Run) (v : Values) → IsAlike s run → Fills s (state_in run.state.now) v → StandsOn s run v
 stands s run v a f = record { registers = f.registers; is_state = f.is_state; is_awaited = a.is_awaited; is_input = a.is_input; is_output = a.is_output }
-
--- what is in hand there is where it stands
-pub stands_in_hand : (s : StationTree) (v : Values) (run : Standing) → AreRegisters s v.numbers.items v.depths.items → InHand s v run → Stands s run v
-stands_in_hand s v run r h = record { registers = r; is_state = h.is_state; is_awaited = h.is_awaited; is_input = h.is_input; is_output = h.is_output }
 
 -- what was found, where its keys are the station's
 pub fills : (s : Station) (state : StateTree) (found : Found) (v : Values) → found.keys.items ≡ s.keys.items → found.depth_keys.items ≡ s.depth_keys.items → v.numbers ≡ found.numbers → v.depths ≡ found.depths

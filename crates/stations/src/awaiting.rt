@@ -1,6 +1,6 @@
 //! What is awaited of the input, compared and copied.
 
-ghost use Rattle.std.specs.Prelude.{◌≡◌, true, Bool, IfOk};
+ghost use Rattle.std.specs.Prelude.{◌≡◌, true, IfOk};
 ghost use Rattle.stream_type.specs.StreamType.{StreamType, type_of};
 ghost use Rattle.machine_parts.specs.AwaitedTree.{AwaitedTree, awaited_in, stream_awaited, both_awaited, turns_awaited};
 

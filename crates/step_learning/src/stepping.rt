@@ -1,6 +1,6 @@
 //! The step of what is in hand.
 
-ghost use Rattle.std.specs.Prelude.{◌≡◌, ◌≤◌, IfOk, IfSome, OnOk};
+ghost use Rattle.std.specs.Prelude.{IfOk, IfSome, OnOk};
 ghost use Rattle.stream_prefix.specs.Tree.{prefix_of};
 ghost use Rattle.step_learning.specs.Tries.{Makes, MovesOn};
 

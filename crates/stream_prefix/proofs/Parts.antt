@@ -2,7 +2,7 @@
 use Rattle.std.proofs.Common.{◌≡◌, ◌∙◌, ap, ap₂, subst, sym}
 use Rattle.std.specs.Prelude.{IsTrue}
 use Rattle.stream_type.specs.StreamType.{StreamType, cat, par, sum, star}
-use Rattle.stream_prefix.specs.StreamPrefix.{StreamPrefix, par_both, cat_fst, cat_both, in_left, in_right, star_first, star_rest, emp, is_maximal, der, join, IsPart}
+use Rattle.stream_prefix.specs.StreamPrefix.{StreamPrefix, par_both, cat_fst, cat_both, in_left, in_right, star_first, emp, is_maximal, der, join, IsPart}
 use Rattle.stream_prefix.proofs.Derivations.{Derives, derives, is_prefix, par_has_both, cat_has_fst, cat_has_both}
 use Rattle.stream_prefix.proofs.Joins.{emp_is_prefix, der-emp, der-join, join-emp, join-emp-der, join_assoc, join_cancel, join_is_prefix, is_maximal-join, emp-join}
 use Rattle.stream_prefix.proofs.MaximalPrefixes.{join_maximal}
@@ -82,40 +82,7 @@ part_left g = part (rest_derives g) (ap in_left g.joins)
 pub part_right : {s t : StreamType} {p p' : StreamPrefix} → IsPart t p p' → IsPart (sum s t) (in_right p) (in_right p')
 part_right g = part (rest_derives g) (ap in_right g.joins)
 
-pub part_first : {s : StreamType} {p p' : StreamPrefix} → IsPart s p p' → IsPart (star s) (star_first p) (star_first p')
-part_first g = part (cat_has_fst (rest_derives g)) (ap star_first g.joins)
-
--- the first item came to its end, and some of the rest with it
-pub part_next : {s : StreamType} {p p' q : StreamPrefix} → Derives s p → IsPart s p p' → IsTrue (is_maximal p') → Derives (star s) q → IsPart (star s) (star_first p) (star_rest p' q)
-part_next {q = q} h g m k = part (cat_has_both (rest_derives g) (maximal_rest h g m) k) (ap (λ x. star_rest x q) g.joins)
-
-pub part_rest : {s : StreamType} {p q q' : StreamPrefix} → IsPart (star s) q q' → IsPart (star s) (star_rest p q) (star_rest p q')
-part_rest {p = p} g = part (rest_derives g) (ap (star_rest p) g.joins)
-
 -- And taken apart: what a part of each form is a part of.
-
-pub par_part : {s t : StreamType} {p q p' q' : StreamPrefix} → IsPart (par s t) (par_both p q) (par_both p' q') → IsPart s p p' × IsPart t q q'
-par_part {s = s} {t = t} {p = p} {q = q} {p' = p'} {q' = q'} g = go (rest_derives g) g.joins
-  where
-    go : {r : StreamPrefix} → Derives (par (der p s) (der q t)) r → join (par_both p q) r ≡ par_both p' q' → IsPart s p p' × IsPart t q q'
-    go (par_has_both h k) e = (part h cc, part k cc)
-
-pub fst_part : {s t : StreamType} {p p' : StreamPrefix} → IsPart (cat s t) (cat_fst p) (cat_fst p') → IsPart s p p'
-fst_part {s = s} {t = t} {p = p} {p' = p'} g = go (rest_derives g) g.joins
-  where
-    go : {r : StreamPrefix} → Derives (cat (der p s) t) r → join (cat_fst p) r ≡ cat_fst p' → IsPart s p p'
-    go (cat_has_fst h) e = part h cc
-    go (cat_has_both h m k) e = absurd (cc e)
-
-pub cut_part : {s t : StreamType} {p p' q : StreamPrefix} → IsPart (cat s t) (cat_fst p) (cat_both p' q) → IsPart s p p' × Derives t q
-cut_part {s = s} {t = t} {p = p} {p' = p'} {q = q} g = go (rest_derives g) g.joins
-  where
-    go : {r : StreamPrefix} → Derives (cat (der p s) t) r → join (cat_fst p) r ≡ cat_both p' q → IsPart s p p' × Derives t q
-    go (cat_has_fst h) e = absurd (cc e)
-    go (cat_has_both {q = r} h m k) e = let same : r ≡ q = cc in (part h cc, subst (Derives t) same k)
-
-pub both_part : {s t : StreamType} {p q p' q' : StreamPrefix} → IsPart (cat s t) (cat_both p q) (cat_both p' q') → (p ≡ p') × IsPart t q q'
-both_part g = let e = g.joins in (cc, part (rest_derives g) cc)
 
 pub left_part : {s t : StreamType} {p p' : StreamPrefix} → IsPart (sum s t) (in_left p) (in_left p') → IsPart s p p'
 left_part g = let e = g.joins in part (rest_derives g) cc
@@ -129,13 +96,3 @@ first_part {s = s} {p = p} {p' = p'} g = go (rest_derives g) g.joins
     go : {r : StreamPrefix} → Derives (cat (der p s) (star s)) r → join (star_first p) r ≡ star_first p' → IsPart s p p'
     go (cat_has_fst h) e = part h cc
     go (cat_has_both h m k) e = absurd (cc e)
-
-pub next_part : {s : StreamType} {p p' q : StreamPrefix} → IsPart (star s) (star_first p) (star_rest p' q) → IsPart s p p' × Derives (star s) q
-next_part {s = s} {p = p} {p' = p'} {q = q} g = go (rest_derives g) g.joins
-  where
-    go : {r : StreamPrefix} → Derives (cat (der p s) (star s)) r → join (star_first p) r ≡ star_rest p' q → IsPart s p p' × Derives (star s) q
-    go (cat_has_fst h) e = absurd (cc e)
-    go (cat_has_both {q = r} h m k) e = let same : r ≡ q = cc in (part h cc, subst (Derives (star s)) same k)
-
-pub rest_part : {s : StreamType} {p q p' q' : StreamPrefix} → IsPart (star s) (star_rest p q) (star_rest p' q') → (p ≡ p') × IsPart (star s) q q'
-rest_part g = let e = g.joins in (cc, part (rest_derives g) cc)

@@ -1,6 +1,6 @@
 //! Words mixed into one.
 
-ghost use Rattle.std.specs.Prelude.{ℕ, List, ◌∷◌, ◌≡◌, ◌+◌, ◌<◌, ◌≤◌, ◌^◌, ◌++◌, IfOk, OnOk, IfSome, IsNone, Some, None, All, length, map, option_map, Bool, if◌then◌else◌};
+ghost use Rattle.std.specs.Prelude.{ℕ, List, ◌∷◌, ◌≡◌, ◌+◌, ◌<◌, ◌≤◌, ◌^◌, ◌++◌, IfOk, OnOk, IfSome, IsNone, Some, None, All, length, map, if◌then◌else◌};
 ghost use Rattle.stream_type.specs.StreamType.{type_of, reach_of};
 ghost use Rattle.event_word.specs.StreamEvent.{under};
 ghost use Rattle.event_word.specs.Word.{IsWord, pre};

@@ -1,8 +1,8 @@
 //! How much a state of the compiled machine holds, and of how many states it is.
 
 ghost use Rattle.std.specs.Prelude.{◌≡◌};
-ghost use Rattle.delta_state.specs.PlainState.{without_marks, arguments_without_marks, plain_held, capped, events_in, events_held, events_held_by, state_count, state_counts};
-ghost use Rattle.template_state.specs.Readers.{state_in, held_in, arguments_in};
+ghost use Rattle.delta_state.specs.PlainState.{without_marks, arguments_without_marks, capped, events_held, events_held_by, state_count, state_counts};
+ghost use Rattle.template_state.specs.Readers.{state_in, arguments_in};
 
 use crate::live::{Arguments, Live};
 use machine_parts::held::words_len;

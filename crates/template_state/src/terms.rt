@@ -1,6 +1,6 @@
 //! Terms made of templates.
 
-ghost use Rattle.std.specs.Prelude.{◌≡◌, map, List, IfOk};
+ghost use Rattle.std.specs.Prelude.{◌≡◌, map, IfOk};
 ghost use Rattle.stream_type.specs.StreamType.{type_of};
 ghost use Rattle.hist_value.specs.HistExpr.{expr_of};
 ghost use Rattle.core_term.specs.CoreTerm.{CoreTerm, CoreTerms, past_term, par_term, cat_term, inl_term, inr_term, cons_term, let_term, let_par_term, let_cat_term, case_sum_term, case_star_term, wait_term, call_term, term_before, term_of, term_in, terms_from};

@@ -1,12 +1,10 @@
 //! States without their marks.
 
-ghost use Rattle.std.specs.Prelude.{◌≡◌, ◌++◌, ℕ, List, map, IfOk};
+ghost use Rattle.std.specs.Prelude.{◌≡◌, ◌++◌, map, IfOk};
 ghost use Rattle.stream_type.specs.StreamType.{type_of};
-ghost use Rattle.stream_prefix.specs.StreamPrefix.{StreamPrefix};
 ghost use Rattle.stream_prefix.specs.Tree.{prefix_of};
 ghost use Rattle.hist_value.specs.HistValue.{hist_value_of};
 ghost use Rattle.delta_state.specs.PlainState.{PlainState, PlainArguments, state_of, later_of, held_of, past_of, argument_of, arguments_from as plain_arguments, without_marks, arguments_without_marks, plain_later, plain_held, plain_sink, plain_par, plain_cat, plain_let, plain_let_par, plain_let_cat, plain_sum, plain_star, plain_wait, plain_frame, plain_argument_before};
-ghost use Rattle.machine_parts.specs.Entry.{entry_in};
 ghost use Rattle.template_state.specs.Readers.{known_in, later_in, held_in, state_in, arguments_in};
 ghost use Rattle.template_state.specs.Makes.{Makes, boxed_state};
 
