@@ -207,7 +207,8 @@ fn copy_body(alloc: Global, b: &Body) -> Result<Body, Memory>
     })
 }
 
-fn copy_past(alloc: Global, past: &[(Name, Ty)]) -> Result<Vec<(Name, Ty)>, Memory>
+/// Names with their types, once more. Its only error is want of memory.
+pub fn copy_past(alloc: Global, past: &[(Name, Ty)]) -> Result<Vec<(Name, Ty)>, Memory>
     ensures { IfOk result (λ r. typed_names_of r.items ≡ typed_names_of past.now) }
 {
     let mut copies = Vec::new(alloc);
@@ -217,7 +218,8 @@ fn copy_past(alloc: Global, past: &[(Name, Ty)]) -> Result<Vec<(Name, Ty)>, Memo
     Ok(copies)
 }
 
-fn copy_texts(alloc: Global, texts: &[String]) -> Result<Vec<String>, Memory>
+/// The texts of a program's names, once more. Its only error is want of memory.
+pub fn copy_texts(alloc: Global, texts: &[String]) -> Result<Vec<String>, Memory>
     ensures { IfOk result (λ r. map string_bytes r.items ≡ map string_bytes texts.now) }
 {
     let mut copies = Vec::new(alloc);

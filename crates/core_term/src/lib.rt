@@ -14,8 +14,8 @@ pub mod stars;
 mod term;
 
 pub use checked::Checked;
-pub use copying::{copy, copy_core};
+pub use copying::{copy, copy_core, copy_past, copy_texts};
 pub use names::free;
 pub use program::{Body, Core};
-pub use reading::{body_of, fits};
+pub use reading::{body_of, fits, is_low};
 pub use term::{Node, Term};

@@ -42,8 +42,8 @@ fn is_low_bunch(b: &Bunch, height: u32) -> bool
     }
 }
 
-// Whether the type is at most so high.
-fn is_low(t: &Ty, height: u32) -> bool
+/// Whether the type is at most so high.
+pub fn is_low(t: &Ty, height: u32) -> bool
     ensures { result ≡ nat_le (height_of (type_of t.now)) height }
 {
     match t {

@@ -6,7 +6,7 @@ mod bounding;
 mod differing;
 pub mod laws;
 mod measured;
-mod placing;
+mod numbers;
 mod programs;
 mod reach;
 mod refusal;

@@ -1,11 +1,10 @@
 //! What a case and a wait can hold at most, or the first name that they count without a size.
 
 ghost use Rattle.std.specs.Prelude.{◌≡◌};
-ghost use Rattle.stream_type.specs.StreamType.{type_of, eps};
 ghost use Rattle.bunch.specs.Names.{numbers_of};
 ghost use Rattle.core_term.specs.CoreTerm.{term_of};
 ghost use Rattle.core_term.specs.FreeNames.{free_names, without};
-ghost use Rattle.core_term.specs.Typing.{type_at, types_of};
+ghost use Rattle.core_term.specs.Typing.{types_of};
 ghost use Rattle.state_bounds.specs.Bounds.{total};
 ghost use Rattle.state_bounds.specs.TermBounds.{room_of, case_room, wait_room};
 ghost use Rattle.state_bounds.specs.ProgramBound.{first_large};
@@ -20,17 +19,6 @@ use core_term::{Node, free};
 use delta_check::{Scope, before, stream_type};
 use std::alloc::Global;
 use stream_type::Ty;
-
-/// The type of a stream variable; any other name counts as of type `eps`.
-pub fn type_or<'a>(scope: &Scope<'a>, x: Name, other: &'a Ty) -> &'a Ty
-    requires { type_of other.now ≡ eps }
-    ensures { type_of result.now ≡ type_at (context_in scope.now) x.0 }
-{
-    match stream_type(scope, x) {
-        Some(t) => t,
-        None => other,
-    }
-}
 
 /// What the case `n` on z can hold at most itself: `case_room` in the specs of state_bounds; or the
 /// first name without a size that it counts. Its other error is want of memory.

@@ -17,14 +17,14 @@ ghost use Rattle.delta_bound.specs.Measured.{Measures, MeasuresTwo};
 ghost use Rattle.delta_bound.specs.Unsized.{placed, case_unsized, wait_unsized, unsized_of, unsized_among};
 
 use crate::measured::{beside, either, in_turn, of_let, together, with_number};
-use crate::placing::{let_placed, number_of};
-use crate::rooms::{room_of_case, room_of_wait, type_or};
+use crate::numbers::number_of;
+use crate::rooms::{room_of_case, room_of_wait};
 use crate::sizes::both;
 use crate::stop::Stop;
 use bunch::Name;
 use core_term::parts::{cat_types, par_types, star_types, sum_types};
 use core_term::{Core, Node, Term};
-use delta_check::Scope;
+use delta_check::{Scope, let_placed, type_or};
 use std::alloc::Global;
 use stream_type::Ty;
 

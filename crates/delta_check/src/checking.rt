@@ -295,8 +295,8 @@ fn check_arguments<'a>(
     Ok(next)
 }
 
-// The type of a stream variable; any other name counts as of type `eps`.
-fn type_or<'a>(scope: &Scope<'a>, x: Name, other: &'a Ty) -> &'a Ty
+/// The type of a stream variable; any other name counts as of type `eps`, as which `other` stands.
+pub fn type_or<'a>(scope: &Scope<'a>, x: Name, other: &'a Ty) -> &'a Ty
     requires { type_of other.now ≡ eps }
     ensures { type_of result.now ≡ type_at (context_in scope.now) x.0 }
 {
@@ -328,8 +328,8 @@ fn params_of<'a>(c: &'a Core, f: u32, none: &'a Bunch) -> &'a Bunch
     }
 }
 
-// Where the name of a let is placed, for what is asked in its body.
-fn let_placed(
+/// Where the name of a let is placed, for what is asked in its body. Its only error is want of memory.
+pub fn let_placed(
     alloc: Global,
     scope: &Scope<'_>,
     a: &Node,

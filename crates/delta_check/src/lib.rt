@@ -16,9 +16,11 @@ mod rules;
 mod scope;
 mod within;
 
-pub use checking::check;
+pub use checking::{check, let_placed, type_or};
 pub use fault::{TypeCause, TypeFault};
 pub use inertness::{inert, inert_funs};
+pub use orders::is_before;
+pub use params::type_at;
 pub use passing::first_jumpy;
 pub use scope::{Placed, Scope, before, place_of_let, stream_type};
 pub use within::{check_in, check_under};

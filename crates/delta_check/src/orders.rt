@@ -54,8 +54,8 @@ fn first_not_after(scope: &Scope<'_>, x: Name, names: &[Name]) -> Option<Name>
     None
 }
 
-// Whether both are stream variables and x stands before y.
-fn is_before(scope: &Scope<'_>, x: Name, y: Name) -> bool
+/// Whether both are stream variables and x stands before y.
+pub fn is_before(scope: &Scope<'_>, x: Name, y: Name) -> bool
     ensures { result ≡ is_before (context_in scope.now) x.0 y.0 }
 {
     stream_type(scope, x).is_some() && stream_type(scope, y).is_some() && before(scope, x, y)

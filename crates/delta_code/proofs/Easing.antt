@@ -3,13 +3,12 @@ use Rattle.std.proofs.Common.{◌≡◌, ℕ, true, false, ◌||◌, ◌&&◌, L
 use Rattle.stream_type.specs.StreamType.{StreamType}
 use Rattle.stream_prefix.specs.StreamPrefix.{StreamPrefix, eps_emp, one_emp, one_full, int_emp, int_full, par_both, cat_fst, cat_both, sum_emp, in_left, in_right, star_emp, star_done, star_first, star_rest}
 use Rattle.bunch.specs.Names.{holds}
-use Rattle.bunch.proofs.NameLists.{holds-append}
 use Rattle.core_term.specs.FreeNames.{without}
 use Rattle.core_term.specs.Parts.{par_left, par_right, cat_first}
 use Rattle.core_term.proofs.Sides.{and_first, and_second}
 use Rattle.delta_state.specs.StateTree.{LaterTree, StateTree, ArgumentTrees, sink, var_state, par_state, cat_state, let_state, let_par_state, let_cat_state, frame_state, no_arguments, argument_before, free_in_state}
 use Rattle.delta_state.specs.Rest.{cut_state}
-use Rattle.state_rewriting.specs.Rewriting.{ReplacedBy, ReplacedArgumentsBy, SimplerBy, as_it_is, as_they_are, one_more, here, IsAlias, alias_for, unused, unused_pair, unused_row, frames, is_plain, are_plain, at_most_once, stand_once, names_passed, composed, Rewritten}
+use Rattle.state_rewriting.specs.Rewriting.{ReplacedBy, ReplacedArgumentsBy, SimplerBy, as_it_is, as_they_are, one_more, here, IsAlias, unused, unused_pair, unused_row, frames, is_plain, are_plain, at_most_once, stand_once, names_passed, composed, Rewritten}
 use Rattle.state_rewriting.proofs.RewritingsInside.{by_same, by_then, by_par, by_cat, by_let, by_let_par, by_let_cat, by_arguments, by_body, by_before, alias_by}
 use Rattle.delta_code.specs.Eased.{Eased, EasedArguments}
 use Rattle.delta_code.specs.declared.way.Layers.{Layers}
@@ -113,12 +112,6 @@ pub finished_frame : {args others : ArgumentTrees} (l m : Layers) → EasedArgum
 finished_frame l m h k s = eased_then (within_eased l (eased_frame h (eased_same refl))) (k s)
 
 -- a name in the place of another one, in arguments
-pub put_same : {names : List ℕ} {R : StreamType → StateTree → StateTree → Type 0} {a b : StateTree} → a ≡ b → (r : StreamType) → ReplacedBy names R r a b
-put_same e r = by_same e
-
-pub put_name : (x y z : ℕ) → x ≡ y → (r : StreamType) → ReplacedBy (y ∷ (z ∷ [])) (IsAlias y z) r (var_state x) (var_state z)
-put_name x y z e r = subst (λ u. ReplacedBy (y ∷ (z ∷ [])) (IsAlias y z) r (var_state u) (var_state z)) (sym e) (one_more as_it_is (here alias_for))
-
 pub put_none : {names : List ℕ} {R : StreamType → StateTree → StateTree → Type 0} → ReplacedArgumentsBy names R no_arguments no_arguments
 put_none = as_they_are
 
@@ -126,11 +119,9 @@ pub put_before : {names : List ℕ} {R : StreamType → StateTree → StateTree 
     → ReplacedArgumentsBy names R (argument_before x t a args) (argument_before x t b others)
 put_before {t = t} h k = by_before (h t) k
 
-pub ruleset putting = (put_same, put_name, put_none, put_before)
+pub ruleset putting = (put_none, put_before)
 
 pub ruleset finishing = (eased_none, eased_before)
-
-pub ruleset using_names = (holds-append)
 
 pub ruleset aliasing = (alias_put, alias_none)
 

@@ -1,13 +1,12 @@
 //! Templates made of programs, each body once.
 
-ghost use Rattle.std.specs.Prelude.{◌≡◌, map, string_bytes, IfOk};
-ghost use Rattle.core_term.specs.CoreTerm.{typed_names_of, core_body_of, core_of};
+ghost use Rattle.std.specs.Prelude.{◌≡◌, map, IfOk};
+ghost use Rattle.core_term.specs.CoreTerm.{core_body_of, core_of};
 ghost use Rattle.template_state.specs.Templates.{body_in, bodies_in};
 
-use bunch::Name;
-use core_term::{Body, Core};
+use core_term::{Body, Core, copy_past};
 use std::alloc::Global;
-use stream_type::{Memory, Ty};
+use stream_type::Memory;
 use template_state::{Code, Template, op};
 
 /// The templates of a program. Its only error is want of memory.
@@ -36,30 +35,9 @@ fn template(alloc: Global, b: &Body) -> Result<Template, Memory>
     ensures { IfOk result (λ r. body_in r ≡ core_body_of b.now) }
 {
     Ok(Template {
-        past: copy_names(alloc, &b.past)?,
+        past: copy_past(alloc, &b.past)?,
         params: bunch::copy(alloc, &b.params)?,
         result: stream_type::copy(alloc, &b.result)?,
         body: op(alloc, &b.body)?,
     })
-}
-
-fn copy_names(alloc: Global, names: &[(Name, Ty)]) -> Result<Vec<(Name, Ty)>, Memory>
-    ensures { IfOk result (λ r. typed_names_of r.items ≡ typed_names_of names.now) }
-{
-    let mut copies = Vec::new(alloc);
-    for (x, t) in names {
-        copies.push((*x, stream_type::copy(alloc, t)?))?;
-    }
-    Ok(copies)
-}
-
-/// The texts of a program's names, once more. Its only error is want of memory.
-pub fn copy_texts(alloc: Global, texts: &[String]) -> Result<Vec<String>, Memory>
-    ensures { IfOk result (λ r. map string_bytes r.items ≡ map string_bytes texts.now) }
-{
-    let mut copies = Vec::new(alloc);
-    for text in texts {
-        copies.push(String::from_str(alloc, text)?)?;
-    }
-    Ok(copies)
 }

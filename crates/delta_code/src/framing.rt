@@ -6,9 +6,8 @@
 
 ghost use Rattle.std.specs.Prelude.{◌≡◌, ◌&&◌, ◌∷◌, [], IfOk, OnOk};
 ghost use Rattle.stream_type.specs.StreamType.{StreamType, type_of};
-ghost use Rattle.delta_state.specs.StateTree.{StateTree, let_state, let_par_state, let_cat_state, frame_state, argument_at, free_in_arguments};
-ghost use Rattle.bunch.specs.Names.{holds};
-ghost use Rattle.state_rewriting.specs.Rewriting.{ReplacedBy, ReplacedArgumentsBy, IsAlias, is_plain, are_plain, passed_on, composed};
+ghost use Rattle.delta_state.specs.StateTree.{StateTree, let_state, let_par_state, let_cat_state, frame_state, argument_at};
+ghost use Rattle.state_rewriting.specs.Rewriting.{ReplacedArgumentsBy, IsAlias, are_plain, passed_on, composed};
 ghost use Rattle.template_state.specs.Readers.{state_in, arguments_in};
 ghost use Rattle.delta_code.specs.Eased.{Eased, EasedArguments};
 ghost use Rattle.delta_code.specs.Way.{within};
@@ -18,7 +17,7 @@ use bunch::Name;
 use std::alloc::Global;
 use std::mem;
 use stream_type::{Memory, Ty};
-use template_state::{Arguments, Live, settle, uses};
+use template_state::{Arguments, Live, all_plain, arguments_use, rename, settle};
 
 /// A frame with these arguments goes into what stands round it. Its only error is want of memory.
 #[tactic(auto, using(crate::proofs::Easing::finished_frame))]
@@ -83,7 +82,7 @@ fn in_let(
 {
     let mut args = args;
     put_alias(&mut args, x, &a);
-    if used(&args, x) {
+    if arguments_use(&args, x) {
         return stays(alloc, Layers::Let(x, t, a, outer), args);
     }
     framed(alloc, Box::into_inner(outer), args)
@@ -101,7 +100,7 @@ fn in_pair(
 ) -> Result<Layers, Memory>
     ensures { IfOk result (λ l. (s : StateTree) → Eased (within outer.value (let_par_state x.0 y.0 z.0 (frame_state (arguments_in args.value) s))) (within l s)) }
 {
-    if used(&args, x) || used(&args, y) {
+    if arguments_use(&args, x) || arguments_use(&args, y) {
         return stays(alloc, Layers::Pair(x, y, z, outer), args);
     }
     framed(alloc, Box::into_inner(outer), args)
@@ -119,7 +118,7 @@ fn in_row(
 ) -> Result<Layers, Memory>
     ensures { IfOk result (λ l. (s : StateTree) → Eased (within outer.value (let_cat_state x.0 y.0 z.0 (frame_state (arguments_in args.value) s))) (within l s)) }
 {
-    if used(&args, x) || used(&args, y) {
+    if arguments_use(&args, x) || arguments_use(&args, y) {
         return stays(alloc, Layers::Row(x, y, z, outer), args);
     }
     framed(alloc, Box::into_inner(outer), args)
@@ -164,46 +163,6 @@ fn rename_all(args: &mut Arguments, y: Name, z: Name)
             rename(a, y, z);
             rename_all(others, y, z);
         }
-    }
-}
-
-// An argument that is y becomes z.
-#[tactic(auto, using(crate::proofs::Easing::putting))]
-fn rename(a: &mut Live, y: Name, z: Name)
-    ensures { (r : StreamType) → ReplacedBy (y.0 ∷ (z.0 ∷ [])) (IsAlias y.0 z.0) r (state_in a.old) (state_in a.new) }
-{
-    if let Live::Var(x) = a {
-        if x.0 == y.0 {
-            *x = z;
-        }
-    }
-}
-
-// Whether the name is free in one of the arguments.
-#[tactic(auto, using(crate::proofs::Easing::using_names))]
-fn used(args: &Arguments, x: Name) -> bool
-    ensures { result ≡ holds x.0 (free_in_arguments (arguments_in args.now)) }
-{
-    match args {
-        Arguments::None => false,
-        Arguments::Before(_, _, a, others) => uses(a, x) || used(others, x),
-    }
-}
-
-// Whether a state is a name or finished.
-fn plain_one(s: &Live) -> bool
-    ensures { result ≡ is_plain (state_in s.now) }
-{
-    matches!(s, Live::Sink(_) | Live::Var(_))
-}
-
-// Whether all arguments are names or finished.
-fn all_plain(args: &Arguments) -> bool
-    ensures { result ≡ are_plain (arguments_in args.now) }
-{
-    match args {
-        Arguments::None => true,
-        Arguments::Before(_, _, a, others) => plain_one(a) && all_plain(others),
     }
 }
 

@@ -2,9 +2,8 @@
 
 ghost use Rattle.delta_code.specs.CodedView.{CodedSince, coded_stands_since};
 
-use crate::compiling::copy_texts;
 use crate::machine::{Coded, code_boxed, take};
-use core_term::Checked;
+use core_term::{Checked, copy_texts};
 use delta_keep::Kept;
 use delta_state::StepRefusal;
 use event_word::Event;

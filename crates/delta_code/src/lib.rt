@@ -30,7 +30,7 @@ mod way;
 pub use awaiting::step_awaiting;
 pub use begun::Begun;
 pub use machine::Coded;
-pub use seeing::{knowing, known, nothing_known, value_in, values_in};
+pub use seeing::{entries_in, knowing, known, nothing_known, value_in, values_in};
 pub use starting::start;
 pub use stepping::step;
 pub use told::Told;

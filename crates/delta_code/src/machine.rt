@@ -23,11 +23,11 @@ ghost use Rattle.delta_code.specs.CodedView.{run_awaiting, rest_awaiting, progra
 
 use crate::begun::Begun;
 use crate::beside::step_next;
-use crate::compiling::{compile, copy_texts};
+use crate::compiling::compile;
 use crate::seeing::nothing_known;
 use crate::starting::start;
 use crate::told::Told;
-use core_term::{Checked, Core};
+use core_term::{Checked, Core, copy_texts};
 use delta_state::{Machine, Place, State, StepRefusal};
 use event_word::Event;
 use in_place::go_behind;

@@ -48,9 +48,9 @@ pub fn values_in(alloc: Global, past: &Past, ms: &[Expr]) -> Result<Vec<Value>, 
     Ok(values)
 }
 
-// The values of the historical names, a later entry before an earlier one.
+/// The values of the historical names, a later entry before an earlier one. Its only error is want of memory.
 #[tactic(auto, using(machine_parts::proofs::Past::entries))]
-fn entries_in(alloc: Global, past: &Past) -> Result<Vec<(Name, Value)>, Memory>
+pub fn entries_in(alloc: Global, past: &Past) -> Result<Vec<(Name, Value)>, Memory>
     ensures { IfOk result (λ v. environment_of v.items ≡ past_in (known_in past.now)) }
 {
     match past {

@@ -14,9 +14,10 @@ ghost use Rattle.delta_elab.specs.Subjects.{head_type_in, rounded, bound_of, bou
 
 use crate::parts::copy_wanted;
 use crate::scope::{Scope, type_of_name};
-use crate::source::{Setting, Source, function_of_name, number_of_function, type_at};
+use crate::source::{Setting, Source, function_of_name, number_of_function};
 use bunch::Name;
 use core_term::{Node, Term};
+use delta_check::type_at;
 use delta_meaning::type_meant;
 use delta_tree::{Head, HeadForm};
 use hist_value::Expr;

@@ -9,6 +9,7 @@ ghost use Rattle.delta_meaning.specs.TypeNames.{type_meant, params_meant};
 ghost use Rattle.delta_meaning.specs.KnownTypes.{names_known};
 
 use bunch::Name;
+use core_term::is_low as is_low_type;
 use delta_tree::{Ctx, TyExp, TyForm};
 use stream_type::Ty;
 
@@ -39,19 +40,6 @@ pub fn is_low(known: &[(Name, Ty)], t: &TyExp, height: u32) -> bool
             height > 0 && is_low(known, a, height - 1) && is_low(known, b, height - 1)
         }
         TyForm::Star(a) => height > 0 && is_low(known, a, height - 1),
-    }
-}
-
-// Whether the type is at most so high.
-fn is_low_type(t: &Ty, height: u32) -> bool
-    ensures { result ≡ nat_le (height_of (type_of t.now)) height }
-{
-    match t {
-        Ty::Eps | Ty::One | Ty::Int => height > 0,
-        Ty::Cat(a, b) | Ty::Par(a, b) | Ty::Sum(a, b) => {
-            height > 0 && is_low_type(a, height - 1) && is_low_type(b, height - 1)
-        }
-        Ty::Star(a) => height > 0 && is_low_type(a, height - 1),
     }
 }
 

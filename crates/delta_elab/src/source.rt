@@ -1,10 +1,9 @@
 //! The functions of a program with their types, and where an expression is elaborated.
 
-ghost use Rattle.std.specs.Prelude.{◌≡◌, ◌+◌, length, map, slice_get, [], Some, IfOk, IfErr, IfSome, IfNone};
+ghost use Rattle.std.specs.Prelude.{◌≡◌, ◌+◌, map, [], Some, IfOk, IfSome, IfNone};
 ghost use Rattle.stream_type.specs.StreamType.{type_of};
-ghost use Rattle.bunch.specs.BunchTree.{tree_of};
 ghost use Rattle.delta_tree.specs.Tree.{type_tree_of, function_of, declaration_of};
-ghost use Rattle.core_term.specs.CoreTerm.{typed_names_of, leaf_types};
+ghost use Rattle.core_term.specs.CoreTerm.{typed_names_of};
 ghost use Rattle.delta_meaning.specs.TypeNames.{no_type_names, type_meant};
 ghost use Rattle.delta_meaning.specs.KnownTypes.{names_known};
 ghost use Rattle.delta_meaning.specs.SourceBody.{body_meant, functions_among, function_named, number_named, no_function};
@@ -146,20 +145,4 @@ fn place_of(functions: &[Source<'_>], f: Name) -> usize
         }
     }
     functions.len()
-}
-
-/// The type of the parameter at the place `i`, or how many places `i` is past the last parameter.
-#[tactic(auto, using(delta_check::proofs::Places::places))]
-pub fn type_at(params: &Bunch, i: usize) -> Result<&Ty, usize>
-    ensures there { IfOk result (λ t. slice_get (leaf_types (tree_of params.now)) i ≡ Some (type_of t.now)) }
-    ensures past { IfErr result (λ j. j + length (leaf_types (tree_of params.now)) ≡ i) }
-{
-    match params {
-        Bunch::Empty => Err(i),
-        Bunch::Leaf(_, t) => { if i == 0 { Ok(t) } else { Err(i - 1) } }
-        Bunch::Comma(a, b) | Bunch::Semi(a, b) => match type_at(a, i) {
-            Ok(t) => Ok(t),
-            Err(j) => type_at(b, j),
-        },
-    }
 }

@@ -22,5 +22,6 @@ pub use fault::HistFault;
 pub use hist_type::HTy;
 pub use history::Value;
 pub use judging::{has_type, past};
+pub use reckoning::quotient;
 pub use typing::type_of;
 pub use wholes::{full, value_of};

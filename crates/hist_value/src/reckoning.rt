@@ -41,8 +41,8 @@ fn reckon(alloc: Global, op: Op, a: i64, b: i64) -> Result<Value, Memory>
     }
 }
 
-// The quotient, cut towards zero and held within 64 bits; by 0 it is 0.
-fn quotient(a: i64, b: i64) -> i64
+/// The quotient, cut towards zero and held within 64 bits; by 0 it is 0: `quotient` in `specs/Evaluate.antt`.
+pub fn quotient(a: i64, b: i64) -> i64
     ensures { result ≡ quotient a b }
 {
     if b == 0 { 0 } else { a.saturating_div(b) }

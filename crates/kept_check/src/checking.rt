@@ -19,7 +19,6 @@ ghost use Rattle.kept_check.specs.Sizes.{states_number, states_of_parts, states_
 ghost use Rattle.kept_check.specs.Walk.{FindsBad, Finds, ChecksOwn};
 
 use crate::bound::{add_behind, add_names, add_parts};
-use crate::forms::type_or;
 use crate::free::free_in;
 use crate::judge::Judge;
 use crate::names::are_distinct;
@@ -27,7 +26,7 @@ use crate::rules::{all_before, follows_rule, parameters};
 use crate::stop::Stop;
 use bunch::Name;
 use core_term::parts::{cat_types, par_types};
-use delta_check::{Placed, Scope, place_of_let};
+use delta_check::{Placed, Scope, place_of_let, type_or};
 use delta_keep::{Argument, KeptState};
 use std::alloc::Global;
 use stream_type::{Memory, Ty, copy};

@@ -1,7 +1,7 @@
 //! The forms of types that rules ask for.
 
 ghost use Rattle.std.specs.Prelude.{◌≡◌, ◌≢◌, ◌↔◌, IsTrue, IfNone, IfSome};
-ghost use Rattle.stream_type.specs.StreamType.{type_of, eps};
+ghost use Rattle.stream_type.specs.StreamType.{type_of};
 ghost use Rattle.core_term.specs.Typing.{HasForm, type_at};
 ghost use Rattle.delta_check.specs.Scopes.{context_in};
 ghost use Rattle.kept_check.specs.Forms.{AreParts, ArePartsAt, in_form};
@@ -78,16 +78,5 @@ pub fn parts_at<'a>(form: Form, scope: &Scope<'a>, z: Name) -> Option<(&'a Ty, &
     match stream_type(scope, z) {
         Some(t) => parts_in(form, t),
         None => None,
-    }
-}
-
-/// The type of a stream variable; any other name counts as of type `eps`, as which `other` stands.
-pub fn type_or<'a>(scope: &Scope<'a>, x: Name, other: &'a Ty) -> &'a Ty
-    requires { type_of other.now ≡ eps }
-    ensures { type_of result.now ≡ type_at (context_in scope.now) x.0 }
-{
-    match stream_type(scope, x) {
-        Some(t) => t,
-        None => other,
     }
 }

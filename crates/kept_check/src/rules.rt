@@ -17,7 +17,7 @@ ghost use Rattle.kept_check.specs.HeldRules.{IsHolding, is_decided, MayGoOn};
 ghost use Rattle.kept_check.specs.Judging.{funs_of, IsJudge};
 ghost use Rattle.kept_check.specs.Sizes.{codes_fit};
 
-use crate::forms::{Form, has_form, is_of_form, parts_at, type_or};
+use crate::forms::{Form, has_form, is_of_form, parts_at};
 use crate::free::free_in;
 use crate::holding::{before_held, tag_held, whole_held};
 use crate::judge::Judge;
@@ -27,7 +27,7 @@ use crate::values::{is_held, is_stream};
 use bunch::Name;
 use core_term::free;
 use core_term::parts::cat_types;
-use delta_check::{Scope, before, stream_type};
+use delta_check::{Scope, is_before, type_or};
 use delta_keep::{Argument, HeldName, KeptState, Waiting};
 use hist_value::past;
 use std::alloc::Global;
@@ -127,13 +127,6 @@ fn stands_before(scope: &Scope<'_>, x: Name, names: &[Name]) -> bool
         }
     }
     true
-}
-
-// Whether both are stream variables and x stands before y.
-fn is_before(scope: &Scope<'_>, x: Name, y: Name) -> bool
-    ensures { result ≡ is_before (context_in scope.now) x.0 y.0 }
-{
-    stream_type(scope, x).is_some() && stream_type(scope, y).is_some() && before(scope, x, y)
 }
 
 // A case or a wait of this type, which holds this: whether it isn't decided by what it holds, and what it

@@ -12,7 +12,7 @@ ghost use Rattle.state_shapes.specs.Goes.{Goes};
 ghost use Rattle.learned_table.specs.Reckoned.{HasNow, IsReckoned, reckoned_value};
 
 use bunch::Name;
-use hist_value::{Expr, Op, Value};
+use hist_value::{Expr, Op, Value, quotient};
 use state_shapes::{Found, beside, number_goes};
 use stream_type::Memory;
 
@@ -64,13 +64,6 @@ fn reckon(op: Op, a: i64, b: i64) -> Reckoned
         Op::Less => Reckoned::Test(a < b),
         Op::Same => Reckoned::Test(a == b),
     }
-}
-
-// The quotient, cut towards zero and held within 64 bits; by 0 it is 0.
-fn quotient(a: i64, b: i64) -> i64
-    ensures { result ≡ quotient a b }
-{
-    if b == 0 { 0 } else { a.saturating_div(b) }
 }
 
 // The number that was found for what was seen, where that is one.

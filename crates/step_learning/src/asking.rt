@@ -1,16 +1,13 @@
 //! What a step asks, with the value that each expression has.
 
-ghost use Rattle.std.specs.Prelude.{◌≡◌, map, IfOk};
+ghost use Rattle.std.specs.Prelude.{map, IfOk};
 ghost use Rattle.stream_prefix.specs.Tree.{prefix_of};
-ghost use Rattle.hist_value.specs.Environment.{environment_of};
-ghost use Rattle.delta_state.specs.StateMeaning.{past_in};
-ghost use Rattle.template_state.specs.Readers.{known_in};
 ghost use Rattle.state_asks.specs.Asking.{asked_in};
 ghost use Rattle.step_learning.specs.AsksOf.{AskOf, AsksOf};
 ghost use Rattle.step_learning.specs.Tries.{asked_on};
 
-use bunch::Name;
-use hist_value::{Value, copy_expr, copy_value, value};
+use delta_code::entries_in;
+use hist_value::{copy_expr, value};
 use learned_table::LearnedAsk;
 use machine_parts::stop::{LEVELS, Stop};
 use state_asks::{Ask, asks};
@@ -18,7 +15,7 @@ use stations::Standing;
 use std::alloc::Global;
 use stream_prefix::Prefix;
 use stream_type::Memory;
-use template_state::{Code, Past};
+use template_state::Code;
 
 /// What the state in hand asks on what comes, each with its value. It is `Spent` or `Deep` where the walk that finds it
 /// is, which may be of a state whose own step ends in time. Its other error is want of memory.
@@ -63,19 +60,4 @@ fn with_value(alloc: Global, ask: &Ask) -> Result<LearnedAsk, Memory>
     let value = value(alloc, &ask.expr, &past)?;
     let expr = copy_expr(alloc, &ask.expr)?;
     Ok(LearnedAsk { expr, past, value })
-}
-
-// The values of the historical names, a later entry before an earlier one.
-#[tactic(auto, using(machine_parts::proofs::Past::entries))]
-fn entries_in(alloc: Global, past: &Past) -> Result<Vec<(Name, Value)>, Memory>
-    ensures { IfOk result (λ v. environment_of v.items ≡ past_in (known_in past.now)) }
-{
-    match past {
-        Past::None => Ok(Vec::new(alloc)),
-        Past::Known(x, _, v, rest) => {
-            let mut entries = entries_in(alloc, rest)?;
-            entries.push((*x, copy_value(alloc, v)?))?;
-            Ok(entries)
-        }
-    }
 }

@@ -33,8 +33,8 @@ fn plain_one(s: &Live) -> bool
     }
 }
 
-// Whether all arguments are names or finished.
-fn all_plain(args: &Arguments) -> bool
+/// Whether all arguments are names or finished: `are_plain` in `specs/Rewriting.antt` of `state_rewriting`.
+pub fn all_plain(args: &Arguments) -> bool
     ensures { result ≡ are_plain (arguments_in args.now) }
 {
     match args {

@@ -86,9 +86,9 @@ fn put_in_argument(a: &mut Live, y: Name, z: Name)
     rename(a, y, z);
 }
 
-// An argument that is y becomes z.
+/// An argument that is y becomes z.
 #[tactic(auto, using(crate::proofs::Putting::putting))]
-fn rename(a: &mut Live, y: Name, z: Name)
+pub fn rename(a: &mut Live, y: Name, z: Name)
     ensures { (r : StreamType) → ReplacedBy (y.0 ∷ (z.0 ∷ [])) (IsAlias y.0 z.0) r (state_in a.old) (state_in a.new) }
 {
     if let Live::Var(x) = a {

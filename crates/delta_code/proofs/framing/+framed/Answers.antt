@@ -16,8 +16,8 @@ use Rattle.delta_code.proofs.framing.+framed.Goals as goal
 pub framed-returns-in-None : goal.framed-returns-in-None
 framed-returns-in-None t c = rw c.in-None.is (IfOk-weaker c.stays.result _ _ (λ l h s. eased_same (h s)) c.stays.ensures)
 
-pub in_let-returns-then-used : goal.in_let-returns-then-used
-in_let-returns-then-used t c =
+pub in_let-returns-then-arguments_use : goal.in_let-returns-then-arguments_use
+in_let-returns-then-arguments_use t c =
     IfOk-weaker c.stays.result _ _ (λ l h s. eased_then (within_eased c.args.outer.value (alias_of (ap state_in c.deref.ensures) (ap arguments_in c.deref_mut.ensures.value) c.put_alias.ensures (type_of c.args.t) s)) (eased_same (h s))) c.stays.ensures
 
 pub in_let-returns : goal.in_let-returns
@@ -28,8 +28,8 @@ in_let-returns t c =
     (subst (λ (o : Layers). Eased (within o (frame_state (arguments_in c.put_alias.new.args) s)) (within l s)) c.into_inner.ensures (h s)))
     c.framed.ensures
 
-pub in_pair-returns-then-used : goal.in_pair-returns-then-used
-in_pair-returns-then-used t c = IfOk-weaker c.stays.result _ _ (λ l h s. eased_same (h s)) c.stays.ensures
+pub in_pair-returns-then-arguments_use : goal.in_pair-returns-then-arguments_use
+in_pair-returns-then-arguments_use t c = IfOk-weaker c.stays.result _ _ (λ l h s. eased_same (h s)) c.stays.ensures
 
 pub in_pair-returns : goal.in_pair-returns
 in_pair-returns t c =
@@ -40,8 +40,8 @@ in_pair-returns t c =
     (subst (λ (o : Layers). Eased (within o (frame_state (arguments_in c.args.args.value) s)) (within l s)) c.into_inner.ensures (h s)))
     c.framed.ensures
 
-pub in_row-returns-then-used : goal.in_row-returns-then-used
-in_row-returns-then-used t c = IfOk-weaker c.stays.result _ _ (λ l h s. eased_same (h s)) c.stays.ensures
+pub in_row-returns-then-arguments_use : goal.in_row-returns-then-arguments_use
+in_row-returns-then-arguments_use t c = IfOk-weaker c.stays.result _ _ (λ l h s. eased_same (h s)) c.stays.ensures
 
 pub in_row-returns : goal.in_row-returns
 in_row-returns t c =

@@ -1,6 +1,0 @@
--- The copies so far are equal to the texts seen so far.
-use Rattle.std.proofs.Common.{◌≡◌, take, map, string_bytes}
-use Rattle.delta_code.proofs.compiling.copy_texts.Given as goal
-
-abbrev pub invariant-loop-text : goal.invariant-loop-text
-invariant-loop-text l = map string_bytes l.copies.items ≡ map string_bytes (take l.text-index l.texts)
