@@ -4,11 +4,11 @@ use Rattle.std.specs.Prelude.{Some}
 use Rattle.stream_type.specs.StreamType.{StreamType, null_of}
 use Rattle.bunch.specs.Names.{put, holds}
 use Rattle.bunch.specs.Facts.{place_let}
+use Rattle.bunch.proofs.Tests.{and_first, and_second}
 use Rattle.core_term.specs.CoreTerm.{CoreBody}
 use Rattle.core_term.specs.FreeNames.{without, free_names}
 use Rattle.core_term.specs.Parts.{par_left, par_right, cat_first, cat_second}
 use Rattle.core_term.specs.Typing.{Context, type_at, types_of, AllBefore, with_name, with_fact, with_parts}
-use Rattle.core_term.proofs.Sides.{and_first, and_second}
 use Rattle.delta_state.specs.StateTree.{StateTree, ArgumentTrees, argument_names, argument_at, free_in_state, free_in_arguments}
 use Rattle.delta_state.specs.StateTyping.{HasStateType, HaveArgumentTypes, marks_of_arguments, context_of_arguments}
 use Rattle.delta_state.specs.Settled.{is_settled, are_settled}

@@ -1,16 +1,10 @@
 -- The order of a bunch: it is of the bunch's names, and where these are distinct it is strict.
 use Rattle.std.proofs.Common.{◌≡◌, ℕ, Bool, true, false, true≢false, ◌&&◌, ◌||◌, refl, ap, ap₂, sym, ◌∙◌, ◌⊎◌, inl, inr, List}
+use Rattle.std.proofs.lemmas.Bool.{or_left, or_right}
 use Rattle.bunch.specs.Names.{holds}
 use Rattle.bunch.specs.BunchTree.{BunchTree, empty, leaf, comma, semi, leaf_names, stands_before, AreApart, IsDistinct}
 use Rattle.bunch.proofs.NameLists.{holds-append}
-
-or_false_left : (a b : Bool) → (a || b) ≡ false → a ≡ false
-or_false_left true b h = h
-or_false_left false b h = refl
-
-or_false_right : (a b : Bool) → (a || b) ≡ false → b ≡ false
-or_false_right true b h = absurd (true≢false h)
-or_false_right false b h = h
+use Rattle.bunch.proofs.Tests.{or_false_left, or_false_right, and_none, or_split, and_first, and_second}
 
 -- a name that isn't in the bunch stands before none
 pub stands_before-first : (t : BunchTree) (x y : ℕ) → holds x (leaf_names t) ≡ false → stands_before t x y ≡ false
@@ -25,10 +19,6 @@ stands_before-first (semi a b) x y h =
     ap (λ u. (u && holds y (leaf_names b)) || (stands_before a x y || stands_before b x y)) l
     ∙ ap₂ (λ u v. u || v) (stands_before-first a x y l) (stands_before-first b x y (or_false_right (holds x (leaf_names a)) (holds x (leaf_names b)) e))
 
-and_none : (a : Bool) → (a && false) ≡ false
-and_none true = refl
-and_none false = refl
-
 -- and none before it
 pub stands_before-second : (t : BunchTree) (x y : ℕ) → holds y (leaf_names t) ≡ false → stands_before t x y ≡ false
 stands_before-second empty x y h = refl
@@ -42,25 +32,6 @@ stands_before-second (semi a b) x y h =
     ap (λ u. (holds x (leaf_names a) && u) || (stands_before a x y || stands_before b x y)) r
     ∙ (ap (λ u. u || (stands_before a x y || stands_before b x y)) (and_none (holds x (leaf_names a)))
     ∙ ap₂ (λ u v. u || v) (stands_before-second a x y (or_false_left (holds y (leaf_names a)) (holds y (leaf_names b)) e)) (stands_before-second b x y r))
-
-or_split : (a b : Bool) → (a || b) ≡ true → (a ≡ true) ⊎ (b ≡ true)
-or_split true b h = inl refl
-or_split false b h = inr h
-
-or_first : (a b : Bool) → a ≡ true → (a || b) ≡ true
-or_first a b h = ap (λ c. c || b) h
-
-or_second : (a b : Bool) → b ≡ true → (a || b) ≡ true
-or_second true b h = refl
-or_second false b h = h
-
-and_first : (a b : Bool) → (a && b) ≡ true → a ≡ true
-and_first true b h = refl
-and_first false b h = h
-
-and_second : (a b : Bool) → (a && b) ≡ true → b ≡ true
-and_second true b h = h
-and_second false b h = absurd (true≢false (sym h))
 
 -- what holds of no other value holds of this one
 unless_false : (a b : Bool) → (a ≡ false → b ≡ false) → b ≡ true → a ≡ true
@@ -102,10 +73,10 @@ stands_before-between (leaf w t) d x y z h k = h
 stands_before-between (comma a b) d x y z h k = go (stands_before-between a d.0 x y z) (stands_before-between b d.1 x y z) (or_split (stands_before a x y) (stands_before b x y) h) (or_split (stands_before a y z) (stands_before b y z) k)
   where
     go : Between a x y z → Between b x y z → (stands_before a x y ≡ true) ⊎ (stands_before b x y ≡ true) → (stands_before a y z ≡ true) ⊎ (stands_before b y z ≡ true) → (stands_before a x z || stands_before b x z) ≡ true
-    go left right (inl p) (inl q) = or_first (stands_before a x z) (stands_before b x z) (left p q)
+    go left right (inl p) (inl q) = or_left (stands_before a x z) (stands_before b x z) (left p q)
     go left right (inl p) (inr q) = not_both (leaf_names a) (leaf_names b) y d.2 (second_is_there a x y p) (first_is_there b y z q)
     go left right (inr p) (inl q) = not_both (leaf_names a) (leaf_names b) y d.2 (first_is_there a y z q) (second_is_there b x y p)
-    go left right (inr p) (inr q) = or_second (stands_before a x z) (stands_before b x z) (right p q)
+    go left right (inr p) (inr q) = or_right (stands_before a x z) (stands_before b x z) (right p q)
 stands_before-between (semi a b) d x y z h k = go (stands_before-between a d.0 x y z) (stands_before-between b d.1 x y z) (parts x y h) (parts y z k)
   where
     parts : (u v : ℕ) → stands_before (semi a b) u v ≡ true → ((holds u (leaf_names a) && holds v (leaf_names b)) ≡ true) ⊎ ((stands_before a u v ≡ true) ⊎ (stands_before b u v ≡ true))
@@ -117,10 +88,10 @@ stands_before-between (semi a b) d x y z h k = go (stands_before-between a d.0 x
         under (inr e) = inr (or_split (stands_before a u v) (stands_before b u v) e)
 
     across : holds x (leaf_names a) ≡ true → holds z (leaf_names b) ≡ true → stands_before (semi a b) x z ≡ true
-    across l r = or_first (holds x (leaf_names a) && holds z (leaf_names b)) (stands_before a x z || stands_before b x z) (ap₂ (λ u v. u && v) l r)
+    across l r = or_left (holds x (leaf_names a) && holds z (leaf_names b)) (stands_before a x z || stands_before b x z) (ap₂ (λ u v. u && v) l r)
 
     inside : (stands_before a x z || stands_before b x z) ≡ true → stands_before (semi a b) x z ≡ true
-    inside e = or_second (holds x (leaf_names a) && holds z (leaf_names b)) (stands_before a x z || stands_before b x z) e
+    inside e = or_right (holds x (leaf_names a) && holds z (leaf_names b)) (stands_before a x z || stands_before b x z) e
 
     go : Between a x y z → Between b x y z → ((holds x (leaf_names a) && holds y (leaf_names b)) ≡ true) ⊎ ((stands_before a x y ≡ true) ⊎ (stands_before b x y ≡ true))
         → ((holds y (leaf_names a) && holds z (leaf_names b)) ≡ true) ⊎ ((stands_before a y z ≡ true) ⊎ (stands_before b y z ≡ true)) → stands_before (semi a b) x z ≡ true
@@ -128,8 +99,8 @@ stands_before-between (semi a b) d x y z h k = go (stands_before-between a d.0 x
     go left right (inl p) (inr (inl q)) = not_both (leaf_names a) (leaf_names b) y d.2 (first_is_there a y z q) (and_second (holds x (leaf_names a)) (holds y (leaf_names b)) p)
     go left right (inl p) (inr (inr q)) = across (and_first (holds x (leaf_names a)) (holds y (leaf_names b)) p) (second_is_there b y z q)
     go left right (inr (inl p)) (inl q) = across (first_is_there a x y p) (and_second (holds y (leaf_names a)) (holds z (leaf_names b)) q)
-    go left right (inr (inl p)) (inr (inl q)) = inside (or_first (stands_before a x z) (stands_before b x z) (left p q))
+    go left right (inr (inl p)) (inr (inl q)) = inside (or_left (stands_before a x z) (stands_before b x z) (left p q))
     go left right (inr (inl p)) (inr (inr q)) = not_both (leaf_names a) (leaf_names b) y d.2 (second_is_there a x y p) (first_is_there b y z q)
     go left right (inr (inr p)) (inl q) = not_both (leaf_names a) (leaf_names b) y d.2 (and_first (holds y (leaf_names a)) (holds z (leaf_names b)) q) (second_is_there b x y p)
     go left right (inr (inr p)) (inr (inl q)) = not_both (leaf_names a) (leaf_names b) y d.2 (first_is_there a y z q) (second_is_there b x y p)
-    go left right (inr (inr p)) (inr (inr q)) = inside (or_second (stands_before a x z) (stands_before b x z) (right p q))
+    go left right (inr (inr p)) (inr (inr q)) = inside (or_right (stands_before a x z) (stands_before b x z) (right p q))

@@ -2,25 +2,18 @@
 use Rattle.std.proofs.Common.{◌≡◌, ℕ, suc, Bool, true, false, true≢false, ◌||◌, List, [], ◌∷◌, ◌++◌, map, length, cond, eqb, refl, ap, sym, ◌∙◌, arith, get_or, set, ◌<◌}
 use Rattle.std.proofs.lemmas.Bool.{eqb-true}
 use Rattle.bunch.specs.Names.{holds, place_in, value_at}
+use Rattle.bunch.proofs.Tests.{or_false_left, or_false_right}
 
 -- a name that is tested equal to one that differs from z differs from z
 apart : (x y z : ℕ) → eqb x z ≡ false → eqb y z ≡ true → eqb y x ≡ true → {A : Type 0} → A
 apart x y z e f g = absurd (true≢false (sym f ∙ (ap (λ n. eqb n z) (eqb-true y x g) ∙ e)))
-
-or_left : (a b : Bool) → (a || b) ≡ false → a ≡ false
-or_left true b h = h
-or_left false b h = refl
-
-or_right : (a b : Bool) → (a || b) ≡ false → b ≡ false
-or_right true b h = absurd (true≢false h)
-or_right false b h = h
 
 -- no value stands beside a name that isn't there
 pub value_at-none : {A : Type 0} (d : A) (ns : List ℕ) (vs : List A) (y : ℕ) → holds y ns ≡ false → value_at d ns vs y ≡ d
 value_at-none d [] vs y h = refl
 value_at-none d (n ∷ ns) [] y h = refl
 value_at-none d (n ∷ ns) (v ∷ vs) y h =
-    ap (λ b. cond b v (value_at d ns vs y)) (or_left (eqb y n) (holds y ns) h) ∙ value_at-none d ns vs y (or_right (eqb y n) (holds y ns) h)
+    ap (λ b. cond b v (value_at d ns vs y)) (or_false_left (eqb y n) (holds y ns) h) ∙ value_at-none d ns vs y (or_false_right (eqb y n) (holds y ns) h)
 
 -- no value stands beside a name where there are no values
 pub value_at-nil : {A : Type 0} (d : A) (ns : List ℕ) (y : ℕ) → value_at d ns [] y ≡ d
@@ -42,11 +35,11 @@ value_at-end d [] [] x v y h new = refl
 value_at-end d [] (w ∷ ws) x v y h new = absurd (omega arith)
 value_at-end d (n ∷ ns) [] x v y h new = absurd (omega arith)
 value_at-end d (n ∷ ns) (w ∷ ws) x v y h new =
-    go (eqb y n) refl (eqb y x) refl (value_at-end d ns ws x v y (omega arith) (or_right (eqb x n) (holds x ns) new))
+    go (eqb y n) refl (eqb y x) refl (value_at-end d ns ws x v y (omega arith) (or_false_right (eqb x n) (holds x ns) new))
   where
     go : (b : Bool) → eqb y n ≡ b → (c : Bool) → eqb y x ≡ c → value_at d (ns ++ x ∷ []) (ws ++ v ∷ []) y ≡ cond (eqb y x) v (value_at d ns ws y)
         → cond b w (value_at d (ns ++ x ∷ []) (ws ++ v ∷ []) y) ≡ cond c v (cond b w (value_at d ns ws y))
-    go true e true f ih = apart x y n (or_left (eqb x n) (holds x ns) new) e f
+    go true e true f ih = apart x y n (or_false_left (eqb x n) (holds x ns) new) e f
     go true e false f ih = refl
     go false e c f ih = ih ∙ ap (λ b. cond b v (value_at d ns ws y)) f
 
@@ -96,4 +89,4 @@ place_in-within x (n ∷ ns) h = go (eqb x n) h (place_in-within x ns)
 -- and past it elsewhere
 pub place_in-none : (x : ℕ) (ns : List ℕ) → holds x ns ≡ false → place_in x ns ≡ length ns
 place_in-none x [] h = refl
-place_in-none x (n ∷ ns) h = ap (λ b. cond b 0 (suc (place_in x ns))) (or_left (eqb x n) (holds x ns) h) ∙ ap suc (place_in-none x ns (or_right (eqb x n) (holds x ns) h))
+place_in-none x (n ∷ ns) h = ap (λ b. cond b 0 (suc (place_in x ns))) (or_false_left (eqb x n) (holds x ns) h) ∙ ap suc (place_in-none x ns (or_false_right (eqb x n) (holds x ns) h))

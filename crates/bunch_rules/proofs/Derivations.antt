@@ -1,12 +1,14 @@
 -- A term that a bunch derives is typed in every order that has the bunch's facts: by induction on the derivation.
 use Rattle.std.proofs.Common.{◌≡◌, ◌≢◌, ◌∙◌, ℕ, Bool, true, false, true≢false, ◌&&◌, ◌||◌, ◌⊎◌, inl, inr, List, [], ◌∷◌, ◌++◌, eqb, if◌then◌else◌, ap, ap₂, refl, sym, subst}
-use Rattle.std.proofs.lemmas.Bool.{eqb-true, eq-eqb}
+use Rattle.std.proofs.lemmas.Bool.{eqb-true, eq-eqb, or_left, or_right, false_from_ne_true}
 use Rattle.std.specs.Prelude.{Some, unwrap_or}
 use Rattle.stream_type.specs.StreamType.{StreamType, eps, cat, par, sum, star, null_of}
 use Rattle.bunch.specs.Names.{holds}
 use Rattle.bunch.specs.Facts.{Facts, place_like, put_before}
 use Rattle.bunch.specs.BunchTree.{BunchTree, leaf, comma, semi, leaf_names, stands_before, IsDistinct}
 use Rattle.bunch.proofs.Bunches.{first_is_there, second_is_there}
+use Rattle.bunch.proofs.Tests.{or_split}
+use Rattle.bunch.proofs.NameLists.{one_name}
 use Rattle.hist_value.specs.HistType.{past}
 use Rattle.hist_value.specs.Typing.{Gives}
 use Rattle.core_term.specs.CoreTerm.{CoreTerm, CoreTerms, CoreBody, let_par_term, let_cat_term, case_sum_term, case_star_term, wait_term, leaf_types, past_types, fun_at}
@@ -14,15 +16,15 @@ use Rattle.core_term.specs.FreeNames.{without, free_names, free_in_terms, bound_
 use Rattle.core_term.specs.Inert.{is_inert}
 use Rattle.core_term.specs.Parts.{par_left, par_right, cat_first, cat_second, sum_left, sum_right, star_item, star_items}
 use Rattle.core_term.specs.Typing.{Context, with_name_like, with_fact, with_parts, waited, HavePasts, argument_of, HasType, HaveTypes}
-use Rattle.core_term.proofs.Sides.{or_split, or_first, or_second, holds-head, holds-left, holds-right, holds-split}
+use Rattle.core_term.proofs.Sides.{holds-head, holds-left, holds-right, holds-split}
 use Rattle.core_term.proofs.Without.{holds-tail, holds-kept, differs-kept}
-use Rattle.core_term.proofs.BoundOnce.{not_again, distinct_tail, distinct_left, distinct_right}
+use Rattle.core_term.proofs.BoundOnce.{not_again, distinct_tail, distinct_left, distinct_right, differ}
 use Rattle.bunch_rules.specs.Rearranging.{Turn, Replaces}
 use Rattle.bunch_rules.specs.Derivation.{Known, Derives, rearranged, var_rule, eps_rule, unit_rule, nil_rule, past_rule, par_rule, inl_rule, inr_rule, cat_rule, cons_rule, let_rule, let_par_rule, let_cat_rule, case_sum_rule, case_star_rule, wait_rule, call_rule, Passes, nothing_passed, shared, Shares, empty_shared, leaf_shared, comma_shared, semi_shared}
 use Rattle.bunch_rules.specs.Laws.{Serves, BindsNew, AreDistinct}
-use Rattle.bunch_rules.proofs.Replacing.{unless_true, true_not_false, part_names, part_leaf, part_distinct, new_names, leaf_is_name, still_distinct, not_left, not_right, AtSemi, crossing, at_first, at_second, at_semi, across, semi_first, semi_second, comma_first, comma_second}
+use Rattle.bunch_rules.proofs.Replacing.{true_not_false, part_names, part_leaf, part_distinct, new_names, leaf_is_name, still_distinct, not_left, not_right, AtSemi, crossing, at_first, at_second, at_semi, across, semi_first, semi_second, comma_first, comma_second}
 use Rattle.bunch_rules.proofs.Steps.{names_kept, distinct_kept}
-use Rattle.bunch_rules.proofs.Serving.{served_before, serves_part, serves_comma_first, serves_comma_second, serves_loosened, serves_step, step_names, one_name, serves_let}
+use Rattle.bunch_rules.proofs.Serving.{served_before, serves_part, serves_comma_first, serves_comma_second, serves_loosened, serves_step, step_names, serves_let}
 use Rattle.bunch_rules.proofs.Parts.{two_names, three_names, serves_beside, beside_distinct, serves_pair, pair_distinct, single_apart, serves_waited, waited_distinct}
 
 pub either : {A B C : Type 0} → (A → C) → (B → C) → A ⊎ B → C
@@ -89,7 +91,7 @@ below_two g h x y free names f u m =
 -- new names stay new
 pub binds_fewer : (bs cs : List ℕ) (g h : BunchTree) → BindsNew bs g → is_distinct cs ≡ true → ((u : ℕ) → holds u cs ≡ true → holds u bs ≡ true) → ((u : ℕ) → holds u cs ≡ true → holds u (leaf_names h) ≡ true → (holds u (leaf_names g) ≡ true) ⊎ ⊥) → BindsNew cs h
 binds_fewer bs cs g h n d f k =
-    record { once = d; new = λ u m. unless_true (holds u (leaf_names h)) (λ i. either (λ j. true_not_false (holds u (leaf_names g)) j (n.new u (f u m))) (λ j. j) (k u m i)) }
+    record { once = d; new = λ u m. false_from_ne_true (holds u (leaf_names h)) (λ i. either (λ j. true_not_false (holds u (leaf_names g)) j (n.new u (f u m))) (λ j. j) (k u m i)) }
 
 pub binds_first : (bs cs : List ℕ) (g h : BunchTree) → BindsNew (bs ++ cs) g → ((u : ℕ) → holds u (leaf_names h) ≡ true → holds u (leaf_names g) ≡ true) → BindsNew bs h
 binds_first bs cs g h n f = binds_fewer (bs ++ cs) bs g h n (distinct_left bs cs n.once) (λ u m. holds-left u bs cs m) (λ u m i. inl (f u i))
@@ -114,7 +116,7 @@ pub let_distinct : {d g h : BunchTree} {p : List Turn} {x : ℕ} {s : StreamType
 let_distinct {d = d} {g = g} {x = x} k o nx = still_distinct k o (part_distinct k o, tt, apart) new
   where
     apart : (u : ℕ) → holds u (x ∷ []) ≡ true → holds u (leaf_names d) ≡ false
-    apart u m = unless_true (holds u (leaf_names d)) (λ n. true_not_false (holds x (leaf_names g)) (subst (λ w. holds w (leaf_names g) ≡ true) (one_name u x m) (part_names k u n)) nx)
+    apart u m = false_from_ne_true (holds u (leaf_names d)) (λ n. true_not_false (holds x (leaf_names g)) (subst (λ w. holds w (leaf_names g) ≡ true) (one_name u x m) (part_names k u n)) nx)
 
     new : (u : ℕ) → holds u (leaf_names d ++ (x ∷ [])) ≡ true → (holds u (leaf_names d) ≡ true) ⊎ (holds u (leaf_names g) ≡ false)
     new u m = either (λ n. inl n) (λ n. inr (subst (λ w. holds w (leaf_names g) ≡ false) (sym (one_name u x n)) nx)) (holds-split u (leaf_names d) (x ∷ []) m)
@@ -165,9 +167,6 @@ module _ (funs : List CoreBody) (counts : ℕ → Bool) where
         either (λ n. inl (holds-left u (leaf_names g) (leaf_names h) n)) (λ n. either (λ l. inl (holds-right u (leaf_names g) (leaf_names h) l)) (λ l. inr l) (shared_within j u n)) (shared_within i u m)
     shared_within (semi_shared {g = g} {h = h} i j) u m =
         either (λ n. inl (holds-left u (leaf_names g) (leaf_names h) n)) (λ n. either (λ l. inl (holds-right u (leaf_names g) (leaf_names h) l)) (λ l. inr l) (shared_within j u n)) (shared_within i u m)
-
-pub different : (x y : ℕ) (bs : List ℕ) → is_distinct (x ∷ (y ∷ bs)) ≡ true → x ≢ y
-different x y bs d e = not_again x (y ∷ bs) d (subst (λ w. holds w (y ∷ bs) ≡ true) (sym e) (holds-head y bs))
 
 decide : {P : Type 0} (b : Bool) → (b ≡ true → P) → (b ≡ false → P) → P
 decide true f h = f refl
@@ -289,7 +288,7 @@ module _ (funs : List CoreBody) (counts : ℕ → Bool) where
 
   put_fact : (x y : ℕ) (before : Facts) (u v : ℕ) → stands_before (semi (leaf x eps) (leaf y eps)) u v ≡ true → put_before x y before u v ≡ true
   put_fact x y before u v m =
-      by_semi (at_semi (leaf x eps) (leaf y eps) u v m) (λ k n. or_first (eqb u x && eqb v y) (before u v) (ap₂ (λ i j. i && j) (eq-eqb u x (one_name u x k)) (eq-eqb v y (one_name v y n)))) (λ n. absurd (true≢false (sym n)))
+      by_semi (at_semi (leaf x eps) (leaf y eps) u v m) (λ k n. or_left (eqb u x && eqb v y) (before u v) (ap₂ (λ i j. i && j) (eq-eqb u x (one_name u x k)) (eq-eqb v y (one_name v y n)))) (λ n. absurd (true≢false (sym n)))
       (λ n. absurd (true≢false (sym n)))
 
 module _ (funs : List CoreBody) (counts : ℕ → Bool) (distinct : AreDistinct funs) where
@@ -328,17 +327,17 @@ module _ (funs : List CoreBody) (counts : ℕ → Bool) (distinct : AreDistinct 
     typed (let_par_rule {p = p} {g = g} {h = h} {x = x} {y = y} {z = z} {s = s} {t = t} {r = r} {a = a} k i) c v d n =
         let nx = n.new x (holds-head x (y ∷ bound_names a)) in
         let ny = n.new y (holds-tail y x (y ∷ bound_names a) (holds-head y (bound_names a))) in
-        let xy = different x y (bound_names a) n.once in
+        let xy = differ x y (bound_names a) n.once in
         par_typed funs counts c x y z s t r a (has_part funs counts k v)
         (typed i _ (serves_pair g h (comma (leaf x s) (leaf y t)) p x y z s t (par s t) c d nx ny xy refl (λ u q m. m) k (place_like y z (place_like x z c.order)) (λ u w m. m) (λ u w m. absurd (true≢false (sym m))) v)
         (pair_distinct g h (comma (leaf x s) (leaf y t)) p x y z s t (par s t) c d nx ny xy refl (λ u q m. m) k (tt, tt, single_apart x y xy)) (binds_below_two x y (bound_names a) g h n (pair_names x y refl k)))
     typed (let_cat_rule {p = p} {g = g} {h = h} {x = x} {y = y} {z = z} {s = s} {t = t} {r = r} {a = a} k i) c v d n =
         let nx = n.new x (holds-head x (y ∷ bound_names a)) in
         let ny = n.new y (holds-tail y x (y ∷ bound_names a) (holds-head y (bound_names a))) in
-        let xy = different x y (bound_names a) n.once in
+        let xy = differ x y (bound_names a) n.once in
         let placed = place_like y z (place_like x z c.order) in
         cat_typed funs counts c x y z s t r a (has_part funs counts k v)
-        (typed i _ (serves_pair g h (semi (leaf x s) (leaf y t)) p x y z s t (cat s t) c d nx ny xy refl (λ u q m. m) k (put_before x y placed) (λ u w m. or_second (eqb u x && eqb w y) (placed u w) m) (put_fact funs counts x y placed) v)
+        (typed i _ (serves_pair g h (semi (leaf x s) (leaf y t)) p x y z s t (cat s t) c d nx ny xy refl (λ u q m. m) k (put_before x y placed) (λ u w m. or_right (eqb u x && eqb w y) (placed u w) m) (put_fact funs counts x y placed) v)
         (pair_distinct g h (semi (leaf x s) (leaf y t)) p x y z s t (cat s t) c d nx ny xy refl (λ u q m. m) k (tt, tt, single_apart x y xy)) (binds_below_two x y (bound_names a) g h n (pair_names x y refl k)))
     typed (case_sum_rule {p = p} {q = q} {g = g} {h = h} {k = h'} {x = x} {y = y} {z = z} {s = s} {t = t} {r = r} {a = a} {b = b} k i l j) c v d n =
         let na = binds_first (x ∷ bound_names a) (y ∷ bound_names b) g g n (λ u m. m) in
@@ -353,10 +352,10 @@ module _ (funs : List CoreBody) (counts : ℕ → Bool) (distinct : AreDistinct 
         let nb = binds_second (bound_names a) (y ∷ (ys ∷ bound_names b)) g g n (λ u m. m) in
         let ny = nb.new y (holds-head y (ys ∷ bound_names b)) in
         let nys = nb.new ys (holds-tail ys y (ys ∷ bound_names b) (holds-head ys (bound_names b))) in
-        let xy = different y ys (bound_names b) nb.once in
+        let xy = differ y ys (bound_names b) nb.once in
         let placed = place_like ys z (place_like y z c.order) in
         star_typed funs counts c y ys z s r a b (has_part funs counts k v) (typed i c v d na)
-        (typed j _ (serves_pair g h (semi (leaf y s) (leaf ys (star s))) p y ys z s (star s) (star s) c d ny nys xy refl (λ u q m. m) k (put_before y ys placed) (λ u w m. or_second (eqb u y && eqb w ys) (placed u w) m) (put_fact funs counts y ys placed) v)
+        (typed j _ (serves_pair g h (semi (leaf y s) (leaf ys (star s))) p y ys z s (star s) (star s) c d ny nys xy refl (λ u q m. m) k (put_before y ys placed) (λ u w m. or_right (eqb u y && eqb w ys) (placed u w) m) (put_fact funs counts y ys placed) v)
         (pair_distinct g h (semi (leaf y s) (leaf ys (star s))) p y ys z s (star s) (star s) c d ny nys xy refl (λ u q m. m) k (tt, tt, single_apart y ys xy)) (binds_below_two y ys (bound_names b) g h nb (pair_names y ys refl k)))
     typed (wait_rule {p = p} {g = g} {h = h} {x = x} {s = s} {r = r} {a = a} o k i) c v d n =
         wait_typed funs counts c x s r a (has_part funs counts k v) o

@@ -1,21 +1,22 @@
 -- Names that stand beside the name that they are parts of, and a name that was waited for.
-use Rattle.std.proofs.Common.{◌≡◌, ◌≢◌, ◌∙◌, ℕ, Bool, true, false, true≢false, ◌||◌, ◌⊎◌, inl, inr, List, [], ◌∷◌, ◌++◌, eqb, ap, ap₂, refl, sym, subst}
-use Rattle.std.proofs.lemmas.Bool.{eqb-true, ne_eqb}
+use Rattle.std.proofs.Common.{◌≡◌, ◌≢◌, ◌∙◌, ℕ, Bool, true, false, true≢false, ◌||◌, ◌⊎◌, inl, inr, List, [], ◌∷◌, eqb, ap, ap₂, refl, sym, subst}
+use Rattle.std.proofs.lemmas.Bool.{eqb-true, ne_eqb, false_from_ne_true}
 use Rattle.std.specs.Prelude.{Some, None, unwrap_or}
 use Rattle.stream_type.specs.StreamType.{StreamType, eps}
 use Rattle.bunch.specs.Names.{holds, put}
 use Rattle.bunch.specs.Facts.{Facts, place_like}
 use Rattle.bunch.specs.BunchTree.{BunchTree, empty, leaf, comma, leaf_names, stands_before, AreApart, IsDistinct}
 use Rattle.bunch.proofs.Bunches.{first_is_there, second_is_there, stands_before-same}
-use Rattle.bunch.proofs.NameLists.{holds-append}
+use Rattle.bunch.proofs.NameLists.{one_name}
 use Rattle.hist_value.specs.HistType.{past}
 use Rattle.core_term.specs.Typing.{Context, with_name_like, waited}
 use Rattle.core_term.proofs.Sides.{holds-head, put-same, put-other}
 use Rattle.bunch_rules.specs.Rearranging.{Turn, Replaces, right_here, left_of_comma, right_of_comma, left_of_semi, right_of_semi, stays_first}
 use Rattle.bunch_rules.specs.Derivation.{Known, hidden, learned, HasLeaf}
 use Rattle.bunch_rules.specs.Laws.{Serves}
-use Rattle.bunch_rules.proofs.Replacing.{unless_true, true_not_false, part_names, part_leaf, new_leaf, NewFact, was_there, inside, onto, from, new_fact, leaf_is_name, IsNew, still_distinct}
-use Rattle.bunch_rules.proofs.Serving.{like_old, like_to, like_from, other, one_name}
+use Rattle.bunch_rules.proofs.Replacing.{true_not_false, part_names, part_leaf, new_leaf, NewFact, was_there, inside, onto, from, new_fact, leaf_is_name, IsNew, still_distinct}
+use Rattle.bunch_rules.proofs.Serving.{like_old, like_to, like_from, other}
+use Rattle.bunch_rules.proofs.Steps.{neither}
 
 pub two_names : (u z x : ℕ) → holds u (z ∷ (x ∷ [])) ≡ true → (u ≡ z) ⊎ (u ≡ x)
 two_names u z x m = go (eqb u z) refl m
@@ -165,18 +166,15 @@ module _ (g h w : BunchTree) (p : List Turn) (x y z : ℕ) (s t r : StreamType) 
 pub single_apart : (x y : ℕ) → x ≢ y → AreApart (x ∷ []) (y ∷ [])
 single_apart x y n u m = ap (λ b. b || false) (ne_eqb u x (λ e. n (sym e ∙ one_name u y m)))
 
-neither_side : (x : ℕ) (xs ys : List ℕ) → holds x xs ≡ false → holds x ys ≡ false → holds x (xs ++ ys) ≡ false
-neither_side x xs ys m n = holds-append x xs ys ∙ ap₂ (λ u v. u || v) m n
-
 -- a leaf that is replaced by nothing is gone
 pub gone : {x : ℕ} {s : StreamType} {g h : BunchTree} {p : List Turn} → Replaces (leaf x s) empty p g h → IsDistinct g → holds x (leaf_names h) ≡ false
 gone right_here d = refl
 gone {x = x} (left_of_comma {a = a} {b = b} {c = c} k) d =
-    neither_side x (leaf_names c) (leaf_names b) (gone k d.0) (unless_true (holds x (leaf_names b)) (λ m. true_not_false (holds x (leaf_names a)) (part_names k x (holds-head x [])) (d.2 x m)))
-gone {x = x} (right_of_comma {a = a} {b = b} {c = c} k) d = neither_side x (leaf_names a) (leaf_names c) (d.2 x (part_names k x (holds-head x []))) (gone k d.1)
+    neither x (leaf_names c) (leaf_names b) (gone k d.0) (false_from_ne_true (holds x (leaf_names b)) (λ m. true_not_false (holds x (leaf_names a)) (part_names k x (holds-head x [])) (d.2 x m)))
+gone {x = x} (right_of_comma {a = a} {b = b} {c = c} k) d = neither x (leaf_names a) (leaf_names c) (d.2 x (part_names k x (holds-head x []))) (gone k d.1)
 gone {x = x} (left_of_semi {a = a} {b = b} {c = c} k) d =
-    neither_side x (leaf_names c) (leaf_names b) (gone k d.0) (unless_true (holds x (leaf_names b)) (λ m. true_not_false (holds x (leaf_names a)) (part_names k x (holds-head x [])) (d.2 x m)))
-gone {x = x} (right_of_semi {a = a} {b = b} {c = c} k) d = neither_side x (leaf_names a) (leaf_names c) (d.2 x (part_names k x (holds-head x []))) (gone k d.1)
+    neither x (leaf_names c) (leaf_names b) (gone k d.0) (false_from_ne_true (holds x (leaf_names b)) (λ m. true_not_false (holds x (leaf_names a)) (part_names k x (holds-head x [])) (d.2 x m)))
+gone {x = x} (right_of_semi {a = a} {b = b} {c = c} k) d = neither x (leaf_names a) (leaf_names c) (d.2 x (part_names k x (holds-head x []))) (gone k d.1)
 
 -- what is left is served once the name is historical
 module _ (g h : BunchTree) (p : List Turn) (x : ℕ) (s : StreamType) (c : Context) (distinct : IsDistinct g) (k : Replaces (leaf x s) empty p g h) where

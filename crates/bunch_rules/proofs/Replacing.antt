@@ -1,15 +1,13 @@
 -- A part of a bunch, and the bunch with another part in its place: which names, types and facts are there.
 use Rattle.std.proofs.Common.{◌≡◌, ◌∙◌, ℕ, Bool, true, false, true≢false, ◌&&◌, ◌||◌, ◌⊎◌, inl, inr, List, [], ◌∷◌, ◌++◌, ap₂, refl, sym, subst}
+use Rattle.std.proofs.lemmas.Bool.{or_left, or_right, false_from_ne_true}
 use Rattle.stream_type.specs.StreamType.{StreamType}
 use Rattle.bunch.specs.Names.{holds}
 use Rattle.bunch.specs.BunchTree.{BunchTree, empty, leaf, comma, semi, leaf_names, stands_before, AreApart, IsDistinct}
-use Rattle.core_term.proofs.Sides.{or_split, or_first, or_second, and_first, and_second, holds-head, holds-left, holds-right, holds-split}
+use Rattle.bunch.proofs.Tests.{and_first, and_second, or_split}
+use Rattle.core_term.proofs.Sides.{holds-head, holds-left, holds-right, holds-split}
 use Rattle.bunch_rules.specs.Rearranging.{Turn, Replaces, right_here, left_of_comma, right_of_comma, left_of_semi, right_of_semi, stays_first}
 use Rattle.bunch_rules.specs.Derivation.{HasLeaf}
-
-pub unless_true : (b : Bool) → (b ≡ true → ⊥) → b ≡ false
-unless_true true f = absurd (f refl)
-unless_true false f = refl
 
 pub true_not_false : (b : Bool) → b ≡ true → b ≡ false → ⊥
 true_not_false b t f = true≢false (sym t ∙ f)
@@ -32,19 +30,19 @@ at_semi a b x y k = go (or_split (holds x (leaf_names a) && holds y (leaf_names 
     go (inr m) = sides (or_split (stands_before a x y) (stands_before b x y) m)
 
 pub across : (a b : BunchTree) (x y : ℕ) → holds x (leaf_names a) ≡ true → holds y (leaf_names b) ≡ true → stands_before (semi a b) x y ≡ true
-across a b x y m n = or_first (holds x (leaf_names a) && holds y (leaf_names b)) (stands_before a x y || stands_before b x y) (ap₂ (λ u v. u && v) m n)
+across a b x y m n = or_left (holds x (leaf_names a) && holds y (leaf_names b)) (stands_before a x y || stands_before b x y) (ap₂ (λ u v. u && v) m n)
 
 pub semi_first : (a b : BunchTree) (x y : ℕ) → stands_before a x y ≡ true → stands_before (semi a b) x y ≡ true
-semi_first a b x y k = or_second (holds x (leaf_names a) && holds y (leaf_names b)) (stands_before a x y || stands_before b x y) (or_first (stands_before a x y) (stands_before b x y) k)
+semi_first a b x y k = or_right (holds x (leaf_names a) && holds y (leaf_names b)) (stands_before a x y || stands_before b x y) (or_left (stands_before a x y) (stands_before b x y) k)
 
 pub semi_second : (a b : BunchTree) (x y : ℕ) → stands_before b x y ≡ true → stands_before (semi a b) x y ≡ true
-semi_second a b x y k = or_second (holds x (leaf_names a) && holds y (leaf_names b)) (stands_before a x y || stands_before b x y) (or_second (stands_before a x y) (stands_before b x y) k)
+semi_second a b x y k = or_right (holds x (leaf_names a) && holds y (leaf_names b)) (stands_before a x y || stands_before b x y) (or_right (stands_before a x y) (stands_before b x y) k)
 
 pub comma_first : (a b : BunchTree) (x y : ℕ) → stands_before a x y ≡ true → stands_before (comma a b) x y ≡ true
-comma_first a b x y k = or_first (stands_before a x y) (stands_before b x y) k
+comma_first a b x y k = or_left (stands_before a x y) (stands_before b x y) k
 
 pub comma_second : (a b : BunchTree) (x y : ℕ) → stands_before b x y ≡ true → stands_before (comma a b) x y ≡ true
-comma_second a b x y k = or_second (stands_before a x y) (stands_before b x y) k
+comma_second a b x y k = or_right (stands_before a x y) (stands_before b x y) k
 
 -- the names of a part are names of the bunch,
 pub part_names : {d e g h : BunchTree} {p : List Turn} → Replaces d e p g h → (x : ℕ) → holds x (leaf_names d) ≡ true → holds x (leaf_names g) ≡ true
@@ -201,10 +199,10 @@ abbrev pub IsNew : BunchTree → BunchTree → BunchTree → Type 0
 IsNew d e g = (x : ℕ) → holds x (leaf_names e) ≡ true → (holds x (leaf_names d) ≡ true) ⊎ (holds x (leaf_names g) ≡ false)
 
 pub not_left : (x : ℕ) (xs ys : List ℕ) → holds x (xs ++ ys) ≡ false → holds x xs ≡ false
-not_left x xs ys f = unless_true (holds x xs) (λ m. true_not_false (holds x (xs ++ ys)) (holds-left x xs ys m) f)
+not_left x xs ys f = false_from_ne_true (holds x xs) (λ m. true_not_false (holds x (xs ++ ys)) (holds-left x xs ys m) f)
 
 pub not_right : (x : ℕ) (xs ys : List ℕ) → holds x (xs ++ ys) ≡ false → holds x ys ≡ false
-not_right x xs ys f = unless_true (holds x ys) (λ m. true_not_false (holds x (xs ++ ys)) (holds-right x xs ys m) f)
+not_right x xs ys f = false_from_ne_true (holds x ys) (λ m. true_not_false (holds x (xs ++ ys)) (holds-right x xs ys m) f)
 
 new_left : (d e a b : BunchTree) → ((x : ℕ) → holds x (leaf_names e) ≡ true → (holds x (leaf_names d) ≡ true) ⊎ (holds x (leaf_names a ++ leaf_names b) ≡ false)) → IsNew d e a
 new_left d e a b f x m = go (f x m)
@@ -223,7 +221,7 @@ new_right d e a b f x m = go (f x m)
 -- both sides stay apart, whichever is replaced
 apart_left : {d e a c : BunchTree} {p : List Turn} (b : BunchTree) → Replaces d e p a c → AreApart (leaf_names a) (leaf_names b)
     → ((x : ℕ) → holds x (leaf_names e) ≡ true → (holds x (leaf_names d) ≡ true) ⊎ (holds x (leaf_names a ++ leaf_names b) ≡ false)) → AreApart (leaf_names c) (leaf_names b)
-apart_left {d = d} {e = e} {a = a} {c = c} b k o f x m = unless_true (holds x (leaf_names c)) (λ n. go (new_names k x n))
+apart_left {d = d} {e = e} {a = a} {c = c} b k o f x m = false_from_ne_true (holds x (leaf_names c)) (λ n. go (new_names k x n))
   where
     fresh : (holds x (leaf_names d) ≡ true) ⊎ (holds x (leaf_names a ++ leaf_names b) ≡ false) → ⊥
     fresh (inl n) = true_not_false (holds x (leaf_names a)) (part_names k x n) (o x m)

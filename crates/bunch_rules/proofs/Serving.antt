@@ -1,14 +1,16 @@
 -- What a context that serves a bunch has for the bunches that the rules make of it.
 use Rattle.std.proofs.Common.{◌≡◌, ◌≢◌, ◌∙◌, ℕ, Bool, true, false, true≢false, ◌&&◌, ◌||◌, ◌⊎◌, inl, inr, List, [], ◌∷◌, eqb, if◌then◌else◌, ap, ap₂, refl, sym, subst}
-use Rattle.std.proofs.lemmas.Bool.{eqb-true, eq-eqb, ne_eqb}
+use Rattle.std.proofs.lemmas.Bool.{eqb-true, eq-eqb, ne_eqb, or_left, or_right}
 use Rattle.std.specs.Prelude.{Option, Some, None, is_some}
 use Rattle.stream_type.specs.StreamType.{StreamType}
 use Rattle.bunch.specs.Names.{holds, put}
 use Rattle.bunch.specs.Facts.{Facts, place_like, place_let, before_like, after_like, before_let, after_let}
 use Rattle.bunch.specs.BunchTree.{BunchTree, empty, leaf, comma, semi, leaf_names, stands_before}
 use Rattle.bunch.proofs.Bunches.{first_is_there, second_is_there}
+use Rattle.bunch.proofs.Tests.{or_split}
+use Rattle.bunch.proofs.NameLists.{one_name}
 use Rattle.core_term.specs.Typing.{Context, is_before, with_name}
-use Rattle.core_term.proofs.Sides.{or_split, or_first, or_second, holds-split, holds-all, put-same, put-other}
+use Rattle.core_term.proofs.Sides.{holds-split, holds-all, put-same, put-other}
 use Rattle.bunch_rules.specs.Rearranging.{Turn, Replaces, StepName, Becomes, stays_first}
 use Rattle.bunch_rules.specs.Derivation.{Known, hidden, HasLeaf}
 use Rattle.bunch_rules.specs.Laws.{Serves}
@@ -44,13 +46,13 @@ pub serves_part : {known : Known} {d e g h : BunchTree} {p : List Turn} {c : Con
 serves_part k v = record { knows = v.knows; has_name = λ x t m. v.has_name x t (part_leaf k x t m); has_fact = λ x y m. v.has_fact x y (part_facts k x y m) }
 
 pub serves_comma_first : {known : Known} {a b : BunchTree} {c : Context} → Serves known (comma a b) c → Serves known a c
-serves_comma_first {a = a} {b = b} v = record { knows = v.knows; has_name = λ x t m. v.has_name x t (inl m); has_fact = λ x y m. v.has_fact x y (or_first (stands_before a x y) (stands_before b x y) m) }
+serves_comma_first {a = a} {b = b} v = record { knows = v.knows; has_name = λ x t m. v.has_name x t (inl m); has_fact = λ x y m. v.has_fact x y (or_left (stands_before a x y) (stands_before b x y) m) }
 
 pub serves_comma_second : {known : Known} {a b : BunchTree} {c : Context} → Serves known (comma a b) c → Serves known b c
-serves_comma_second {a = a} {b = b} v = record { knows = v.knows; has_name = λ x t m. v.has_name x t (inr m); has_fact = λ x y m. v.has_fact x y (or_second (stands_before a x y) (stands_before b x y) m) }
+serves_comma_second {a = a} {b = b} v = record { knows = v.knows; has_name = λ x t m. v.has_name x t (inr m); has_fact = λ x y m. v.has_fact x y (or_right (stands_before a x y) (stands_before b x y) m) }
 
 pub serves_loosened : {known : Known} {a b : BunchTree} {c : Context} → Serves known (semi a b) c → Serves known (comma a b) c
-serves_loosened {a = a} {b = b} v = record { knows = v.knows; has_name = v.has_name; has_fact = λ x y m. v.has_fact x y (or_second (holds x (leaf_names a) && holds y (leaf_names b)) (stands_before a x y || stands_before b x y) m) }
+serves_loosened {a = a} {b = b} v = record { knows = v.knows; has_name = v.has_name; has_fact = λ x y m. v.has_fact x y (or_right (holds x (leaf_names a) && holds y (leaf_names b)) (stands_before a x y || stands_before b x y) m) }
 
 -- facts of a part whose new form has no new fact
 old_fact : (d e g : BunchTree) (first : Bool) (x y : ℕ) → ((u : ℕ) → holds u (leaf_names e) ≡ true → holds u (leaf_names d) ≡ true) → (stands_before e x y ≡ true → stands_before g x y ≡ true) → NewFact d e g first x y → stands_before g x y ≡ true
@@ -120,13 +122,6 @@ let_from x free inert before v nv f =
 -- names of the bunch are other than new ones
 pub other : (g : BunchTree) (x u : ℕ) → holds x (leaf_names g) ≡ false → holds u (leaf_names g) ≡ true → u ≢ x
 other g x u f m e = true_not_false (holds x (leaf_names g)) (subst (λ w. holds w (leaf_names g) ≡ true) e m) f
-
-pub one_name : (u x : ℕ) → holds u (x ∷ []) ≡ true → u ≡ x
-one_name u x m = go (eqb u x) refl m
-  where
-    go : (b : Bool) → eqb u x ≡ b → (b || false) ≡ true → u ≡ x
-    go true e k = eqb-true u x e
-    go false e k = absurd (true≢false (sym k))
 
 -- a let's name beside a part of the bunch
 module _ (d g h : BunchTree) (p : List Turn) (x : ℕ) (s : StreamType) (free : List ℕ) (inert : Bool) (c : Context) where

@@ -1,13 +1,14 @@
 -- Steps add no name, no type and no fact, and keep names distinct.
 use Rattle.std.proofs.Common.{◌≡◌, ◌∙◌, ℕ, Bool, true, false, true≢false, ◌&&◌, ◌||◌, ◌⊎◌, inl, inr, List, [], ◌++◌, ap₂, refl, sym}
+use Rattle.std.proofs.lemmas.Bool.{or_left, or_right, false_from_ne_true}
 use Rattle.stream_type.specs.StreamType.{StreamType}
 use Rattle.bunch.specs.Names.{holds}
 use Rattle.bunch.specs.BunchTree.{BunchTree, empty, semi, leaf_names, stands_before, AreApart, IsDistinct}
 use Rattle.bunch.proofs.NameLists.{holds-append}
-use Rattle.core_term.proofs.Sides.{or_first, or_second, holds-left, holds-right, holds-split}
+use Rattle.core_term.proofs.Sides.{holds-left, holds-right, holds-split}
 use Rattle.bunch_rules.specs.Rearranging.{StepName, Becomes, dropped, swapped, commas_to_left, semis_to_left, commas_to_right, semis_to_right, loosened, left_unit_of_comma, right_unit_of_comma, left_unit_of_semi, right_unit_of_semi, empty_before, empty_after, empty_beside}
 use Rattle.bunch_rules.specs.Derivation.{HasLeaf}
-use Rattle.bunch_rules.proofs.Replacing.{unless_true, true_not_false, AtSemi, crossing, at_first, at_second, at_semi, across, semi_first, semi_second}
+use Rattle.bunch_rules.proofs.Replacing.{true_not_false, AtSemi, crossing, at_first, at_second, at_semi, across, semi_first, semi_second}
 
 none_there : (x : ℕ) → holds x [] ≡ true → ⊥
 none_there x m = true≢false (sym m)
@@ -153,9 +154,9 @@ facts_kept (commas_to_left {b = b} {c = c} {d = d}) x y m = or_to_right (stands_
 facts_kept (semis_to_left {b = b} {c = c} {d = d}) x y m = semis_right b c d x y m
 facts_kept (commas_to_right {b = b} {c = c} {d = d}) x y m = or_to_left (stands_before b x y) (stands_before c x y) (stands_before d x y) m
 facts_kept (semis_to_right {b = b} {c = c} {d = d}) x y m = semis_left b c d x y m
-facts_kept (loosened {b = b} {c = c}) x y m = or_second (holds x (leaf_names b) && holds y (leaf_names c)) (stands_before b x y || stands_before c x y) m
+facts_kept (loosened {b = b} {c = c}) x y m = or_right (holds x (leaf_names b) && holds y (leaf_names c)) (stands_before b x y || stands_before c x y) m
 facts_kept left_unit_of_comma x y m = m
-facts_kept (right_unit_of_comma {b = b}) x y m = or_first (stands_before b x y) false m
+facts_kept (right_unit_of_comma {b = b}) x y m = or_left (stands_before b x y) false m
 facts_kept (left_unit_of_semi {b = b}) x y m = semi_second empty b x y m
 facts_kept (right_unit_of_semi {b = b}) x y m = semi_first b empty x y m
 facts_kept (empty_before {b = b}) x y m = go (at_semi empty b x y m)
@@ -172,11 +173,11 @@ facts_kept (empty_after {b = b}) x y m = go (at_semi b empty x y m)
     go (at_second n) = absurd (true≢false (sym n))
 facts_kept (empty_beside {b = b}) x y m = only_first (stands_before b x y) m
 
-neither : (x : ℕ) (xs ys : List ℕ) → holds x xs ≡ false → holds x ys ≡ false → holds x (xs ++ ys) ≡ false
+pub neither : (x : ℕ) (xs ys : List ℕ) → holds x xs ≡ false → holds x ys ≡ false → holds x (xs ++ ys) ≡ false
 neither x xs ys m n = holds-append x xs ys ∙ ap₂ (λ u v. u || v) m n
 
 apart_exchanged : (xs ys : List ℕ) → AreApart xs ys → AreApart ys xs
-apart_exchanged xs ys f x m = unless_true (holds x ys) (λ n. true_not_false (holds x xs) m (f x n))
+apart_exchanged xs ys f x m = false_from_ne_true (holds x ys) (λ n. true_not_false (holds x xs) m (f x n))
 
 abbrev Apart3 : List ℕ → List ℕ → List ℕ → Type 0
 Apart3 xs ys zs = AreApart xs ys × AreApart xs zs × AreApart ys zs
@@ -186,7 +187,7 @@ apart_of_right xs ys zs f g = (λ x m. f x (holds-left x ys zs m), λ x m. f x (
 
 apart_of_left : (xs ys zs : List ℕ) → AreApart (xs ++ ys) zs → AreApart xs ys → Apart3 xs ys zs
 apart_of_left xs ys zs f g =
-    (g, λ x m. unless_true (holds x xs) (λ n. true_not_false (holds x (xs ++ ys)) (holds-left x xs ys n) (f x m)), λ x m. unless_true (holds x ys) (λ n. true_not_false (holds x (xs ++ ys)) (holds-right x xs ys n) (f x m)))
+    (g, λ x m. false_from_ne_true (holds x xs) (λ n. true_not_false (holds x (xs ++ ys)) (holds-left x xs ys n) (f x m)), λ x m. false_from_ne_true (holds x ys) (λ n. true_not_false (holds x (xs ++ ys)) (holds-right x xs ys n) (f x m)))
 
 apart_right : (xs ys zs : List ℕ) → Apart3 xs ys zs → AreApart xs (ys ++ zs)
 apart_right xs ys zs h x m = go (holds-split x ys zs m)

@@ -4,6 +4,7 @@ use Rattle.port.specs.declared.link.Move.{Move}
 use Rattle.event_word.specs.StreamEvent.{StreamEvent}
 use Rattle.event_frame.specs.declared.version.Version.{Version}
 use Rattle.event_frame.specs.Frames.{header, frame, frames}
+use Rattle.event_frame.proofs.Readers.{frames_more}
 use Rattle.delta_end.specs.declared.end.End.{End}
 use Rattle.delta_end.specs.declared.end.End.TheVariants.{Done, Input, Budget, Deep, ReadFailed, WriteFailed, Memory, Long, Usage, Refused as RefusedProgram, Open, FileFailed, Objected}
 use Rattle.command_text.specs.Fault.{line_fault}
@@ -16,13 +17,9 @@ use Rattle.delta_loop.specs.Return.{Begins}
 use Rattle.command_text.specs.Loop.{Reads, Feeds}
 use Rattle.command_text.specs.Sending.{IsOfSending}
 
-frames-append : (v : Version) (a b : List StreamEvent) → frames v (a ++ b) ≡ frames v a ++ frames v b
+pub frames-append : (v : Version) (a b : List StreamEvent) → frames v (a ++ b) ≡ frames v a ++ frames v b
 frames-append v [] b = refl
 frames-append v (x ∷ a) b = ap (λ (bs : List ℕ). frame v x ++ bs) (frames-append v a b) ∙ sym (append_assoc (frame v x) (frames v a) (frames v b))
-
--- the frame of one event more
-frames_one : (v : Version) (word : List StreamEvent) (x : StreamEvent) → frames v (word ++ x ∷ []) ≡ frames v word ++ frame v x
-frames_one v word x = frames-append v word (x ∷ []) ∙ ap (λ (bs : List ℕ). frames v word ++ bs) (append-nil (frame v x))
 
 -- events in front of events in front
 behind_behind : (a b : List StreamEvent) (t : Taken) → behind a (behind b t) ≡ behind (a ++ b) t
@@ -39,7 +36,7 @@ reads_event v r next front word byte x reads step = record {
 -- what was written, with a frame more
 output_one : (v : Version) (word : List StreamEvent) (x : StreamEvent) (sent : List ℕ) → frame v x ≡ sent → (header v ++ frames v word) ++ sent ≡ header v ++ frames v (word ++ x ∷ [])
 output_one v word x sent is =
-    append_assoc (header v) (frames v word) sent ∙ ap (λ (bs : List ℕ). header v ++ bs) (ap (λ (bs : List ℕ). frames v word ++ bs) (sym is) ∙ sym (frames_one v word x))
+    append_assoc (header v) (frames v word) sent ∙ ap (λ (bs : List ℕ). header v ++ bs) (ap (λ (bs : List ℕ). frames v word ++ bs) (sym is) ∙ sym (frames_more v word x))
 
 pub feeds_event : (v : Version) (start now next : Option (List Move)) (r r' : LineState) (input front : List ℕ) (byte : ℕ) (x : StreamEvent) (sent rest : List ℕ)
     → Feeds v start now r input front false → ((more : List ℕ) → taken_from v r (byte ∷ more) ≡ behind (x ∷ []) (taken_from v r' more))

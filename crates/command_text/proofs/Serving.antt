@@ -1,5 +1,5 @@
 -- One piece of input, from what stood before it to what stands after it.
-use Rattle.std.proofs.Common.{◌≡◌, ℕ, ◌+◌, ◌<◌, ◌≤◌, ◌^◌, List, [], ◌∷◌, ◌++◌, Bool, true, false, Option, None, option_map, length, take, ◌∙◌, ap, sym, refl, subst, append-nil, arith, length-append}
+use Rattle.std.proofs.Common.{◌≡◌, ℕ, ◌+◌, ◌<◌, ◌≤◌, ◌^◌, List, [], ◌++◌, Bool, true, false, Option, None, option_map, length, take, ◌∙◌, ap, sym, refl, subst, append-nil, arith, length-append}
 use Rattle.std.proofs.lemmas.List.{take_at}
 use Rattle.port.specs.declared.link.Move.{Move}
 use Rattle.port.specs.Told.{Loses}
@@ -11,7 +11,7 @@ use Rattle.delta_end.specs.declared.end.End.TheVariants.{ReadFailed, Memory, Lon
 use Rattle.command_text.specs.Fault.{line_fault}
 use Rattle.command_text.specs.declared.fault.LineRefusal.{LineRefusal}
 use Rattle.command_text.specs.LineState.{LineState}
-use Rattle.delta_loop.specs.History.{History, Writes, is_empty}
+use Rattle.delta_loop.specs.History.{History, Writes}
 use Rattle.command_text.specs.Reading.{first_line, Taken, Within, taken, behind, stop, refused_in}
 use Rattle.command_text.specs.Conversion.{frames_of_lines, Ended, Ran}
 use Rattle.command_text.specs.Loop.{Feeds, Goes, Pulls}
@@ -21,10 +21,7 @@ use Rattle.command_text.proofs.Feeding.{may_send}
 use Rattle.delta_loop.proofs.Lefts.{loses_more, loses_nothing, read_all}
 use Rattle.delta_loop.proofs.Limits.{within_limit}
 use Rattle.delta_loop.proofs.Opening.{fresh}
-
-not_empty : (xs : List ℕ) → 0 < length xs → is_empty xs ≡ false
-not_empty [] some = absurd (let no_byte : ⊥ = omega arith in no_byte)
-not_empty (x ∷ xs) some = refl
+use Rattle.delta_loop.proofs.Serving.{not_empty}
 
 module _ (v : Version) (start log0 : Option (List Move)) (left left0 : Option (List ℕ)) (r : LineState) (total : ℕ) (now : Goes v start log0 left left0 r total) where
   whole_input : taken v now.input ≡ behind now.feeds.word (stop (Within r))

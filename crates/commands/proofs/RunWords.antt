@@ -1,5 +1,5 @@
 -- Runs on the word of tables that were read.
-use Rattle.std.proofs.Common.{◌≡◌, inl, inr, ℕ, ◌≤◌, ◌^◌, Bool, true, false, ◌&&◌, List, [], ◌++◌, length, Option, Result, Ok, Err, refl, sym, subst, ap, ◌∙◌}
+use Rattle.std.proofs.Common.{◌≡◌, inl, inr, ℕ, ◌≤◌, ◌^◌, Bool, true, false, List, [], ◌++◌, length, Option, Result, Ok, Err, sym, subst, ap, ◌∙◌}
 use Rattle.std.specs.Prelude.{nat_le, take, IfOk}
 use Rattle.std.proofs.lemmas.Bool.{leb-true}
 use Rattle.std.proofs.lemmas.List.{length-map}
@@ -21,14 +21,11 @@ use Rattle.commands.specs.Given.{AreRead, EndsReading, EndsRunning, EndsUnwritte
 use Rattle.commands.proofs.WholeTables.{are_prefixes, are_whole, word_means}
 use Rattle.commands.proofs.WordSizes.{word_has_room}
 use Rattle.commands.proofs.Causes.{wrong_tables}
-
-first_of : (a b : Bool) → (a && b) ≡ true → a ≡ true
-first_of true b e = refl
-first_of false b e = cc
+use Rattle.bunch.proofs.Tests.{and_first}
 
 -- the types of a program that fits are low
 pub input_is_low : (c : CoreProgram) → fits_of c ≡ true → height_of (input_type c) ≤ 64
-input_is_low c fits = leb-true (height_of (input_type c)) 64 (first_of (nat_le (height_of (input_type c)) 64) (nat_le (height_of c.main.result) 64) fits)
+input_is_low c fits = leb-true (height_of (input_type c)) 64 (and_first (nat_le (height_of (input_type c)) 64) (nat_le (height_of c.main.result) 64) fits)
 
 -- what follows of an answer
 pub if_ok_too : {A E : Type 0} (r : Result A E) (P Q : A → Type 0) → ((x : A) → P x → Q x) → IfOk r P → IfOk r Q

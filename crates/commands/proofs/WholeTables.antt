@@ -1,6 +1,7 @@
 -- Good tables as whole prefixes side by side, and what can be wrong with a table.
-use Rattle.std.proofs.Common.{◌≡◌, ℕ, ◌+◌, Bool, true, false, ◌&&◌, List, [], ◌∷◌, length, Option, Some, None, refl, sym, ap, ◌∙◌, subst}
+use Rattle.std.proofs.Common.{◌≡◌, ℕ, ◌+◌, Bool, true, false, List, [], ◌∷◌, length, Option, Some, None, sym, ap, ◌∙◌, subst}
 use Rattle.std.specs.Prelude.{⊤, nat_le, ◌==◌, option_map, if◌then◌else◌}
+use Rattle.std.proofs.lemmas.Bool.{and_from}
 use Rattle.stream_type.specs.StreamType.{StreamType, eps, one, int, cat, par, sum, star}
 use Rattle.stream_prefix.specs.StreamPrefix.{IsPrefix, is_maximal}
 use Rattle.event_word.specs.Word.{pre}
@@ -49,9 +50,6 @@ are_prefixes (cat s t) file (bytes ∷ next ∷ more) shape good = absurd shape
 are_prefixes (sum s t) file (bytes ∷ next ∷ more) shape good = absurd shape
 are_prefixes (star s) file (bytes ∷ next ∷ more) shape good = absurd shape
 
-both_true : (a b : Bool) → a ≡ true → b ≡ true → (a && b) ≡ true
-both_true a b e h = rw (e, h) refl
-
 pub are_whole : (s : StreamType) (file : ℕ) (tables : List (List ℕ)) → AreTables (length tables) s → tables_fault file s tables ≡ None → is_maximal (beside (whole_tables s tables)) ≡ true
 are_whole s file [] shape good = absurd shape
 are_whole s file (bytes ∷ []) shape good = table_is_whole s file bytes shape good
@@ -60,8 +58,8 @@ are_whole (par s t) file (bytes ∷ next ∷ more) shape good =
   where
     go : (more : List (List ℕ)) → is_maximal (whole_table s bytes) ≡ true → is_maximal (beside (whole_tables t (next ∷ more))) ≡ true
         → is_maximal (beside (whole_table s bytes ∷ whole_tables t (next ∷ more))) ≡ true
-    go [] here later = both_true _ _ here later
-    go (other ∷ others) here later = both_true _ _ here later
+    go [] here later = and_from _ _ here later
+    go (other ∷ others) here later = and_from _ _ here later
 are_whole eps file (bytes ∷ next ∷ more) shape good = absurd shape
 are_whole one file (bytes ∷ next ∷ more) shape good = absurd shape
 are_whole int file (bytes ∷ next ∷ more) shape good = absurd shape

@@ -1,14 +1,16 @@
 -- The tree form of agreement and its order form are the same.
 use Rattle.std.proofs.Common.{◌≡◌, ◌∙◌, ℕ, List, true, true≢false, ◌&&◌, ◌||◌, ◌⊎◌, inl, inr, ⊎_elim, ap, ap₂, sym}
 use Rattle.std.specs.Prelude.{IsTrue}
+use Rattle.std.proofs.lemmas.Bool.{or_left, or_right}
 use Rattle.stream_prefix.specs.StreamPrefix.{emp, is_maximal}
 use Rattle.bunch.specs.Names.{holds}
 use Rattle.bunch.specs.BunchTree.{BunchTree, empty, leaf, comma, semi, leaf_names, stands_before, AreApart, IsDistinct}
 use Rattle.bunch.proofs.Bunches.{second_is_there}
+use Rattle.bunch.proofs.Tests.{and_first, and_second, or_split}
 use Rattle.core_term.specs.Environment.{Environment, NameTypes, by_side, IsWholeOn, IsEmptyOn}
 use Rattle.core_term.specs.Agreement.{types_in, AgreesInTree, Agrees}
 use Rattle.core_term.specs.Laws.{TreeFormIsOrderForm}
-use Rattle.core_term.proofs.Sides.{or_split, or_first, or_second, and_first, and_second, each, turn, by_left, by_right}
+use Rattle.core_term.proofs.Sides.{each, turn, by_left, by_right}
 
 -- agreement at two names
 abbrev pub AgreesAt : NameTypes → Environment → ℕ → ℕ → Type 0
@@ -67,17 +69,17 @@ pub tree_of_order : (b : BunchTree) → IsDistinct b → (env : Environment) →
 tree_of_order empty d env h = tt
 tree_of_order (leaf z t) d env h = tt
 tree_of_order (comma a b) d env h = (
-  tree_of_order a d.0 env (left_agrees a b d.2 env (λ x y o. h x y (or_first (stands_before a x y) (stands_before b x y) o))),
-  tree_of_order b d.1 env (right_agrees a b d.2 env (λ x y o. h x y (or_second (stands_before a x y) (stands_before b x y) o))),
+  tree_of_order a d.0 env (left_agrees a b d.2 env (λ x y o. h x y (or_left (stands_before a x y) (stands_before b x y) o))),
+  tree_of_order b d.1 env (right_agrees a b d.2 env (λ x y o. h x y (or_right (stands_before a x y) (stands_before b x y) o))),
 )
 tree_of_order (semi a b) d env h = (
-  tree_of_order a d.0 env (left_agrees a b d.2 env (λ x y o. h x y (inside x y (or_first (stands_before a x y) (stands_before b x y) o)))),
-  tree_of_order b d.1 env (right_agrees a b d.2 env (λ x y o. h x y (inside x y (or_second (stands_before a x y) (stands_before b x y) o)))),
-  sides_agree a b d.2 env (λ x y l r. h x y (or_first (holds x (leaf_names a) && holds y (leaf_names b)) (stands_before a x y || stands_before b x y) (ap₂ ◌&&◌ l r))),
+  tree_of_order a d.0 env (left_agrees a b d.2 env (λ x y o. h x y (inside x y (or_left (stands_before a x y) (stands_before b x y) o)))),
+  tree_of_order b d.1 env (right_agrees a b d.2 env (λ x y o. h x y (inside x y (or_right (stands_before a x y) (stands_before b x y) o)))),
+  sides_agree a b d.2 env (λ x y l r. h x y (or_left (holds x (leaf_names a) && holds y (leaf_names b)) (stands_before a x y || stands_before b x y) (ap₂ ◌&&◌ l r))),
 )
   where
     inside : (x y : ℕ) → (stands_before a x y || stands_before b x y) ≡ true → stands_before (semi a b) x y ≡ true
-    inside x y o = or_second (holds x (leaf_names a) && holds y (leaf_names b)) (stands_before a x y || stands_before b x y) o
+    inside x y o = or_right (holds x (leaf_names a) && holds y (leaf_names b)) (stands_before a x y || stands_before b x y) o
 
 pub tree_form_is_order_form : TreeFormIsOrderForm
 tree_form_is_order_form b d env = (order_of_tree b d env, tree_of_order b d env)

@@ -7,13 +7,14 @@ use Rattle.stream_type.specs.StreamType.{StreamType}
 use Rattle.bunch.specs.Names.{holds}
 use Rattle.bunch.specs.BunchTree.{BunchTree, empty, leaf, comma, semi, leaf_names, IsDistinct, stands_before}
 use Rattle.bunch.specs.Facts.{Facts}
+use Rattle.bunch.proofs.Tests.{and_first, and_second}
 use Rattle.core_term.specs.CoreTerm.{CoreTerm, CoreTerms, CoreBody, CoreProgram, past_names, fun_at, no_body}
 use Rattle.core_term.specs.FreeNames.{without, free_names, free_in_terms, bound_in_exprs, bound_names, bound_in_terms, is_distinct, IsBoundOnce, IsCore}
 use Rattle.core_term.specs.Environment.{NameTypes}
 use Rattle.core_term.specs.Agreement.{types_in}
 use Rattle.core_term.specs.Inert.{is_inert_fun}
 use Rattle.core_term.specs.Typing.{context_of, past_params, IsTypedBody, IsTypedCore}
-use Rattle.core_term.proofs.Sides.{and_first, and_second, holds-head, holds-left, holds-right}
+use Rattle.core_term.proofs.Sides.{holds-head, holds-left, holds-right}
 use Rattle.core_term.proofs.Without.{holds-without, holds-tail}
 use Rattle.core_term.proofs.TypedTerms.{PastTypes, Typed, TypedAll, derive, var_typed, eps_typed, unit_typed, nil_typed, past_typed, par_typed, cat_typed, cons_typed, inl_typed, inr_typed, let_typed, let_par_typed, let_cat_typed, case_sum_typed, case_star_typed, wait_typed, call_typed, none_typed, more_typed}
 use Rattle.core_term.proofs.Monotone.{TypedBodies}
@@ -35,7 +36,7 @@ not_again x xs d m = not-true (holds x xs) (and_first (not (holds x xs)) (is_dis
 pub distinct_tail : (x : ℕ) (xs : List ℕ) → is_distinct (x ∷ xs) ≡ true → is_distinct xs ≡ true
 distinct_tail x xs d = and_second (not (holds x xs)) (is_distinct xs) d
 
-distinct_head : (x : ℕ) (xs : List ℕ) → (holds x xs ≡ true → ⊥) → is_distinct xs ≡ true → is_distinct (x ∷ xs) ≡ true
+pub distinct_head : (x : ℕ) (xs : List ℕ) → (holds x xs ≡ true → ⊥) → is_distinct xs ≡ true → is_distinct (x ∷ xs) ≡ true
 distinct_head x xs n d = go (holds x xs) refl
   where
     go : (c : Bool) → holds x xs ≡ c → (not c && is_distinct xs) ≡ true
@@ -109,7 +110,7 @@ differs : (z x : ℕ) (f b : List ℕ) → Once (z ∷ f) b → holds x b ≡ tr
 differs z x f b h m e = h.apart z (holds-head z f) (subst (λ w. holds w b ≡ true) e m)
 
 -- and two bound names are different
-differ : (x y : ℕ) (b : List ℕ) → is_distinct (x ∷ (y ∷ b)) ≡ true → x ≢ y
+pub differ : (x y : ℕ) (b : List ℕ) → is_distinct (x ∷ (y ∷ b)) ≡ true → x ≢ y
 differ x y b d e = not_again x (y ∷ b) d (subst (λ w. holds w (y ∷ b) ≡ true) (sym e) (holds-head y b))
 
 module _ (funs : ℕ → CoreBody) (counts : ℕ → Bool) where

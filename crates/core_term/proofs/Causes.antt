@@ -1,15 +1,16 @@
 -- When no rule is broken: what each of the rules on a node says then.
-use Rattle.std.proofs.Common.{◌≡◌, ◌∙◌, ℕ, Bool, true, false, true≢false, ◌&&◌, ◌||◌, not, if◌then◌else◌, List, [], ◌∷◌, Option, Some, None, eqb, nat_lt, ap, ap₂, refl, sym, subst}
-use Rattle.std.proofs.lemmas.Bool.{eqb-true}
+use Rattle.std.proofs.Common.{◌≡◌, ◌∙◌, ℕ, Bool, true, false, true≢false, ◌||◌, not, if◌then◌else◌, List, [], ◌∷◌, Option, Some, None, eqb, nat_lt, ap, ap₂, refl, sym, subst}
+use Rattle.std.proofs.lemmas.Bool.{eqb-true, or_left, or_right, not-false, and_from}
 use Rattle.std.specs.Prelude.{unwrap_or, option_map}
 use Rattle.std.specs.List.{list_any}
 use Rattle.stream_type.specs.StreamType.{StreamType, eps, one, int, cat, par, sum, star}
 use Rattle.bunch.specs.Names.{holds}
+use Rattle.bunch.proofs.Tests.{and_first, and_second}
 use Rattle.hist_value.specs.HistType.{HistType}
 use Rattle.core_term.specs.Parts.{par_left, par_right, cat_first, cat_second, sum_left, sum_right, star_item, is_par, is_cat, is_sum, is_star, is_same_type}
 use Rattle.core_term.specs.Typing.{Context, AllBefore, is_before}
 use Rattle.core_term.specs.TypeFaults.{Cause, first_some, first_found, found_where, first_pair, cause_number, lower, of_stream, of_order, of_type, out_of_order, other_type}
-use Rattle.core_term.proofs.Sides.{and_first, and_second, holds-head, or_second, or_first}
+use Rattle.core_term.proofs.Sides.{holds-head}
 
 -- types that are found equal are equal
 pub is_same_type-true : (s t : StreamType) → is_same_type s t ≡ true → s ≡ t
@@ -22,17 +23,14 @@ is_same_type-true (sum a b) (sum c d) h = ap₂ sum (is_same_type-true a c (and_
 is_same_type-true (star a) (star c) h = ap star (is_same_type-true a c h)
 is_same_type-true _ _ h = absurd (true≢false (sym h))
 
-both : (a b : Bool) → a ≡ true → b ≡ true → (a && b) ≡ true
-both a b h k = ap (λ c. c && b) h ∙ k
-
 -- and a type is found equal to itself
 pub is_same_type-same : (s : StreamType) → is_same_type s s ≡ true
 is_same_type-same eps = refl
 is_same_type-same one = refl
 is_same_type-same int = refl
-is_same_type-same (cat a b) = both (is_same_type a a) (is_same_type b b) (is_same_type-same a) (is_same_type-same b)
-is_same_type-same (par a b) = both (is_same_type a a) (is_same_type b b) (is_same_type-same a) (is_same_type-same b)
-is_same_type-same (sum a b) = both (is_same_type a a) (is_same_type b b) (is_same_type-same a) (is_same_type-same b)
+is_same_type-same (cat a b) = and_from (is_same_type a a) (is_same_type b b) (is_same_type-same a) (is_same_type-same b)
+is_same_type-same (par a b) = and_from (is_same_type a a) (is_same_type b b) (is_same_type-same a) (is_same_type-same b)
+is_same_type-same (sum a b) = and_from (is_same_type a a) (is_same_type b b) (is_same_type-same a) (is_same_type-same b)
 is_same_type-same (star a) = is_same_type-same a
 
 -- a type that has a form is made of its parts
@@ -57,13 +55,9 @@ pub found_where-none : {A : Type 0} (b : Bool) (a : A) → found_where b a ≡ N
 found_where-none true a h = absurd (cc h)
 found_where-none false a h = refl
 
-not_false : (b : Bool) → not b ≡ false → b ≡ true
-not_false true h = refl
-not_false false h = absurd (true≢false h)
-
 -- and no breach where the test is true
 pub found_where-kept : {A : Type 0} (b : Bool) (a : A) → found_where (not b) a ≡ None → b ≡ true
-found_where-kept b a h = not_false b (found_where-none (not b) a h)
+found_where-kept b a h = not-false b (found_where-none (not b) a h)
 
 pub first_some-none : {A : Type 0} (a b : Option A) → first_some a b ≡ None → (a ≡ None) × (b ≡ None)
 first_some-none None b h = (refl, h)
@@ -92,7 +86,7 @@ first_found-none f (y ∷ ys) h x m = go (eqb x y) refl m (λ k. first_found-non
 
 pub first_found-all : {B : Type 0} (f : ℕ → Option B) (xs : List ℕ) → ((x : ℕ) → holds x xs ≡ true → f x ≡ None) → first_found f xs ≡ None
 first_found-all f [] h = refl
-first_found-all f (y ∷ ys) h = first_some-both (f y) (first_found f ys) (h y (holds-head y ys)) (first_found-all f ys (λ x m. h x (or_second (eqb x y) (holds x ys) m)))
+first_found-all f (y ∷ ys) h = first_some-both (f y) (first_found f ys) (h y (holds-head y ys)) (first_found-all f ys (λ x m. h x (or_right (eqb x y) (holds x ys) m)))
 
 -- a test that one name of a list passes
 pub list_any-there : (f : ℕ → Bool) (xs : List ℕ) (x : ℕ) → holds x xs ≡ true → f x ≡ true → list_any f xs ≡ true
@@ -100,8 +94,8 @@ list_any-there f [] x m h = absurd (true≢false (sym m))
 list_any-there f (y ∷ ys) x m h = go (eqb x y) refl m (λ k. list_any-there f ys x k h)
   where
     go : (b : Bool) → eqb x y ≡ b → (b || holds x ys) ≡ true → (holds x ys ≡ true → list_any f ys ≡ true) → (f y || list_any f ys) ≡ true
-    go true e k next = or_first (f y) (list_any f ys) (ap f (sym (eqb-true x y e)) ∙ h)
-    go false e k next = or_second (f y) (list_any f ys) (next k)
+    go true e k next = or_left (f y) (list_any f ys) (ap f (sym (eqb-true x y e)) ∙ h)
+    go false e k next = or_right (f y) (list_any f ys) (next k)
 
 -- which one it is
 pub list_any-found : (f : ℕ → Bool) (xs : List ℕ) → list_any f xs ≡ true → (x : ℕ) × (holds x xs ≡ true) × (f x ≡ true)
@@ -110,7 +104,7 @@ list_any-found f (y ∷ ys) h = go (f y) refl h (list_any-found f ys)
   where
     go : (b : Bool) → f y ≡ b → (b || list_any f ys) ≡ true → (list_any f ys ≡ true → (x : ℕ) × (holds x ys ≡ true) × (f x ≡ true)) → (x : ℕ) × (holds x (y ∷ ys) ≡ true) × (f x ≡ true)
     go true e k next = (y, holds-head y ys, e)
-    go false e k next = let n = next k in (n.0, or_second (eqb n.0 y) (holds n.0 ys) n.1, n.2)
+    go false e k next = let n = next k in (n.0, or_right (eqb n.0 y) (holds n.0 ys) n.1, n.2)
 
 -- the names of two lists are in order where no pair is found
 pub first_pair-none : (c : Context) (xs ys : List ℕ) → first_pair c xs ys ≡ None → AllBefore c xs ys

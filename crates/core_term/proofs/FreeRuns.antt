@@ -1,5 +1,6 @@
 -- A run depends on the free names alone.
 use Rattle.std.proofs.Common.{◌≡◌, ◌∙◌, ℕ, Bool, true, false, not, ◌&&◌, ◌||◌, List, [], ◌∷◌, ◌++◌, eqb, if◌then◌else◌, ap, ap₂, refl}
+use Rattle.std.proofs.lemmas.Bool.{or_left, or_right}
 use Rattle.stream_type.specs.StreamType.{StreamType, eps}
 use Rattle.stream_prefix.specs.StreamPrefix.{StreamPrefix, in_left, in_right, star_emp, star_done, star_first, star_rest, is_maximal}
 use Rattle.bunch.specs.Names.{holds, put}
@@ -16,7 +17,7 @@ use Rattle.core_term.specs.Parts.{par_left, par_right, cat_first, cat_second, su
 use Rattle.core_term.specs.Run.{Run, quiet, relabel, par_run, cat_run, let_run, sum_run, star_run, wait_run, run_before, call_run}
 use Rattle.core_term.specs.Meaning.{Past, Calls, values, run_with, run_all, call_at}
 use Rattle.core_term.specs.MeaningLaws.{RunOfFreeNames}
-use Rattle.core_term.proofs.Sides.{or_first, or_second, holds-head, holds-left, holds-right}
+use Rattle.core_term.proofs.Sides.{holds-head, holds-left, holds-right}
 use Rattle.core_term.proofs.Without.{holds-without, holds-tail}
 
 -- at these names both have the same types and the same prefixes
@@ -48,10 +49,10 @@ pub alike_tail : (z : ℕ) (xs : List ℕ) (T U : NameTypes) (d e : Environment)
 alike_tail z xs T U d e h = record { at = λ x m. h.at x (holds-tail x z xs m) }
 
 past_left : (f g : ℕ → Bool) (p q : Past) → AlikePast (λ z. f z || g z) p q → AlikePast f p q
-past_left f g p q h = record { at = λ z m. h.at z (or_first (f z) (g z) m) }
+past_left f g p q h = record { at = λ z m. h.at z (or_left (f z) (g z) m) }
 
 past_right : (f g : ℕ → Bool) (p q : Past) → AlikePast (λ z. f z || g z) p q → AlikePast g p q
-past_right f g p q h = record { at = λ z m. h.at z (or_second (f z) (g z) m) }
+past_right f g p q h = record { at = λ z m. h.at z (or_right (f z) (g z) m) }
 
 past_under : (f : ℕ → Bool) (x : ℕ) (v : HistValue) (p q : Past) → AlikePast (λ z. not (eqb z x) && f z) p q → AlikePast f (put x v p) (put x v q)
 past_under f x v p q h = record { at = λ z m. go (eqb z x) (f z) (p z) (q z) (h.at z) m }

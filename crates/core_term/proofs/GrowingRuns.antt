@@ -7,11 +7,12 @@ use Rattle.stream_prefix.proofs.Derivations.{Derives, eps_has_emp, par_has_both,
 use Rattle.stream_prefix.proofs.Joins.{emp_is_prefix}
 use Rattle.stream_prefix.proofs.Parts.{part, rest_derives, part_is_prefix, part_refl, part_emp, part_of_maximal, maximal_part, part_par, part_fst, part_cut, part_both, part_left, part_right}
 use Rattle.bunch.specs.Names.{put}
+use Rattle.bunch.proofs.Tests.{and_first, and_second}
 use Rattle.core_term.specs.Environment.{Environment, NameTypes}
 use Rattle.core_term.specs.Parts.{left_part, right_part, first_part, second_part, as_star}
 use Rattle.core_term.specs.Run.{Run, Runs, quiet, relabel, par_run, cat_run_at, cat_run, let_run, sum_run, star_run, wait_run, run_before, frame_run, call_run}
 use Rattle.core_term.proofs.Parameters.{Longer, one_longer}
-use Rattle.core_term.proofs.Sides.{and_first, and_second, put_both}
+use Rattle.core_term.proofs.Sides.{put_both}
 
 -- a part of a whole first part of `s . t` is that part
 part_row : {s t : StreamType} {p p' q q' : StreamPrefix} → Derives s p → IsTrue (is_maximal p) → IsPart s p p' → IsPart t q q' → IsPart (cat s t) (cat_both p q) (cat_both p' q')

@@ -6,7 +6,7 @@ use mathlib.Core.Path.{fun_ext}
 use Rattle.core_term.specs.CoreTerm.{CoreBody, fun_at}
 use Rattle.core_term.specs.Inert.{is_inert, inert_after}
 use Rattle.core_term.specs.MeaningLaws.{InertBodies}
-use Rattle.core_term.proofs.Sides.{and_first, and_second}
+use Rattle.bunch.proofs.Tests.{and_first, and_second}
 
 -- how many numbers below n pass the test
 abbrev count_below : (ℕ → Bool) → ℕ → ℕ
@@ -22,7 +22,7 @@ count_at_most P (suc n) = go (P n) (count_at_most P n)
     go false h = omega arith
 
 -- a number below the next one is it, or below
-below_or_same : (f n : ℕ) → f < suc n → (f < n) ⊎ (f ≡ n)
+pub below_or_same : (f n : ℕ) → f < suc n → (f < n) ⊎ (f ≡ n)
 below_or_same f n l = go (ltb f n) refl
   where
     go : (c : Bool) → ltb f n ≡ c → (f < n) ⊎ (f ≡ n)

@@ -1,6 +1,7 @@
 -- A typed inert term gives the empty prefix where nothing has come on its free names.
 use Rattle.std.proofs.Common.{◌≡◌, ◌∙◌, ℕ, zero, suc, Bool, true, false, true≢false, not, ◌&&◌, List, [], ◌∷◌, ◌++◌, ap, ap₂, refl, sym}
 use Rattle.std.specs.Prelude.{Some}
+use Rattle.std.proofs.lemmas.Bool.{not-true}
 use Rattle.stream_type.specs.StreamType.{StreamType, null_of}
 use Rattle.stream_prefix.specs.StreamPrefix.{StreamPrefix, eps_emp, par_both, cat_fst, sum_emp, star_emp, emp, is_maximal}
 use Rattle.stream_prefix.proofs.Derivations.{derives, is_prefix}
@@ -9,6 +10,7 @@ use Rattle.stream_prefix.proofs.MaximalPrefixes.{null_is_emp}
 use Rattle.bunch.specs.Names.{put, value_at}
 use Rattle.bunch.specs.BunchTree.{leaf_names, as_type}
 use Rattle.bunch.specs.Facts.{Facts}
+use Rattle.bunch.proofs.Tests.{and_first, and_second}
 use Rattle.hist_value.specs.HistType.{past}
 use Rattle.hist_value.specs.HistValue.{HistValue, unit_value}
 use Rattle.hist_value.specs.Evaluate.{value}
@@ -27,7 +29,7 @@ use Rattle.core_term.specs.Run.{Run, relabel, cat_run_at, cat_run, sum_run, star
 use Rattle.core_term.specs.Meaning.{Past, run_all, call_at, run_at, no_past, horizon}
 use Rattle.core_term.specs.Typing.{context_of}
 use Rattle.core_term.specs.MeaningLaws.{InertGivesNothing, InertMainGivesNothing}
-use Rattle.core_term.proofs.Sides.{and_first, and_second, holds-head, holds-left, holds-right}
+use Rattle.core_term.proofs.Sides.{holds-head, holds-left, holds-right}
 use Rattle.core_term.proofs.Without.{holds-tail, put_on}
 use Rattle.core_term.proofs.TypedTerms.{PastTypes, Typed, TypedAll, var_typed, eps_typed, unit_typed, nil_typed, past_typed, par_typed, cat_typed, cons_typed, inl_typed, inr_typed, let_typed, let_par_typed, let_cat_typed, case_sum_typed, case_star_typed, wait_typed, call_typed, none_typed, more_typed}
 use Rattle.core_term.proofs.Parameters.{PastValues, Empties, no_empties, empty_before, params_empty, values_have, past_params_have}
@@ -51,10 +53,6 @@ empty_tail z xs T d h = record { at = λ x m. h.at x (holds-tail x z xs m) }
 
 pub empty_put : (x : ℕ) (s : StreamType) (p : StreamPrefix) (T : NameTypes) (d : Environment) (xs : List ℕ) → p ≡ emp s → EmptyOn (without x xs) T d → EmptyOn xs (put x s T) (put x p d)
 empty_put x s p T d xs e h = record { at = put_on (λ t q. q ≡ emp t) x s p T d xs e h.at }
-
-not-true : (b : Bool) → not b ≡ true → b ≡ false
-not-true false h = refl
-not-true true h = absurd (true≢false (sym h))
 
 -- where the first part gives nothing, of a type that isn't null, the second doesn't run
 pub cat_run-nothing : (s : StreamType) (a b : Run) → a.out ≡ emp s → null_of s ≡ false → cat_run a b ≡ relabel cat_fst a

@@ -6,11 +6,12 @@ use Rattle.std.specs.List.{list_all}
 use Rattle.stream_prefix.specs.StreamPrefix.{StreamPrefix, par_both, cat_fst, cat_both, is_maximal}
 use Rattle.stream_prefix.proofs.Derivations.{Derives, derives, eps_has_emp, par_has_both, cat_has_fst, cat_has_both}
 use Rattle.bunch.specs.BunchTree.{BunchTree, empty, leaf, comma, semi, leaf_names, as_type, IsDistinct}
+use Rattle.bunch.proofs.Tests.{and_first, and_second}
 use Rattle.core_term.specs.Environment.{Environment, nothing, empty_at, IsWholeOn, IsSameOn}
 use Rattle.core_term.specs.Agreement.{types_in}
 use Rattle.core_term.specs.Split.{split, gathered, HasEachMark}
 use Rattle.core_term.specs.Laws.{GatheredHasEachMark, GatheredIsUnique}
-use Rattle.core_term.proofs.Sides.{and_first, and_second, holds-head, holds-left, holds-right, holds-split, all-holds, holds-all, by_left, put-same}
+use Rattle.core_term.proofs.Sides.{holds-head, holds-left, holds-right, holds-split, all-holds, holds-all, by_left, put-same}
 use Rattle.core_term.proofs.Splits.{split_whole}
 use Rattle.core_term.proofs.Gathering.{same_left, same_right, gathered_whole}
 

@@ -1,20 +1,16 @@
 -- A list in which each name stands once holds the same names as the list itself.
 use Rattle.std.proofs.Common.{◌≡◌, ◌∙◌, ℕ, Bool, true, false, ◌||◌, if◌then◌else◌, List, [], ◌∷◌, ◌++◌, eqb, ap, refl, sym, subst}
-use Rattle.std.proofs.lemmas.Bool.{eqb-true}
+use Rattle.std.proofs.lemmas.Bool.{eqb-true, or_right}
 use Rattle.bunch.specs.Names.{holds}
 use Rattle.bunch.proofs.NameLists.{holds-append}
+use Rattle.bunch.proofs.Tests.{or_assoc}
 use Rattle.core_term.specs.FreeNames.{add_new, once}
-use Rattle.core_term.proofs.Sides.{or_second}
 
 -- one more name
 abbrev with_new : List ℕ → ℕ → List ℕ
 with_new found x = if holds x found then found else found ++ x ∷ []
 
-or_assoc : (a b c : Bool) → ((a || b) || c) ≡ (a || (b || c))
-or_assoc true b c = refl
-or_assoc false b c = refl
-
-or_false : (a : Bool) → (a || false) ≡ a
+pub or_false : (a : Bool) → (a || false) ≡ a
 or_false true = refl
 or_false false = refl
 
@@ -24,7 +20,7 @@ holds-with_new y found x = go (holds x found) refl
   where
     there : holds x found ≡ true → (e : Bool) → eqb y x ≡ e → holds y found ≡ (holds y found || e)
     there h true e =
-        let m : holds y found ≡ true = subst (λ z. holds z found ≡ true) (sym (eqb-true y x e)) h in m ∙ sym (or_second (holds y found) true refl)
+        let m : holds y found ≡ true = subst (λ z. holds z found ≡ true) (sym (eqb-true y x e)) h in m ∙ sym (or_right (holds y found) true refl)
     there h false e = sym (or_false (holds y found))
 
     go : (b : Bool) → holds x found ≡ b → holds y (if b then found else found ++ x ∷ []) ≡ (holds y found || eqb y x)

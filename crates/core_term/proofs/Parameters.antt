@@ -29,7 +29,7 @@ value_at-append d (z ∷ zs) ys (v ∷ vs) ws x e = let n : length vs ≡ length
     go true k = refl
     go false k = k
 
-length-appended : {A B : Type 0} (as' bs : List A) (cs ds : List B) → length as' ≡ length cs → length bs ≡ length ds → length (as' ++ bs) ≡ length (cs ++ ds)
+pub length-appended : {A B : Type 0} (as' bs : List A) (cs ds : List B) → length as' ≡ length cs → length bs ≡ length ds → length (as' ++ bs) ≡ length (cs ++ ds)
 length-appended [] bs [] ds e h = h
 length-appended [] bs (c ∷ cs) ds e h = absurd (omega arith)
 length-appended (a ∷ as') bs [] ds e h = absurd (omega arith)

@@ -1,6 +1,6 @@
 -- An environment agrees with an order into which a name or a fact was put.
 use Rattle.std.proofs.Common.{◌≡◌, ℕ, Bool, true, false, true≢false, ◌&&◌, ◌||◌, ◌⊎◌, inl, inr, ⊎_elim, if◌then◌else◌, ap₂, eqb, refl, subst, sym, ◌≢◌, ◌∙◌, ap}
-use Rattle.std.proofs.lemmas.Bool.{eqb-true}
+use Rattle.std.proofs.lemmas.Bool.{eqb-true, or_left, or_right}
 use Rattle.std.specs.Prelude.{IsTrue}
 use Rattle.std.specs.List.{list_all}
 use Rattle.stream_type.specs.StreamType.{StreamType}
@@ -8,13 +8,14 @@ use Rattle.bunch.specs.Names.{put}
 use Rattle.core_term.specs.Environment.{Environment, NameTypes}
 use Rattle.stream_prefix.specs.StreamPrefix.{StreamPrefix, emp, is_maximal}
 use Rattle.bunch.specs.Facts.{before_like, after_like, before_let, after_let, Facts, place_like, put_before}
+use Rattle.bunch.proofs.Tests.{and_first, and_second}
 use Rattle.core_term.specs.Agreement.{Agrees}
 use Rattle.core_term.specs.Laws.{LikeAgrees, LetAgrees, BeforeAgrees}
-use Rattle.core_term.proofs.Sides.{or_first, or_second, and_first, and_second, each, turn, all-holds, eqb-same, put-same, put-other}
+use Rattle.core_term.proofs.Sides.{each, turn, all-holds, eqb-same, put-same, put-other}
 use Rattle.core_term.proofs.Agreements.{AgreesAt}
 
 -- a fact that holds unless the names are the same holds
-held : (c b : Bool) → (if c then false else b) ≡ true → b ≡ true
+pub held : (c b : Bool) → (if c then false else b) ≡ true → b ≡ true
 held true b h = absurd (true≢false (sym h))
 held false b h = h
 
@@ -47,8 +48,8 @@ pub before_agrees : BeforeAgrees
 before_agrees types before env x y = (
   λ h u v. forward h.0 h.1 u v (eqb u x) refl (eqb v y) refl,
   λ h. (
-    λ u v o. h u v (or_second ((eqb u x) && (eqb v y)) (before u v) o),
-    h x y (or_first ((eqb x x) && (eqb y y)) (before x y) (ap₂ ◌&&◌ (eqb-same x) (eqb-same y))),
+    λ u v o. h u v (or_right ((eqb u x) && (eqb v y)) (before u v) o),
+    h x y (or_left ((eqb x x) && (eqb y y)) (before x y) (ap₂ ◌&&◌ (eqb-same x) (eqb-same y))),
   ),
 )
   where

@@ -1,6 +1,6 @@
 -- Programs that are alike but for names run alike, where the second binds each name once.
 use Rattle.std.proofs.Common.{◌≡◌, ◌∙◌, ℕ, zero, suc, Bool, true, false, true≢false, ◌||◌, List, [], ◌∷◌, ◌++◌, length, eqb, if◌then◌else◌, ap, ap₂, refl, subst, sym, arith}
-use Rattle.std.proofs.lemmas.Bool.{eqb-true}
+use Rattle.std.proofs.lemmas.Bool.{eqb-true, or_right}
 use Rattle.std.specs.Prelude.{Some, slice_index_or}
 use Rattle.std.specs.List.{AllZip}
 use Rattle.stream_type.specs.StreamType.{eps}
@@ -17,7 +17,7 @@ use Rattle.core_term.specs.Run.{one_call}
 use Rattle.core_term.specs.Meaning.{run_with, call_at, no_past, horizon}
 use Rattle.core_term.specs.Renaming.{Scope, numbered, IsRenamedBunch, empty_renamed, leaf_renamed, comma_renamed, semi_renamed, IsRenamedBody, eps_renamed}
 use Rattle.core_term.specs.MeaningLaws.{RenamedProgramRun}
-use Rattle.core_term.proofs.Sides.{eqb-same, or_second, holds-head}
+use Rattle.core_term.proofs.Sides.{eqb-same, holds-head}
 use Rattle.core_term.proofs.Parameters.{length-leaf_types}
 use Rattle.core_term.proofs.TypedRuns.{at_index}
 use Rattle.core_term.proofs.BoundOnce.{not_again, distinct_tail, distinct_left, distinct_right, distinct_apart}
@@ -31,7 +31,7 @@ numbered-holds (y ∷ ys) (m ∷ ms) x n k = go (numbered-holds ys ms x n) (eqb 
   where
     go : (numbered ys ms x ≡ Some n → holds n ms ≡ true) → (c : Bool) → (if c then Some m else numbered ys ms x) ≡ Some n → holds n (m ∷ ms) ≡ true
     go f true k = let same : m ≡ n = cc k in subst (λ w. holds w (m ∷ ms) ≡ true) same (holds-head m ms)
-    go f false k = or_second (eqb n m) (holds n ms) (f k)
+    go f false k = or_right (eqb n m) (holds n ms) (f k)
 
 -- the same list stands along names and their numbers
 along_list : {A : Type 0} (d : A) (xs ns : List ℕ) (vs : List A) → is_distinct ns ≡ true → Along (numbered xs ns) (value_at d xs vs) (value_at d ns vs)

@@ -6,6 +6,7 @@ use Rattle.std.specs.List.{list_all}
 use Rattle.stream_type.specs.StreamType.{StreamType, cat, par, sum, star, null_of}
 use Rattle.bunch.specs.Names.{put, holds}
 use Rattle.bunch.specs.Facts.{Facts, before_like, after_like, before_let, after_let, place_like, place_let, put_before}
+use Rattle.bunch.proofs.Tests.{and_first, and_second}
 use Rattle.hist_value.specs.HistType.{past}
 use Rattle.core_term.specs.CoreTerm.{CoreTerm, CoreTerms, CoreBody, past_types}
 use Rattle.core_term.specs.FreeNames.{without, free_names, free_in_terms}
@@ -13,7 +14,7 @@ use Rattle.core_term.specs.Environment.{NameTypes}
 use Rattle.core_term.specs.Inert.{is_inert}
 use Rattle.core_term.specs.Parts.{par_left, par_right, cat_first, cat_second, sum_left, sum_right, star_item, star_items}
 use Rattle.core_term.specs.Typing.{passed}
-use Rattle.core_term.proofs.Sides.{and_first, and_second, holds-head, holds-left, holds-right, all-holds, holds-all}
+use Rattle.core_term.proofs.Sides.{holds-head, holds-left, holds-right, all-holds, holds-all}
 use Rattle.core_term.proofs.Without.{holds-tail, put_on}
 use Rattle.core_term.proofs.TypedTerms.{PastTypes, StandBefore, HasMore, more_under, gives_more, pasts_more, Typed, TypedAll, var_typed, eps_typed, unit_typed, nil_typed, past_typed, par_typed, cat_typed, cons_typed, inl_typed, inr_typed, let_typed, let_par_typed, let_cat_typed, case_sum_typed, case_star_typed, wait_typed, call_typed, none_typed, more_typed}
 
@@ -32,11 +33,11 @@ among_same xs = record { at = λ x m. m }
 pub record SameTypes (xs : List ℕ) (T U : NameTypes) : Type 0 where
   pub at : (x : ℕ) → holds x xs ≡ true → T x ≡ U x
 
-unless : (c o q : Bool) → (o ≡ true → q ≡ true) → (if c then false else o) ≡ true → (if c then false else q) ≡ true
+pub unless : (c o q : Bool) → (o ≡ true → q ≡ true) → (if c then false else o) ≡ true → (if c then false else q) ≡ true
 unless true o q f h = h
 unless false o q f h = f h
 
-and_both : (a b c d : Bool) → (a ≡ true → c ≡ true) → (b ≡ true → d ≡ true) → (a && b) ≡ true → (c && d) ≡ true
+pub and_both : (a b c d : Bool) → (a ≡ true → c ≡ true) → (b ≡ true → d ≡ true) → (a && b) ≡ true → (c && d) ≡ true
 and_both a b c d f g h = ap₂ ◌&&◌ (f (and_first a b h)) (g (and_second a b h))
 
 pub within_like : (O Q : Facts) (x z : ℕ) → Within O Q → Within (place_like x z O) (place_like x z Q)

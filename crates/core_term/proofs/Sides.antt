@@ -1,44 +1,26 @@
 -- Names on the two sides of a context, and what each side has for them.
 use Rattle.std.proofs.Common.{◌≡◌, ◌≢◌, ◌∙◌, ℕ, Bool, true, false, true≢false, ◌&&◌, ◌||◌, ◌⊎◌, inl, inr, List, [], ◌∷◌, ◌++◌, eqb, if◌then◌else◌, ap, refl, sym, subst}
-use Rattle.std.proofs.lemmas.Bool.{eqb-true, eq-eqb, ne_eqb}
+use Rattle.std.proofs.lemmas.Bool.{eqb-true, eq-eqb, ne_eqb, or_left, or_right}
 use Rattle.std.specs.List.{list_all}
 use Rattle.bunch.specs.Names.{holds, put}
 use Rattle.bunch.proofs.NameLists.{holds-append}
+use Rattle.bunch.proofs.Tests.{and_first, and_second, or_split}
 use Rattle.core_term.specs.Environment.{by_side}
-
-pub or_split : (a b : Bool) → (a || b) ≡ true → (a ≡ true) ⊎ (b ≡ true)
-or_split true b h = inl refl
-or_split false b h = inr h
-
-pub or_first : (a b : Bool) → a ≡ true → (a || b) ≡ true
-or_first a b h = ap (λ c. c || b) h
-
-pub or_second : (a b : Bool) → b ≡ true → (a || b) ≡ true
-or_second true b h = refl
-or_second false b h = h
-
-pub and_first : (a b : Bool) → (a && b) ≡ true → a ≡ true
-and_first true b h = refl
-and_first false b h = h
-
-pub and_second : (a b : Bool) → (a && b) ≡ true → b ≡ true
-and_second true b h = h
-and_second false b h = absurd (true≢false (sym h))
 
 pub eqb-same : (x : ℕ) → eqb x x ≡ true
 eqb-same x = eq-eqb x x refl
 
 -- the first name of a list is in it
 pub holds-head : (x : ℕ) (xs : List ℕ) → holds x (x ∷ xs) ≡ true
-holds-head x xs = or_first (eqb x x) (holds x xs) (eqb-same x)
+holds-head x xs = or_left (eqb x x) (holds x xs) (eqb-same x)
 
 -- a name of the left list is in both joined
 pub holds-left : (x : ℕ) (xs ys : List ℕ) → holds x xs ≡ true → holds x (xs ++ ys) ≡ true
-holds-left x xs ys h = holds-append x xs ys ∙ or_first (holds x xs) (holds x ys) h
+holds-left x xs ys h = holds-append x xs ys ∙ or_left (holds x xs) (holds x ys) h
 
 -- and so is one of the right list
 pub holds-right : (x : ℕ) (xs ys : List ℕ) → holds x ys ≡ true → holds x (xs ++ ys) ≡ true
-holds-right x xs ys h = holds-append x xs ys ∙ or_second (holds x xs) (holds x ys) h
+holds-right x xs ys h = holds-append x xs ys ∙ or_right (holds x xs) (holds x ys) h
 
 -- and no other
 pub holds-split : (x : ℕ) (xs ys : List ℕ) → holds x (xs ++ ys) ≡ true → (holds x xs ≡ true) ⊎ (holds x ys ≡ true)
@@ -57,12 +39,12 @@ all-holds f (z ∷ zs) a x h = go (all-holds f zs (and_second (f z) (list_all f 
 pub holds-all : (f : ℕ → Bool) (xs : List ℕ) → ((x : ℕ) → holds x xs ≡ true → f x ≡ true) → list_all f xs ≡ true
 holds-all f [] h = refl
 holds-all f (z ∷ zs) h =
-    ap (λ c. c && list_all f zs) (h z (holds-head z zs)) ∙ holds-all f zs (λ x m. h x (or_second (eqb x z) (holds x zs) m))
+    ap (λ c. c && list_all f zs) (h z (holds-head z zs)) ∙ holds-all f zs (λ x m. h x (or_right (eqb x z) (holds x zs) m))
 
 -- a thing of each name of a list, or one other thing
 pub each : {B : Type 0} (A : ℕ → Type 0) (xs : List ℕ) → ((z : ℕ) → holds z xs ≡ true → A z ⊎ B) → ((z : ℕ) → holds z xs ≡ true → A z) ⊎ B
 each A [] f = inl (λ z m. absurd (true≢false (sym m)))
-each {B = B} A (x ∷ xs) f = go (f x (holds-head x xs)) (each A xs (λ z m. f z (or_second (eqb z x) (holds z xs) m)))
+each {B = B} A (x ∷ xs) f = go (f x (holds-head x xs)) (each A xs (λ z m. f z (or_right (eqb z x) (holds z xs) m)))
   where
     at : A x → ((z : ℕ) → holds z xs ≡ true → A z) → (z : ℕ) (b : Bool) → eqb z x ≡ b → (b || holds z xs) ≡ true → A z
     at a g z true e m = subst A (sym (eqb-true z x e)) a

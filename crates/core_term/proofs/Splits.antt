@@ -7,11 +7,12 @@ use Rattle.stream_prefix.proofs.Joins.{emp_is_prefix, der-emp, join-emp, join-em
 use Rattle.stream_prefix.proofs.Parts.{part, rest_derives}
 use Rattle.bunch.specs.Names.{holds}
 use Rattle.bunch.specs.BunchTree.{BunchTree, empty, leaf, comma, semi, leaf_names, as_type}
+use Rattle.bunch.proofs.Tests.{and_first, and_second}
 use Rattle.core_term.specs.Environment.{Environment, NameTypes, by_side, untyped, nothing, empty_at, left_at}
 use Rattle.core_term.specs.Agreement.{types_in}
 use Rattle.core_term.specs.Split.{split, split_after}
 use Rattle.core_term.specs.Laws.{SplitIsTyped, SplitKeepsParts, SplitOfJoin, SplitAfterIsTyped, SplitOfEmpty, SplitOfWhole}
-use Rattle.core_term.proofs.Sides.{and_first, and_second, by_both, put_both}
+use Rattle.core_term.proofs.Sides.{by_both, put_both}
 
 -- a prefix of its type for each name
 pub split_derives : (b : BunchTree) {p : StreamPrefix} → Derives (as_type b) p → (x : ℕ) → Derives (types_in b x) (split b p x)

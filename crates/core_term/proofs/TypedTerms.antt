@@ -10,6 +10,7 @@ use Rattle.stream_type.specs.StreamType.{StreamType, eps, one, cat, par, sum, st
 use Rattle.bunch.specs.Names.{put, holds}
 use Rattle.bunch.specs.BunchTree.{stands_before}
 use Rattle.bunch.specs.Facts.{Facts, place_like, place_let, put_before}
+use Rattle.bunch.proofs.Tests.{and_second}
 use Rattle.hist_value.specs.HistType.{HistType, past}
 use Rattle.hist_value.specs.HistExpr.{HistExpr}
 use Rattle.hist_value.specs.Typing.{Gives, gives_variable, gives_literal, gives_unit, gives_reckoned, gives_pair, gives_wanted_pair, gives_first, gives_second, gives_left, gives_right, gives_choice, gives_nil, gives_cons, gives_wanted_cons, gives_fold}
@@ -20,7 +21,6 @@ use Rattle.core_term.specs.Agreement.{types_in}
 use Rattle.core_term.specs.Inert.{is_inert}
 use Rattle.core_term.specs.Parts.{par_left, par_right, cat_first, cat_second, sum_left, sum_right, star_item, star_items}
 use Rattle.core_term.specs.Typing.{Context, type_at, AllBefore, with_name, with_fact, waited, HavePasts, passed, PassesInOrder, HasType, HaveTypes}
-use Rattle.core_term.proofs.Sides.{and_second}
 
 -- the types of historical names, as far as they have one
 abbrev pub PastTypes : Type 0

@@ -8,6 +8,7 @@ use Rattle.std.specs.List.{list_any, All}
 use Rattle.stream_type.specs.StreamType.{StreamType, eps, one, cat, par, sum, star, null_of}
 use Rattle.bunch.specs.BunchTree.{leaf_names, stands_before}
 use Rattle.bunch.proofs.Bunches.{first_is_there, second_is_there}
+use Rattle.bunch.proofs.Tests.{and_first, and_second}
 use Rattle.hist_value.specs.HistType.{HistType, past}
 use Rattle.hist_value.specs.HistExpr.{HistExpr}
 use Rattle.hist_value.specs.Typing.{Gives}
@@ -21,7 +22,6 @@ use Rattle.core_term.specs.TypeFaults.{NodeAt, wait_null, history_fault, out_of_
 use Rattle.hist_value.specs.Judge.{Judged, good, bad, judge}
 use Rattle.hist_value.proofs.Judgments.{judge_is_gives, gives_what_is_wanted}
 use Rattle.core_term.specs.Laws.{TypedIsUnbroken}
-use Rattle.core_term.proofs.Sides.{and_first, and_second}
 use Rattle.core_term.proofs.Causes.{is_same_type-true, is_par-form, is_cat-form, is_sum-form, is_star-form, found_where-none, found_where-kept, first_some-none, first_some-both, option_map-none, if-first, first_found-none, first_found-all, list_any-there, list_any-found, first_pair-none, first_pair-all, lower-none, lower-both, of_stream-none, of_type-none, of_type-same, of_order-none, of_order-all}
 
 -- a refusal of historical expressions is exact: there is none just where the rules give the wanted type

@@ -7,6 +7,7 @@ use Rattle.stream_prefix.proofs.Derivations.{Derives, is_prefix, sum_has_emp, su
 use Rattle.bunch.specs.Names.{put, value_at}
 use Rattle.bunch.specs.BunchTree.{leaf_names}
 use Rattle.bunch.specs.Facts.{Facts}
+use Rattle.bunch.proofs.Tests.{and_second}
 use Rattle.hist_value.specs.HistType.{past}
 use Rattle.hist_value.specs.HistValue.{HistValue, unit_value}
 use Rattle.hist_value.specs.Evaluate.{value}
@@ -25,7 +26,7 @@ use Rattle.core_term.specs.Run.{Run, cat_run_at, cat_run, sum_run, star_run, wai
 use Rattle.core_term.specs.Meaning.{Past, run_all, call_at, run_at, no_past, horizon}
 use Rattle.core_term.specs.Typing.{context_of}
 use Rattle.core_term.specs.MeaningLaws.{RunIsWhole, MeanIsWhole}
-use Rattle.core_term.proofs.Sides.{and_second, holds-head, holds-left, holds-right}
+use Rattle.core_term.proofs.Sides.{holds-head, holds-left, holds-right}
 use Rattle.core_term.proofs.Without.{holds-tail, put_on}
 use Rattle.core_term.proofs.TypedTerms.{PastTypes, Typed, TypedAll, var_typed, eps_typed, unit_typed, nil_typed, past_typed, par_typed, cat_typed, cons_typed, inl_typed, inr_typed, let_typed, let_par_typed, let_cat_typed, case_sum_typed, case_star_typed, wait_typed, call_typed, none_typed, more_typed}
 use Rattle.core_term.proofs.Parameters.{Prefixes, PastValues, Wholes, no_wholes, whole_before, params_derive, whole_at_names, values_have, past_params_have}

@@ -1,16 +1,15 @@
 -- Names in lists less a name, and what is true of all names of a list once a name was put.
 use Rattle.std.proofs.Common.{◌≡◌, ◌∙◌, ℕ, Bool, true, false, true≢false, ◌||◌, List, [], ◌∷◌, eqb, if◌then◌else◌, ap, refl, sym}
-use Rattle.std.proofs.lemmas.Bool.{eqb-true}
+use Rattle.std.proofs.lemmas.Bool.{eqb-true, or_right}
 use Rattle.bunch.specs.Names.{holds, put}
 use Rattle.core_term.specs.FreeNames.{without}
-use Rattle.core_term.proofs.Sides.{or_second}
 
 skipped : (y x z : ℕ) (zs : List ℕ) → eqb y x ≡ false → (holds y zs ≡ true → holds y (without x zs) ≡ true) → (b : Bool) → eqb z x ≡ b → (c : Bool) → eqb y z ≡ c → (c || holds y zs) ≡ true
     → holds y (if b then without x zs else z ∷ without x zs) ≡ true
 skipped y x z zs e f true ez true ey m = absurd (true≢false (sym (ap (λ n. eqb n x) (eqb-true y z ey) ∙ ez) ∙ e))
 skipped y x z zs e f true ez false ey m = f m
 skipped y x z zs e f false ez true ey m = ap (λ b. b || holds y (without x zs)) ey
-skipped y x z zs e f false ez false ey m = or_second (eqb y z) (holds y (without x zs)) (f m)
+skipped y x z zs e f false ez false ey m = or_right (eqb y z) (holds y (without x zs)) (f m)
 
 -- another name of the list is in it less x
 pub holds-without : (y x : ℕ) (xs : List ℕ) → eqb y x ≡ false → holds y xs ≡ true → holds y (without x xs) ≡ true
@@ -19,7 +18,7 @@ holds-without y x (z ∷ zs) e h = skipped y x z zs e (holds-without y x zs e) (
 
 -- a name of the rest of a list is in the list
 pub holds-tail : (x z : ℕ) (xs : List ℕ) → holds x xs ≡ true → holds x (z ∷ xs) ≡ true
-holds-tail x z xs m = or_second (eqb x z) (holds x xs) m
+holds-tail x z xs m = or_right (eqb x z) (holds x xs) m
 
 -- what is true of what was put at x, and of all other names of the list, is true of all of them
 pub put_on : {A B : Type 0} (R : A → B → Type 0) (x : ℕ) (a : A) (b : B) (f : ℕ → A) (h : ℕ → B) (xs : List ℕ) → R a b → ((y : ℕ) → holds y (without x xs) ≡ true → R (f y) (h y))

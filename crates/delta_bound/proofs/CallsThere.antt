@@ -4,9 +4,9 @@ use Rattle.std.proofs.lemmas.Bool.{eqb-true}
 use Rattle.stream_type.specs.StreamType.{StreamType, par, cat, sum, star}
 use Rattle.bunch.specs.Names.{holds}
 use Rattle.bunch.proofs.NameLists.{holds-append}
+use Rattle.bunch.proofs.Tests.{or_split}
 use Rattle.core_term.specs.CoreTerm.{CoreTerm, CoreTerms, CoreBody, var_term, eps_term, unit_term, nil_term, past_term, par_term, cat_term, cons_term, inl_term, inr_term, let_term, let_par_term, let_cat_term, case_sum_term, case_star_term, wait_term, call_term, no_terms, term_before, is_there}
 use Rattle.core_term.specs.Typing.{Context, HasType, HaveTypes}
-use Rattle.core_term.proofs.Sides.{or_split}
 use Rattle.state_bounds.specs.ProgramBound.{calls_in, calls_among}
 
 module _ (funs : List CoreBody) (counts : ℕ → Bool) where

@@ -1,11 +1,11 @@
 -- After as many rounds as there are functions no round marks another one, so what a reached function calls is
 -- reached.
-use Rattle.std.proofs.Common.{◌≡◌, ◌∙◌, ◌<◌, ◌≤◌, ◌+◌, ℕ, zero, suc, Bool, true, false, true≢false, ◌&&◌, ◌||◌, ◌⊎◌, inl, inr, ⊎_elim, List, [], ◌∷◌, ◌++◌, length, ltb, ap, ap₂, refl, sym, subst, arith}
-use Rattle.std.proofs.lemmas.Bool.{ltb-true, ltb-false}
+use Rattle.std.proofs.Common.{◌≡◌, ◌∙◌, ◌<◌, ◌≤◌, ◌+◌, ℕ, zero, suc, Bool, true, false, true≢false, ◌&&◌, ◌||◌, ◌⊎◌, inl, inr, ⊎_elim, List, [], ◌∷◌, ◌++◌, length, ap, ap₂, refl, sym, subst, arith}
+use Rattle.std.proofs.lemmas.Bool.{or_left, or_right}
 use Rattle.std.specs.Prelude.{slice_index_or}
 use Rattle.bunch.specs.Names.{holds}
 use Rattle.core_term.specs.CoreTerm.{CoreBody, CoreProgram, fun_at}
-use Rattle.core_term.proofs.Sides.{or_first, or_second}
+use Rattle.core_term.proofs.InertFunctions.{below_or_same}
 use Rattle.state_bounds.specs.ProgramBound.{calls_in, is_marked, calls_from, tabulated, repeated, marks_after, first_marks, reached_marks, mark_count}
 use Rattle.state_bounds.proofs.ProgramNumbers.{length-tabulated}
 
@@ -20,14 +20,6 @@ index_last [] x d zero h = refl
 index_last [] x d (suc f) h = absurd (omega (arith, h))
 index_last (y ∷ ys) x d zero h = absurd (omega (arith, h))
 index_last (y ∷ ys) x d (suc f) h = let same : f ≡ length ys = omega (arith, h) in index_last ys x d f same
-
--- a number below the next one is it, or below
-pub below_or_same : (f n : ℕ) → f < suc n → (f < n) ⊎ (f ≡ n)
-below_or_same f n l = go (ltb f n) refl
-  where
-    go : (c : Bool) → ltb f n ≡ c → (f < n) ⊎ (f ≡ n)
-    go true e = inl (ltb-true f n e)
-    go false e = let h : n ≤ f = ltb-false f n e in inr (omega (arith, l, h))
 
 -- a table has at each of its places what it is made of
 pub table_at : {A : Type 0} (n : ℕ) (g : ℕ → A) (d : A) (f : ℕ) → f < n → slice_index_or (tabulated n g) f d ≡ g f
@@ -78,11 +70,11 @@ called_from : (ms : List Bool) (i : ℕ) (bs : List CoreBody) (j f : ℕ) → j 
 called_from ms i [] j f l h k = absurd (omega (arith, l))
 called_from ms i (b ∷ bs) zero f l h k =
     let marked : is_marked ms i ≡ true = subst (λ n. is_marked ms n ≡ true) (omega arith) h in
-    or_first (is_marked ms i && holds f (calls_in b.body)) _ (ap₂ (λ x y. x && y) marked k)
+    or_left (is_marked ms i && holds f (calls_in b.body)) _ (ap₂ (λ x y. x && y) marked k)
 called_from ms i (b ∷ bs) (suc j) f l h k =
     let less : j < length bs = omega (arith, l) in
     let marked : is_marked ms (suc i + j) ≡ true = subst (λ n. is_marked ms n ≡ true) (omega arith) h in
-    or_second (is_marked ms i && holds f (calls_in b.body)) _ (called_from ms (suc i) bs j f less marked k)
+    or_right (is_marked ms i && holds f (calls_in b.body)) _ (called_from ms (suc i) bs j f less marked k)
 
 module _ (funs : List CoreBody) (first : List Bool) (sized : length first ≡ length funs) where
   abbrev rounds : ℕ → List Bool
@@ -98,7 +90,7 @@ module _ (funs : List CoreBody) (first : List Bool) (sized : length first ≡ le
       let below = marked_below (rounds k) f h in
       let number = length-rounds k in
       let less : f < length funs = omega (arith, below, number) in
-      table_at (length funs) (λ g. is_marked (rounds k) g || calls_from (rounds k) 0 funs g) false f less ∙ or_first (is_marked (rounds k) f) _ h
+      table_at (length funs) (λ g. is_marked (rounds k) g || calls_from (rounds k) 0 funs g) false f less ∙ or_left (is_marked (rounds k) f) _ h
 
   -- a round marks none more, or more are marked than there were rounds before it
   still_or_more : (k : ℕ) → (rounds (suc k) ≡ rounds k) ⊎ (k < mark_count (rounds (suc k)))
@@ -130,7 +122,7 @@ module _ (funs : List CoreBody) (first : List Bool) (sized : length first ≡ le
       let there : is_marked marks (0 + g) ≡ true = subst (λ n. is_marked marks n ≡ true) (omega arith) h in
       let called : calls_from marks 0 funs f ≡ true = called_from marks 0 funs g f less there k in
       sym (ap (λ ms. is_marked ms f) still_at_last)
-      ∙ (table_at (length funs) (λ n. is_marked marks n || calls_from marks 0 funs n) false f l ∙ or_second (is_marked marks f) _ called)
+      ∙ (table_at (length funs) (λ n. is_marked marks n || calls_from marks 0 funs n) false f l ∙ or_right (is_marked marks f) _ called)
 
 -- what the main program calls is reached,
 pub main_reaches : (c : CoreProgram) (f : ℕ) → holds f (calls_in c.main.body) ≡ true → f < length c.funs → is_marked (reached_marks c) f ≡ true

@@ -38,7 +38,7 @@ fun_at-map [] j d l = absurd (omega (arith, l))
 fun_at-map (b ∷ bs) zero d l = refl
 fun_at-map (b ∷ bs) (suc j) d l = let less : j < length bs = omega (arith, l) in fun_at-map bs j d less
 
-length-bodies : (bs : List Body) → length (map core_body_of bs) ≡ length bs
+pub length-bodies : (bs : List Body) → length (map core_body_of bs) ≡ length bs
 length-bodies [] = refl
 length-bodies (b ∷ bs) = ap suc (length-bodies bs)
 

@@ -2,7 +2,7 @@
 -- the limit.
 use mathlib.Core.Former.{Count}
 use Rattle.std.proofs.Common.{◌≡◌, ◌∙◌, ◌≤◌, ℕ, Bool, true, false, List, [], ◌∷◌, ◌++◌, eqb, if◌then◌else◌, refl, arith}
-use Rattle.std.proofs.lemmas.Bool.{eq-eqb}
+use Rattle.std.proofs.lemmas.Bool.{eq-eqb, or_left, or_right}
 use Rattle.std.specs.Prelude.{⊤, Option, Some, None}
 use Rattle.stream_type.specs.StreamType.{StreamType, type_of, eps, one, int, par, cat, sum, star}
 use Rattle.bunch.specs.Names.{holds}
@@ -17,7 +17,6 @@ use Rattle.core_term.specs.Parts.{sum_left, sum_right, star_item, star_items}
 use Rattle.core_term.specs.TypeFaults.{first_some}
 use Rattle.core_term.specs.Typing.{Context, type_at, types_of, with_name_like, with_fact, with_parts, with_let}
 use Rattle.core_term.proofs.Causes.{first_some-none}
-use Rattle.core_term.proofs.Sides.{or_first, or_second}
 use Rattle.state_bounds.specs.Bounds.{Bound, both, greater, size_of, total, limit}
 use Rattle.state_bounds.specs.TermBounds.{room_of, case_room, wait_room}
 use Rattle.state_bounds.specs.ProgramBound.{calls_in, calls_among, or_large, first_large}
@@ -102,10 +101,10 @@ module _ (funs : List CoreBody) (counts : ℕ → Bool) (numbers : ℕ → Bound
   AreTold fs = (f : ℕ) → holds f fs ≡ true → IsTold (numbers f)
 
   left_told : (fs gs : List ℕ) → AreTold (fs ++ gs) → AreTold fs
-  left_told fs gs h f m = h f (holds-append f fs gs ∙ or_first (holds f fs) (holds f gs) m)
+  left_told fs gs h f m = h f (holds-append f fs gs ∙ or_left (holds f fs) (holds f gs) m)
 
   right_told : (fs gs : List ℕ) → AreTold (fs ++ gs) → AreTold gs
-  right_told fs gs h f m = h f (holds-append f fs gs ∙ or_second (holds f fs) (holds f gs) m)
+  right_told fs gs h f m = h f (holds-append f fs gs ∙ or_right (holds f fs) (holds f gs) m)
 
   mutual
     pub term_told : (at : ℕ) (e : Term) (c : Context) → unsized_at funs counts at e c ≡ None → AreTold (calls_in (term_in e)) → IsTold (bound_in funs counts numbers (term_in e) c)
@@ -145,7 +144,7 @@ module _ (funs : List CoreBody) (counts : ℕ → Bool) (numbers : ℕ → Bound
         let k = first_some-none (placed at (wait_unsized c x.0 free)) (unsized_at funs counts i a c) n in
         greater_told _ _ (wait_told at c x.0 free k.0) (term_told i a c k.1 h)
     term_told at (Call' f ms shape es) c n h =
-        both_told _ _ (row_told es c n (λ g m. h g (or_second (eqb g f) (holds g (calls_among (terms_of es))) m))) (h f (or_first (eqb f f) (holds f (calls_among (terms_of es))) (eq-eqb f f refl)))
+        both_told _ _ (row_told es c n (λ g m. h g (or_right (eqb g f) (holds g (calls_among (terms_of es))) m))) (h f (or_left (eqb f f) (holds f (calls_among (terms_of es))) (eq-eqb f f refl)))
 
     row_told : {m : Count} (es : Row_of-Node m) (c : Context) → unsized_row funs counts es c ≡ None → AreTold (calls_among (terms_of es)) → IsTold (bounds_in funs counts numbers (terms_of es) c)
     row_told end_of-Node c n h = omega arith

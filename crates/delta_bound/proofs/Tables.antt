@@ -1,18 +1,15 @@
 -- Tables, one place more and whole, and results that are errors.
-use Rattle.std.proofs.Common.{◌≡◌, ◌∙◌, ◌<◌, ◌≤◌, ◌+◌, ℕ, zero, suc, add-one, get_or, List, [], ◌∷◌, ◌++◌, map, length, ap, ap₂, refl, sym, arith}
+use Rattle.std.proofs.Common.{◌≡◌, ◌∙◌, ◌≤◌, ◌+◌, ℕ, add-one, List, [], ◌∷◌, ◌++◌, map, length, ap, ap₂, sym, arith}
 use Rattle.std.proofs.lemmas.Bool.{false≢true}
 use Rattle.std.specs.Prelude.{Result, Ok, Err, IfOk, IsErr}
 use Rattle.core_term.specs.declared.program.Body.{Body}
-use Rattle.core_term.specs.CoreTerm.{core_body_of, fun_at}
+use Rattle.core_term.specs.CoreTerm.{core_body_of}
 use Rattle.state_bounds.specs.ProgramBound.{tabulated, repeated}
+use Rattle.delta_bound.proofs.SizedPrograms.{length-bodies}
 
 -- what was put behind a table is its next place
 pub table-next : {A : Type 0} (g : ℕ → A) (n : ℕ) (old new : List A) (x : A) → new ≡ old ++ x ∷ [] → old ≡ tabulated n g → x ≡ g n → new ≡ tabulated (n + 1) g
 table-next g n old new x h e k = h ∙ (ap₂ (λ l y. l ++ y ∷ []) e k ∙ ap (λ m. tabulated m g) (sym (add-one n)))
-
-length-bodies : (bs : List Body) → length (map core_body_of bs) ≡ length bs
-length-bodies [] = refl
-length-bodies (b ∷ bs) = ap suc (length-bodies bs)
 
 -- a table is whole once it has a place for each function
 all-places : (f n : ℕ) (bs : List Body) → f ≤ n → n ≤ f → n ≡ length bs → f ≡ length (map core_body_of bs)
@@ -20,12 +17,6 @@ all-places f n bs h k e = let whole = length-bodies bs in omega (arith, whole)
 
 pub table-whole : {A : Type 0} (g : ℕ → A) (f n : ℕ) (bs : List Body) (xs : List A) → xs ≡ tabulated f g → f ≤ n → n ≤ f → n ≡ length bs → xs ≡ tabulated (length (map core_body_of bs)) g
 table-whole g f n bs xs e h k l = e ∙ ap (λ m. tabulated m g) (all-places f n bs h k l)
-
--- the function at a place is the body there
-pub fun-there : (bs : List Body) (j : ℕ) (b : Body) → j < length bs → b ≡ get_or bs j b → fun_at (map core_body_of bs) j ≡ core_body_of b
-fun-there [] j b l e = absurd (omega (arith, l))
-fun-there (x ∷ bs) zero b l e = ap core_body_of (sym e)
-fun-there (x ∷ bs) (suc j) b l e = let less : j < length bs = omega (arith, l) in fun-there bs j b less e
 
 -- one round more, and all rounds
 pub round-more : {A : Type 0} (g : A → A) (a : A) (n : ℕ) (old new : A) → new ≡ g old → old ≡ repeated n g a → new ≡ repeated (n + 1) g a

@@ -1,6 +1,7 @@
 -- Arguments by the names of their parameters.
-use Rattle.std.proofs.Common.{◌≡◌, ◌<◌, ℕ, zero, suc, arith, length, get_or, drop, map, Bool, true, false, ◌||◌, List, [], ◌∷◌, refl, ap, sym, ◌∙◌}
+use Rattle.std.proofs.Common.{◌≡◌, ◌<◌, ℕ, zero, suc, arith, length, get_or, drop, map, Bool, true, false, List, [], ◌∷◌, refl, ap, sym, ◌∙◌}
 use Rattle.std.specs.Prelude.{Some, None, if◌then◌else◌, ◌==◌}
+use Rattle.std.proofs.lemmas.Bool.{or_parts}
 use Rattle.stream_type.specs.StreamType.{StreamType, eps}
 use Rattle.bunch.specs.Names.{holds, numbers_of}
 use Rattle.bunch.specs.BunchTree.{BunchTree, leaf_names, empty, leaf, comma, semi}
@@ -23,19 +24,15 @@ pub first_pair-nil : (c : Context) (xs : List ℕ) → first_pair c xs [] ≡ No
 first_pair-nil c [] = refl
 first_pair-nil c (x ∷ xs) = first_pair-nil c xs
 
-or_none : (a b : Bool) → (a || b) ≡ false → (a ≡ false) × (b ≡ false)
-or_none true b h = absurd (cc h)
-or_none false b h = (refl, h)
-
 -- a name that is no parameter has the type `eps`
 pub types_in-none : (t : BunchTree) (x : ℕ) → holds x (leaf_names t) ≡ false → types_in t x ≡ eps
 types_in-none empty x h = refl
-types_in-none (leaf y t) x h = ap (λ b. if b then t else eps) ((or_none (x == y) false h).0)
+types_in-none (leaf y t) x h = ap (λ b. if b then t else eps) ((or_parts (x == y) false h).0)
 types_in-none (comma a b) x h =
-    let e = or_none (holds x (leaf_names a)) (holds x (leaf_names b)) (sym (holds-append x (leaf_names a) (leaf_names b)) ∙ h) in
+    let e = or_parts (holds x (leaf_names a)) (holds x (leaf_names b)) (sym (holds-append x (leaf_names a) (leaf_names b)) ∙ h) in
     ap (λ k. if k then types_in a x else types_in b x) (e.0) ∙ types_in-none b x (e.1)
 types_in-none (semi a b) x h =
-    let e = or_none (holds x (leaf_names a)) (holds x (leaf_names b)) (sym (holds-append x (leaf_names a) (leaf_names b)) ∙ h) in
+    let e = or_parts (holds x (leaf_names a)) (holds x (leaf_names b)) (sym (holds-append x (leaf_names a) (leaf_names b)) ∙ h) in
     ap (λ k. if k then types_in a x else types_in b x) (e.0) ∙ types_in-none b x (e.1)
 
 -- the type that is read by name

@@ -2,7 +2,7 @@
 use Rattle.std.proofs.Common.{◌≡◌, ◌<◌, ◌+◌, inl, inr, ℕ, Bool, true, false, ◌||◌, length, take, get_or, List, [], ◌∷◌, ◌++◌, refl, ap, sym, ◌∙◌}
 use Rattle.std.specs.Prelude.{Option, Some, None, if◌then◌else◌, ◌==◌, is_some}
 use Rattle.std.proofs.lemmas.List.{take_more}
-use Rattle.std.proofs.lemmas.Bool.{eqb-true}
+use Rattle.std.proofs.lemmas.Bool.{eqb-true, or_left, or_right}
 use Rattle.stream_type.specs.declared.ty.Ty.{Ty}
 use Rattle.stream_type.specs.StreamType.{StreamType, type_of}
 use Rattle.bunch.specs.Names.{numbers_of, holds}
@@ -10,8 +10,9 @@ use Rattle.bunch.proofs.NameLists.{holds-append, numbers_of-append}
 use Rattle.core_term.specs.CoreTerm.{typed_names_of}
 use Rattle.core_term.specs.Typing.{past_params}
 use Rattle.core_term.specs.TypeFaults.{first_some}
-use Rattle.core_term.proofs.Sides.{or_split, or_first, or_second}
+use Rattle.core_term.proofs.OnceEach.{or_false}
 use Rattle.bunch.specs.declared.name.Name.{Name}
+use Rattle.bunch.proofs.Tests.{or_split}
 use Rattle.hist_value.specs.declared.hist_type.HTy.{HTy}
 use Rattle.hist_value.specs.HistType.{HistType, hist_type_of, past}
 use Rattle.hist_value.specs.Environment.{entry_at, typed_entries_of, types_of}
@@ -20,10 +21,6 @@ entry_at-push : (d : Option HistType) (es : List (Name × HTy)) (e : Name × HTy
     → entry_at d (typed_entries_of (es ++ e ∷ [])) x ≡ (if x == e.0.0 then Some (hist_type_of e.1) else entry_at d (typed_entries_of es) x)
 entry_at-push d [] e x = refl
 entry_at-push d (a ∷ es) e x = entry_at-push (if x == a.0.0 then Some (hist_type_of a.1) else d) es e x
-
-or_false : (b : Bool) → (b || false) ≡ b
-or_false true = refl
-or_false false = refl
 
 -- the last entry gives its name's type
 pub types_of-push : (es : List (Name × HTy)) (e : Name × HTy) (x : ℕ) → types_of (es ++ e ∷ []) x ≡ (if x == e.0.0 then Some (hist_type_of e.1) else types_of es x)
@@ -58,7 +55,7 @@ next_typed p names i d old new h before after x =
         ∙ ap (λ b. first_some (p (get_or names i d).0) (if b then p x else None)) q
         ∙ ap (λ m. first_some (p m) (if hold then p x else None)) (sym same)
         ∙ known hold (p x)
-        ∙ sym (ap (λ b. if b then p x else None) (or_second (holds x (numbers_of (take i names))) (x == (get_or names i d).0) k))
+        ∙ sym (ap (λ b. if b then p x else None) (or_right (holds x (numbers_of (take i names))) (x == (get_or names i d).0) k))
     go false k hold q =
         after x ∙ ap (λ b. if b then first_some (p (get_or names i d).0) (old x) else old x) k ∙ before x
         ∙ ap (λ b. if b then p x else None) (sym (or_false (holds x (numbers_of (take i names)))))
@@ -92,8 +89,8 @@ next_param params i p names more h e m known x k =
     sym (ap (λ l. is_some (past_params (typed_names_of l) x)) taken ∙ ap (λ l. is_some (past_params l x)) (typed_names_of-last (take i params) p) ∙ past_last (typed_names_of (take i params)) (p.0.0, type_of p.1) x) ∙ k in
     ap (λ l. holds x (numbers_of l)) m ∙ ap (λ l. holds x l) (numbers_of-append names (p.0 ∷ [])) ∙ holds-append x (numbers_of names) (p.0.0 ∷ [])
     ∙ (elim (or_split (is_some (past_params (typed_names_of (take i params)) x)) (x == p.0.0) parts) [
-      | inl a ↦ or_first (holds x (numbers_of names)) ((x == p.0.0) || false) (known x a)
-      | inr b ↦ or_second (holds x (numbers_of names)) ((x == p.0.0) || false) (or_first (x == p.0.0) false b)
+      | inl a ↦ or_left (holds x (numbers_of names)) ((x == p.0.0) || false) (known x a)
+      | inr b ↦ or_right (holds x (numbers_of names)) ((x == p.0.0) || false) (or_left (x == p.0.0) false b)
     ])
 
 pub ruleset entries = (types_of-push)

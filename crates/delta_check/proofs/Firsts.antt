@@ -10,7 +10,7 @@ use Rattle.stream_type.specs.StreamType.{eps}
 use Rattle.core_term.specs.TypeFaults.{Cause, expr_refusal, NodeAt, first_some, nodes_of, nodes_among, first_broken_of}
 use Rattle.delta_check.specs.Refused.{rule_broken}
 
-some_assoc : {A : Type 0} (a b d : Option A) → first_some a (first_some b d) ≡ first_some (first_some a b) d
+pub some_assoc : {A : Type 0} (a b d : Option A) → first_some a (first_some b d) ≡ first_some (first_some a b) d
 some_assoc None b d = refl
 some_assoc (Some a) b d = refl
 

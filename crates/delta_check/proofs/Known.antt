@@ -47,7 +47,7 @@ known-last ks k free inert before h b a = record {
 pub known-none : (free : List ℕ) (inert : Bool) (before : Facts) → IsKnown [] free inert before
 known-none free inert before = record { knows_before = λ a. refl; knows_after = λ b. refl }
 
-choose : {A : Type 0} (c : Bool) (a b d e : A) → a ≡ d → b ≡ e → (if c then a else b) ≡ (if c then d else e)
+pub choose : {A : Type 0} (c : Bool) (a b d e : A) → a ≡ d → b ≡ e → (if c then a else b) ≡ (if c then d else e)
 choose true a b d e h k = h
 choose false a b d e h k = k
 

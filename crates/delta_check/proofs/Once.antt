@@ -8,10 +8,7 @@ use Rattle.core_term.specs.Typing.{Context, is_before}
 use Rattle.core_term.specs.TypeFaults.{first_some, first_found, found_where, first_pair}
 use Rattle.core_term.proofs.Sides.{all-holds}
 use Rattle.core_term.proofs.Causes.{first_found-none}
-
-some_assoc : {A : Type 0} (a b d : Option A) → first_some a (first_some b d) ≡ first_some (first_some a b) d
-some_assoc None b d = refl
-some_assoc (Some a) b d = refl
+use Rattle.delta_check.proofs.Firsts.{some_assoc}
 
 first_found-append : {B : Type 0} (f : ℕ → Option B) (xs ys : List ℕ) → first_found f (xs ++ ys) ≡ first_some (first_found f xs) (first_found f ys)
 first_found-append f [] ys = refl
@@ -54,11 +51,11 @@ first_pair_once c xs ys =
     (λ x. first_found-once (λ y. found_where (not (is_before c x y)) (x, y)) ys) xs
 
 -- all names pass a test where each of them, taken once, does
-and_true : (b : Bool) → b ≡ (b && true)
+pub and_true : (b : Bool) → b ≡ (b && true)
 and_true true = refl
 and_true false = refl
 
-and_assoc : (a b d : Bool) → (a && (b && d)) ≡ ((a && b) && d)
+pub and_assoc : (a b d : Bool) → (a && (b && d)) ≡ ((a && b) && d)
 and_assoc true b d = refl
 and_assoc false b d = refl
 

@@ -6,15 +6,12 @@ use Rattle.std.proofs.lemmas.Bool.{ltb-true}
 use Rattle.core_term.specs.CoreTerm.{CoreBody, fun_at, is_there}
 use Rattle.core_term.specs.Inert.{is_inert, inert_after, is_inert_fun}
 use Rattle.delta_check.specs.Counting.{counts_in, IsRound}
+use Rattle.delta_check.proofs.Once.{and_assoc}
 
 -- marks that stand for the functions left after n rounds
 pub record IsAfter (funs : List CoreBody) (marks : List Bool) (n : ℕ) : Type 0 where
   pub has_each : length marks ≡ length funs
   pub counts_left : (f : ℕ) → counts_in funs marks f ≡ inert_after funs n f
-
-and_turn : (a b d : Bool) → (a && (b && d)) ≡ ((a && b) && d)
-and_turn true b d = refl
-and_turn false b d = refl
 
 -- one more round
 pub next : (funs : List CoreBody) (marks kept : List Bool) (n : ℕ) → IsAfter funs marks n → IsRound funs marks kept → IsAfter funs kept (n + 1)
@@ -32,7 +29,7 @@ next funs marks kept n h k = record { has_each = k.has_each; counts_left = λ f.
     go : (f : ℕ) (b : Bool) → is_there funs f ≡ b → counts_in funs kept f ≡ inert_after funs (suc n) f
     go f true e =
         ap (λ v. is_there funs f && v) (k.keeps_inert f (ltb-true f (length funs) e))
-        ∙ and_turn (is_there funs f) (slice_index_or marks f false) (is_inert (fun_at funs) (counts_in funs marks) (fun_at funs f).body (fun_at funs f).result) ∙ step f
+        ∙ and_assoc (is_there funs f) (slice_index_or marks f false) (is_inert (fun_at funs) (counts_in funs marks) (fun_at funs f).body (fun_at funs f).result) ∙ step f
     go f false e =
         ap (λ b. b && slice_index_or kept f false) e
         ∙ sym (ap (λ b. (b && slice_index_or marks f false) && is_inert (fun_at funs) (counts_in funs marks) (fun_at funs f).body (fun_at funs f).result) e) ∙ step f

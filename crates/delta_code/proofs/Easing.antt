@@ -3,9 +3,9 @@ use Rattle.std.proofs.Common.{◌≡◌, ℕ, true, false, ◌||◌, ◌&&◌, L
 use Rattle.stream_type.specs.StreamType.{StreamType}
 use Rattle.stream_prefix.specs.StreamPrefix.{StreamPrefix, eps_emp, one_emp, one_full, int_emp, int_full, par_both, cat_fst, cat_both, sum_emp, in_left, in_right, star_emp, star_done, star_first, star_rest}
 use Rattle.bunch.specs.Names.{holds}
+use Rattle.bunch.proofs.Tests.{and_first, and_second}
 use Rattle.core_term.specs.FreeNames.{without}
 use Rattle.core_term.specs.Parts.{par_left, par_right, cat_first}
-use Rattle.core_term.proofs.Sides.{and_first, and_second}
 use Rattle.delta_state.specs.StateTree.{LaterTree, StateTree, ArgumentTrees, sink, var_state, par_state, cat_state, let_state, let_par_state, let_cat_state, frame_state, no_arguments, argument_before, free_in_state}
 use Rattle.delta_state.specs.Rest.{cut_state}
 use Rattle.state_rewriting.specs.Rewriting.{ReplacedBy, ReplacedArgumentsBy, SimplerBy, as_it_is, as_they_are, one_more, here, IsAlias, unused, unused_pair, unused_row, frames, is_plain, are_plain, at_most_once, stand_once, names_passed, composed, Rewritten}

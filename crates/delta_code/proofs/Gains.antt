@@ -3,6 +3,7 @@ use Rattle.std.proofs.Common.{◌≡◌, ◌∙◌, ℕ, ◌+◌, ◌-◌, ◌<�
 use Rattle.stream_prefix.specs.StreamPrefix.{StreamPrefix, star_rest, is_maximal}
 use Rattle.stream_prefix.specs.declared.prefix.Prefix.{Prefix}
 use Rattle.stream_prefix.specs.Tree.{prefix_of, star_of}
+use Rattle.stream_prefix.proofs.Follow.{star_of-append}
 use Rattle.core_term.specs.Parts.{as_star}
 use Rattle.core_term.specs.Run.{Run, Runs, deeper, relabel, cat_run, cat_run_at, let_run, call_run, one_call}
 use Rattle.machine_parts.proofs.Runs.{cat_run_both}
@@ -93,13 +94,9 @@ gained_behind xs news p c l n m a b e h f g =
     ap (λ (v : List Prefix). gained (map prefix_of v) n m b) e
     ∙ (ap (λ (v : List StreamPrefix). gained v n m b) (map_append xs (p ∷ []) ∙ ap (λ (q : StreamPrefix). map prefix_of xs ++ q ∷ []) h) ∙ gained_item (map prefix_of xs) c l n m a b f g)
 
-star_append : (ps qs : List StreamPrefix) (q : StreamPrefix) → star_of (ps ++ qs) q ≡ star_of ps (star_of qs q)
-star_append [] qs q = refl
-star_append (p ∷ ps) qs q = ap (star_rest p) (star_append ps qs q)
-
 -- items before those of a star
 pub star_more : (xs ys zs : List Prefix) (q : StreamPrefix) → zs ≡ xs ++ ys → star_of (map prefix_of zs) q ≡ star_of (map prefix_of xs) (star_of (map prefix_of ys) q)
-star_more xs ys zs q e = ap (λ (v : List Prefix). star_of (map prefix_of v) q) e ∙ (ap (λ (v : List StreamPrefix). star_of v q) (map_append xs ys) ∙ star_append (map prefix_of xs) (map prefix_of ys) q)
+star_more xs ys zs q e = ap (λ (v : List Prefix). star_of (map prefix_of v) q) e ∙ (ap (λ (v : List StreamPrefix). star_of v q) (map_append xs ys) ∙ star_of-append (map prefix_of xs) (map prefix_of ys) q)
 
 -- an item that is whole, and the items after it
 pub cons_runs : (a b x y : Run) → a ≡ x → b ≡ y → is_maximal a.out ≡ true → relabel as_star (cat_run_at true a b) ≡ relabel as_star (cat_run x y)

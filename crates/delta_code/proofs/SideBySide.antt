@@ -1,20 +1,20 @@
 -- States that stand beside each other: on which names something comes, which state stays as it is, and that a state
 -- goes on by the entries alone whose names it uses.
-use Rattle.std.proofs.Common.{ℕ, ◌≡◌, ◌∙◌, ◌+◌, ◌<◌, ◌++◌, Bool, true, false, true≢false, List, [], ◌∷◌, eqb, if◌then◌else◌, refl, sym, ap, subst, Ok, Err, arith}
+use Rattle.std.proofs.Common.{ℕ, ◌≡◌, ◌∙◌, ◌+◌, ◌<◌, ◌++◌, Bool, true, false, true≢false, List, [], ◌∷◌, eqb, if◌then◌else◌, refl, sym, ap, Ok, Err, arith}
 use Rattle.std.proofs.lemmas.Bool.{eqb-true}
 use Rattle.std.proofs.lemmas.List.Elements.{All-head, All-tail}
-use Rattle.std.specs.Prelude.{Result, max}
+use Rattle.std.specs.Prelude.{max}
 use Rattle.stream_type.specs.StreamType.{StreamType, par}
 use Rattle.stream_prefix.specs.StreamPrefix.{emp, der}
 use Rattle.stream_prefix.proofs.Joins.{der-emp}
 use Rattle.bunch.specs.Names.{holds}
+use Rattle.bunch.proofs.Tests.{and_first, and_second}
 use Rattle.core_term.specs.CoreTerm.{CoreBody, fun_at}
 use Rattle.core_term.specs.Environment.{NameTypes}
 use Rattle.core_term.specs.Inert.{is_inert_fun}
 use Rattle.core_term.specs.Run.{Run, par_run, quiet}
 use Rattle.core_term.proofs.FreeRuns.{Alike}
 use Rattle.core_term.proofs.InertRuns.{EmptyOn}
-use Rattle.core_term.proofs.Sides.{and_first, and_second}
 use Rattle.delta_state.specs.StateTree.{HeldName, StateTree, par_state, free_in_state}
 use Rattle.delta_state.specs.StateMeaning.{types_held, prefixes_held, run_state}
 use Rattle.delta_state.specs.Rest.{rest_of}
@@ -179,7 +179,3 @@ goes_right a x s v w before after n l h moved simpler =
 -- it stops
 pub goes_wrong : {stop : Stop} {x : Run} {s v w : StateTree} {before after : StreamType} {n l : ℕ} → GoesOn (Err stop) x s v n l → Advances (Err stop) x s w before after n l
 goes_wrong h = ends h.spent h.deep
-
--- it goes on just as this run does, and leaves this
-pub as_another : {q : Result Told Stop} {x y : Run} {s w v : StateTree} {n l : ℕ} → x ≡ y → s ≡ w → GoesOn q x s v n l → GoesOn q y w v n l
-as_another {q = q} {x = x} {w = w} {v = v} {n = n} {l = l} e f h = subst (λ (r : Run). GoesOn q r w v n l) e (subst (λ (t : StateTree). GoesOn q x t v n l) f h)

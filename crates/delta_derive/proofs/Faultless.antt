@@ -1,7 +1,7 @@
 -- Lines that write a derivation have no fault: each claim has one leaf for a name, so the leaf that a rule is about is
 -- the one that is found.
 use Rattle.std.proofs.Common.{◌≡◌, ◌∙◌, ℕ, suc, Bool, true, false, ◌&&◌, ◌||◌, inl, inr, List, [], ◌∷◌, ◌++◌, length, map, if◌then◌else◌, ap, refl, sym, subst, append_assoc}
-use Rattle.std.proofs.lemmas.Bool.{eq-eqb}
+use Rattle.std.proofs.lemmas.Bool.{eq-eqb, or_left, or_right, and_from}
 use Rattle.std.specs.Prelude.{Option, Some, None, option_map, is_some, not, ◌==◌}
 use Rattle.std.proofs.lemmas.List.{length-map}
 use Rattle.stream_type.specs.StreamType.{StreamType, par, cat, sum, star, null_of}
@@ -16,9 +16,9 @@ use Rattle.core_term.specs.Parts.{is_same_type}
 use Rattle.core_term.specs.Typing.{Context}
 use Rattle.core_term.specs.TypeFaults.{found_where, expr_refusal, of_pasts, first_jumpy}
 use Rattle.core_term.proofs.Causes.{is_same_type-same}
-use Rattle.core_term.proofs.Sides.{or_first, or_second, holds-head, holds-left, holds-right}
+use Rattle.core_term.proofs.Sides.{holds-head, holds-left, holds-right}
 use Rattle.core_term.proofs.Without.{holds-tail}
-use Rattle.core_term.proofs.BoundOnce.{not_again, distinct_right}
+use Rattle.core_term.proofs.BoundOnce.{not_again, distinct_right, differ}
 use Rattle.core_term.proofs.Unbroken.{expr_refusal_is_exact}
 use Rattle.bunch_rules.specs.Rearranging.{Turn, Replaces, stays_first}
 use Rattle.bunch_rules.specs.Derivation.{Known, hidden, learned}
@@ -28,12 +28,12 @@ use Rattle.bunch_rules.proofs.Replacing.{part_names, part_distinct, new_names, s
 use Rattle.bunch_rules.proofs.Steps.{names_kept, distinct_kept}
 use Rattle.bunch_rules.proofs.Serving.{step_names}
 use Rattle.bunch_rules.proofs.Parts.{beside_distinct, pair_distinct, single_apart, waited_distinct}
-use Rattle.bunch_rules.proofs.Derivations.{either, none_in, let_names, beside_names, pair_names, binds_fewer, binds_first, binds_second, binds_tail, binds_below, binds_below_two, let_distinct, different}
+use Rattle.bunch_rules.proofs.Derivations.{either, none_in, let_names, beside_names, pair_names, binds_fewer, binds_first, binds_second, binds_tail, binds_below, binds_below_two, let_distinct}
 use Rattle.delta_derive.specs.declared.fault.DeriveFault.TheVariants.{BadStep, BadRule}
 use Rattle.delta_derive.specs.Rearranged.{then_by, put_at, leaf_type, with_leaf}
 use Rattle.delta_derive.specs.Claims.{Claim, claim, below_one, below_two, let_claims, with_claims, shares, all_shared, passes, is_called, call_parts, rule_parts, rule_parts_by}
 use Rattle.delta_derive.specs.FirstFault.{judged, first_from}
-use Rattle.delta_derive.proofs.Options.{none_some, both_true}
+use Rattle.delta_derive.proofs.Options.{none_some}
 use Rattle.delta_derive.proofs.ExactSteps.{rearranged_of}
 use Rattle.delta_derive.proofs.Paths.{part_found, part_put}
 use Rattle.delta_derive.proofs.OneLeaf.{leaf_found, only_leaf, only_replaced}
@@ -62,14 +62,14 @@ module _ (funs : List CoreBody) (counts : ℕ → Bool) where
   is_good_call : (known : Known) (b : CoreBody) (ms : List HistExpr) (es : CoreTerms) (r : StreamType) → b.result ≡ r → (length ms ≡ length (past_types b)) × (of_pasts [] (λ _. false) expr_refusal known ms (past_types b) ≡ None) → first_jumpy funs counts b es ≡ None
       → is_called funs counts known b ms es r ≡ true
   is_good_call known b ms es r q hs w =
-      both_true (is_same_type b.result r && (length ms == length b.past)) (not (is_some (of_pasts [] (λ _. false) expr_refusal known ms (past_types b))) && not (is_some (first_jumpy funs counts b es)))
-      (both_true (is_same_type b.result r) (length ms == length b.past) (ap (λ t. is_same_type b.result t) (sym q) ∙ is_same_type-same b.result) (eq-eqb (length ms) (length b.past) (hs.0 ∙ length-map b.past (λ e. e.1))))
-      (both_true (not (is_some (of_pasts [] (λ _. false) expr_refusal known ms (past_types b)))) (not (is_some (first_jumpy funs counts b es))) (ap (λ o. not (is_some o)) hs.1) (ap (λ o. not (is_some o)) w))
+      and_from (is_same_type b.result r && (length ms == length b.past)) (not (is_some (of_pasts [] (λ _. false) expr_refusal known ms (past_types b))) && not (is_some (first_jumpy funs counts b es)))
+      (and_from (is_same_type b.result r) (length ms == length b.past) (ap (λ t. is_same_type b.result t) (sym q) ∙ is_same_type-same b.result) (eq-eqb (length ms) (length b.past) (hs.0 ∙ length-map b.past (λ e. e.1))))
+      (and_from (not (is_some (of_pasts [] (λ _. false) expr_refusal known ms (past_types b)))) (not (is_some (first_jumpy funs counts b es))) (ap (λ o. not (is_some o)) hs.1) (ap (λ o. not (is_some o)) w))
 
   call_left : (known : Known) (g : BunchTree) (f : ℕ) (ms : List HistExpr) (es : CoreTerms) (r : StreamType) (hs : List Claim) → is_there funs f ≡ true → is_called funs counts known (fun_at funs f) ms es r ≡ true → passes known (fun_at funs f).params g es ≡ Some hs
       → call_parts funs counts known g f ms es r ≡ Some hs
   call_left known g f ms es r hs i c q =
-      ap (λ b. if b then passes known (fun_at funs f).params g es else None) (both_true (is_there funs f) (is_called funs counts known (fun_at funs f) ms es r) i c) ∙ q
+      ap (λ b. if b then passes known (fun_at funs f).params g es else None) (and_from (is_there funs f) (is_called funs counts known (fun_at funs f) ms es r) i c) ∙ q
 
   -- the claims of arguments, and that no line is at fault where none is behind them
   abbrev pub SharesWell : Known → BunchTree → BunchTree → CoreTerms → CoreTerms → List Line → List Line → Type 0
@@ -121,12 +121,12 @@ module _ (funs : List CoreBody) (counts : ℕ → Bool) where
         let second : Passes (claim (hidden x known) (put_at p (comma d' (leaf x s)) g) b r ∷ gs) ms = subst (λ w. Passes (claim (hidden x known) w b r ∷ gs) ms) (part_put k) (goes j (let_distinct k d nx) under gs q) in
         by_let p known g (let_term x s a b) r (let_claims known p d' g x s a b r) gs ls
         (ap (λ o. then_by o (λ e. found_where (is_inert (fun_at funs) counts a s || stays_first p g) (let_claims known p e g x s a b r))) (part_found k)
-        ∙ ap (λ c. found_where c (let_claims known p d' g x s a b r)) (either (or_first (is_inert (fun_at funs) counts a s) (stays_first p g)) (or_second (is_inert (fun_at funs) counts a s) (stays_first p g)) o))
+        ∙ ap (λ c. found_where c (let_claims known p d' g x s a b r)) (either (or_left (is_inert (fun_at funs) counts a s) (stays_first p g)) (or_right (is_inert (fun_at funs) counts a s) (stays_first p g)) o))
         (goes i (part_distinct k d) (binds_first (bound_names a) (bound_names b) g d' rest (part_names k)) (claim (hidden x known) (put_at p (comma d' (leaf x s)) g) b r ∷ gs) second)
     goes (let_par_line {known = known} {p = p} {g = g} {h = h} {x = x} {y = y} {z = z} {s = s} {t = t} {r = r} {a = a} {ls = ls} k i) d n gs q =
         let nx = n.new x (holds-head x (y ∷ bound_names a)) in
         let ny = n.new y (holds-tail y x (y ∷ bound_names a) (holds-head y (bound_names a))) in
-        let xy = different x y (bound_names a) n.once in
+        let xy = differ x y (bound_names a) n.once in
         let v = comma (leaf x s) (leaf y t) in
         by_rule known g (let_par_term x y z a) r (below_two known x y z (par s t) v g a r ∷ []) gs ls (leaf_rule k d _)
         (subst (λ w. Passes (claim (hidden y (hidden x known)) w a r ∷ gs) ls) (only_replaced k d)
@@ -134,7 +134,7 @@ module _ (funs : List CoreBody) (counts : ℕ → Bool) where
     goes (let_cat_line {known = known} {p = p} {g = g} {h = h} {x = x} {y = y} {z = z} {s = s} {t = t} {r = r} {a = a} {ls = ls} k i) d n gs q =
         let nx = n.new x (holds-head x (y ∷ bound_names a)) in
         let ny = n.new y (holds-tail y x (y ∷ bound_names a) (holds-head y (bound_names a))) in
-        let xy = different x y (bound_names a) n.once in
+        let xy = differ x y (bound_names a) n.once in
         let v = semi (leaf x s) (leaf y t) in
         by_rule known g (let_cat_term x y z a) r (below_two known x y z (cat s t) v g a r ∷ []) gs ls (leaf_rule k d _)
         (subst (λ w. Passes (claim (hidden y (hidden x known)) w a r ∷ gs) ls) (only_replaced k d)
@@ -154,7 +154,7 @@ module _ (funs : List CoreBody) (counts : ℕ → Bool) where
         let nb = binds_second (bound_names a) (y ∷ (ys ∷ bound_names b)) g g n (λ u m. m) in
         let ny = nb.new y (holds-head y (ys ∷ bound_names b)) in
         let nys = nb.new ys (holds-tail ys y (ys ∷ bound_names b) (holds-head ys (bound_names b))) in
-        let xy = different y ys (bound_names b) nb.once in
+        let xy = differ y ys (bound_names b) nb.once in
         let v = semi (leaf y s) (leaf ys (star s)) in
         let u = below_two known y ys z (star s) v g b r in
         let second : Passes (u ∷ gs) ms = subst (λ w. Passes (claim (hidden ys (hidden y known)) w b r ∷ gs) ms) (only_replaced k d)
@@ -163,7 +163,7 @@ module _ (funs : List CoreBody) (counts : ℕ → Bool) where
         (goes i d na (u ∷ gs) second)
     goes (wait_line {known = known} {p = p} {g = g} {h = h} {x = x} {s = s} {r = r} {a = a} {ls = ls} o k i) d n gs w =
         let u = claim (learned x s known) (with_leaf x empty g) a r in
-        by_rule known g (wait_term x r a) r (u ∷ []) gs ls (leaf_rule k d _ ∙ ap (λ c. found_where c (u ∷ [])) (both_true (not (null_of s)) (is_same_type r r) (ap not o) (is_same_type-same r)))
+        by_rule known g (wait_term x r a) r (u ∷ []) gs ls (leaf_rule k d _ ∙ ap (λ c. found_where c (u ∷ [])) (and_from (not (null_of s)) (is_same_type r r) (ap not o) (is_same_type-same r)))
         (subst (λ w. Passes (claim (learned x s known) w a r ∷ gs) ls) (only_replaced k d)
         (goes i (waited_distinct g h p x s nowhere d k) (binds_fewer (bound_names a) (bound_names a) g h n n.once (λ u m. m) (λ u m l. either (λ q. inl q) (λ q. none_in u q) (new_names k u l))) gs w))
     goes (call_line {known = known} {g = g} {f = f} {ms = ms} {es = es} {r = r} {ls = ls} o q hs ps t) d n gs w =

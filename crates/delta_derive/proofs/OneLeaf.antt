@@ -1,6 +1,6 @@
 -- The leaf of a name is what stands at the end of some path, and in a distinct bunch no other leaf has the name.
 use Rattle.std.proofs.Common.{◌≡◌, ◌∙◌, ℕ, Bool, true, false, true≢false, ◌||◌, ◌⊎◌, inl, inr, List, [], ◌∷◌, eqb, if◌then◌else◌, ap, ap₂, refl, sym, subst}
-use Rattle.std.proofs.lemmas.Bool.{eqb-true, eq-eqb}
+use Rattle.std.proofs.lemmas.Bool.{eqb-true, eq-eqb, or_left, or_right, and_parts, and_from}
 use Rattle.std.specs.Prelude.{Option, Some, None, is_some}
 use Rattle.stream_type.specs.StreamType.{StreamType}
 use Rattle.bunch.specs.Names.{holds}
@@ -8,12 +8,12 @@ use Rattle.bunch.specs.BunchTree.{BunchTree, empty, leaf, comma, semi, leaf_name
 use Rattle.core_term.specs.Parts.{is_same_type}
 use Rattle.core_term.specs.TypeFaults.{first_some}
 use Rattle.core_term.proofs.Causes.{is_same_type-true, is_same_type-same}
-use Rattle.core_term.proofs.Sides.{or_first, or_second, holds-head}
+use Rattle.core_term.proofs.Sides.{holds-head}
 use Rattle.bunch_rules.specs.Rearranging.{Turn, to_left, to_right, Replaces, right_here, left_of_comma, right_of_comma, left_of_semi, right_of_semi}
 use Rattle.bunch_rules.specs.Derivation.{HasLeaf}
 use Rattle.bunch_rules.proofs.Replacing.{part_names, not_left, not_right}
 use Rattle.delta_derive.specs.Rearranged.{has_leaf, leaf_type, with_leaf}
-use Rattle.delta_derive.proofs.Options.{some_same, none_some, and_both, both_true}
+use Rattle.delta_derive.proofs.Options.{some_same, none_some}
 
 or_there : {A B : Type 0} (a b : Bool) → (a ≡ true → A) → (b ≡ true → B) → (a || b) ≡ true → A ⊎ B
 or_there true b f g h = inl (f refl)
@@ -21,17 +21,17 @@ or_there false b f g h = inr (g h)
 
 pub leaf_there : (g : BunchTree) (x : ℕ) (t : StreamType) → has_leaf g x t ≡ true → HasLeaf g x t
 leaf_there empty x t h = absurd (true≢false (sym h))
-leaf_there (leaf z s) x t h = let b = and_both (eqb z x) (is_same_type s t) h in (eqb-true z x b.0, is_same_type-true s t b.1)
+leaf_there (leaf z s) x t h = let b = and_parts (eqb z x) (is_same_type s t) h in (eqb-true z x b.0, is_same_type-true s t b.1)
 leaf_there (comma a b) x t h = or_there (has_leaf a x t) (has_leaf b x t) (leaf_there a x t) (leaf_there b x t) h
 leaf_there (semi a b) x t h = or_there (has_leaf a x t) (has_leaf b x t) (leaf_there a x t) (leaf_there b x t) h
 
 pub leaf_found : (g : BunchTree) (x : ℕ) (t : StreamType) → HasLeaf g x t → has_leaf g x t ≡ true
 leaf_found empty x t h = absurd h
-leaf_found (leaf z s) x t h = both_true (eqb z x) (is_same_type s t) (eq-eqb z x h.0) (ap (λ u. is_same_type s u) (sym h.1) ∙ is_same_type-same s)
-leaf_found (comma a b) x t (inl h) = or_first (has_leaf a x t) (has_leaf b x t) (leaf_found a x t h)
-leaf_found (comma a b) x t (inr h) = or_second (has_leaf a x t) (has_leaf b x t) (leaf_found b x t h)
-leaf_found (semi a b) x t (inl h) = or_first (has_leaf a x t) (has_leaf b x t) (leaf_found a x t h)
-leaf_found (semi a b) x t (inr h) = or_second (has_leaf a x t) (has_leaf b x t) (leaf_found b x t h)
+leaf_found (leaf z s) x t h = and_from (eqb z x) (is_same_type s t) (eq-eqb z x h.0) (ap (λ u. is_same_type s u) (sym h.1) ∙ is_same_type-same s)
+leaf_found (comma a b) x t (inl h) = or_left (has_leaf a x t) (has_leaf b x t) (leaf_found a x t h)
+leaf_found (comma a b) x t (inr h) = or_right (has_leaf a x t) (has_leaf b x t) (leaf_found b x t h)
+leaf_found (semi a b) x t (inl h) = or_left (has_leaf a x t) (has_leaf b x t) (leaf_found a x t h)
+leaf_found (semi a b) x t (inr h) = or_right (has_leaf a x t) (has_leaf b x t) (leaf_found b x t h)
 
 -- the leaf of a name is replaced at the end of some path
 abbrev IsReplaced : ℕ → BunchTree → BunchTree → StreamType → BunchTree → Type 0

@@ -1,5 +1,5 @@
 -- What is there, and what follows where something is there.
-use Rattle.std.proofs.Common.{◌≡◌, ◌∙◌, Bool, true, false, true≢false, ◌&&◌, ap, refl, sym}
+use Rattle.std.proofs.Common.{◌≡◌, Bool, true, false, true≢false, ap, refl, sym}
 use Rattle.std.specs.Prelude.{Option, Some, None, option_map, unwrap_or, is_some, not}
 use Rattle.core_term.specs.TypeFaults.{found_where}
 use Rattle.delta_derive.specs.Rearranged.{then_by}
@@ -21,17 +21,6 @@ bound (Some a) f b h = (a, refl, h)
 pub found : {A : Type 0} (c : Bool) (a b : A) → found_where c a ≡ Some b → (c ≡ true) × (a ≡ b)
 found true a b h = (refl, some_same h)
 found false a b h = none_some h
-
-pub and_both : (a b : Bool) → (a && b) ≡ true → (a ≡ true) × (b ≡ true)
-and_both true b h = (refl, h)
-and_both false b h = absurd (true≢false (sym h))
-
-pub both_true : (a b : Bool) → a ≡ true → b ≡ true → (a && b) ≡ true
-both_true a b h k = ap (λ c. c && b) h ∙ k
-
-pub not_true : (a : Bool) → not a ≡ true → a ≡ false
-not_true true h = absurd (true≢false (sym h))
-not_true false h = refl
 
 pub not_some : {A : Type 0} (o : Option A) → not (is_some o) ≡ true → o ≡ None
 not_some None h = refl

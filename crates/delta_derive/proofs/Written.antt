@@ -1,11 +1,12 @@
 -- Lines that write the terms of claims, in turn; and a line that leaves claims of one, with the lines that write them,
 -- writes that one.
 use Rattle.std.proofs.Common.{◌≡◌, ◌∙◌, ℕ, Bool, true, false, ◌&&◌, ◌||◌, if◌then◌else◌, List, [], ◌∷◌, ◌++◌, length, ap, refl, sym, subst}
-use Rattle.std.proofs.lemmas.Bool.{eqb-true}
+use Rattle.std.proofs.lemmas.Bool.{eqb-true, not-true, and_parts}
 use Rattle.std.specs.Prelude.{Option, Some, None, is_some, not, ◌==◌}
 use Rattle.std.proofs.lemmas.List.{length-map}
 use Rattle.stream_type.specs.StreamType.{StreamType, eps, one, null_of}
 use Rattle.bunch.specs.BunchTree.{BunchTree, empty, leaf, comma, semi}
+use Rattle.bunch.proofs.Tests.{or_split}
 use Rattle.hist_value.specs.HistType.{past}
 use Rattle.hist_value.specs.HistExpr.{HistExpr}
 use Rattle.core_term.specs.CoreTerm.{CoreTerm, CoreTerms, CoreBody, var_term, eps_term, unit_term, nil_term, past_term, par_term, cat_term, cons_term, inl_term, inr_term, let_term, let_par_term, let_cat_term, case_sum_term, case_star_term, wait_term, call_term, no_terms, term_before, past_types, fun_at, is_there}
@@ -13,7 +14,6 @@ use Rattle.core_term.specs.Inert.{is_inert}
 use Rattle.core_term.specs.Parts.{par_left, par_right, cat_first, cat_second, sum_left, sum_right, star_item, star_items, is_par, is_cat, is_sum, is_star, is_same_type}
 use Rattle.core_term.specs.TypeFaults.{found_where, expr_refusal, of_pasts, first_jumpy}
 use Rattle.core_term.proofs.Causes.{is_same_type-true, is_par-form, is_cat-form, is_sum-form, is_star-form}
-use Rattle.core_term.proofs.Sides.{or_split}
 use Rattle.core_term.proofs.Unbroken.{expr_refusal_is_exact}
 use Rattle.bunch_rules.specs.Rearranging.{Turn, Replaces, stays_first}
 use Rattle.bunch_rules.specs.Derivation.{Known, hidden, learned}
@@ -21,7 +21,7 @@ use Rattle.bunch_rules.specs.Written.{Line, plain_rule, rule_at, step_at, Writes
 use Rattle.delta_derive.specs.Rearranged.{rearranged, part_at, put_at, has_leaf, leaf_type, with_leaf}
 use Rattle.delta_derive.specs.Claims.{Claim, claim, two, beside, below_one, below_two, let_claims, of_semi, with_claims, shares, where_none, all_shared, passes, is_called, call_parts, rule_parts, rule_parts_by}
 use Rattle.delta_derive.specs.FirstFault.{after}
-use Rattle.delta_derive.proofs.Options.{some_same, none_some, mapped, bound, found, and_both, not_true, not_some}
+use Rattle.delta_derive.proofs.Options.{some_same, none_some, mapped, bound, found, not_some}
 use Rattle.delta_derive.proofs.ExactSteps.{step_of_rearranged}
 use Rattle.delta_derive.proofs.Paths.{part_replaced}
 use Rattle.delta_derive.proofs.OneLeaf.{leaf_there, leaf_replaced}
@@ -109,9 +109,9 @@ module _ (funs : List CoreBody) (counts : ℕ → Bool) where
       → (ls ks : List Line) → WritesAll hs ls ks → Writes funs counts known g (call_term f ms es) r (plain_rule ∷ ls) ks
   call_there known g f ms es r hs i q h ls ks w =
       let b = fun_at funs f in
-      let both = and_both (is_same_type b.result r && (length ms == length b.past)) (not (is_some (of_pasts [] (λ _. false) expr_refusal known ms (past_types b))) && not (is_some (first_jumpy funs counts b es))) q in
-      let first = and_both (is_same_type b.result r) (length ms == length b.past) both.0 in
-      let second = and_both (not (is_some (of_pasts [] (λ _. false) expr_refusal known ms (past_types b)))) (not (is_some (first_jumpy funs counts b es))) both.1 in
+      let both = and_parts (is_same_type b.result r && (length ms == length b.past)) (not (is_some (of_pasts [] (λ _. false) expr_refusal known ms (past_types b))) && not (is_some (first_jumpy funs counts b es))) q in
+      let first = and_parts (is_same_type b.result r) (length ms == length b.past) both.0 in
+      let second = and_parts (not (is_some (of_pasts [] (λ _. false) expr_refusal known ms (past_types b)))) (not (is_some (first_jumpy funs counts b es))) both.1 in
       call_line i (is_same_type-true b.result r first.0)
       (pasts_there known ms (past_types b) (eqb-true (length ms) (length b.past) first.1 ∙ sym (length-map b.past (λ e. e.1))) (not_some (of_pasts [] (λ _. false) expr_refusal known ms (past_types b)) second.0))
       (writes_passed known b.params g es hs h ls ks w) (still_there funs counts b es (not_some (first_jumpy funs counts b es) second.1))
@@ -185,7 +185,7 @@ module _ (funs : List CoreBody) (counts : ℕ → Bool) where
       let u = leaf x (sum_left t) in
       let v = leaf y (sum_right t) in
       let f = found (is_sum t && is_same_type s r) (below_one known x z t u g a r ∷ below_one known y z t v g b r ∷ []) hs m.2 in
-      let i = and_both (is_sum t) (is_same_type s r) f.0 in
+      let i = and_parts (is_sum t) (is_same_type s r) f.0 in
       let k = leaf_replaced z (beside z t u) g t m.1 in
       let l = leaf_replaced z (beside z t v) g t m.1 in
       let q = two_of (below_one known x z t u g a r) (below_one known y z t v g b r) ls ms (subst (λ l. WritesAll l ls ms) (sym f.1) w) in
@@ -196,7 +196,7 @@ module _ (funs : List CoreBody) (counts : ℕ → Bool) where
       let t = m.0 in
       let v = semi (leaf y (star_item t)) (leaf ys (star_items t)) in
       let f = found (is_star t && is_same_type s r) (claim known g a r ∷ below_two known y ys z t v g b r ∷ []) hs m.2 in
-      let i = and_both (is_star t) (is_same_type s r) f.0 in
+      let i = and_parts (is_star t) (is_same_type s r) f.0 in
       let k = leaf_replaced z (beside z t v) g t m.1 in
       let form = is_star-form t i.0 in
       let q = two_of (claim known g a r) (below_two known y ys z t v g b r) ls ms (subst (λ l. WritesAll l ls ms) (sym f.1) w) in
@@ -207,10 +207,10 @@ module _ (funs : List CoreBody) (counts : ℕ → Bool) where
       let m = bound (leaf_type x g) (λ t. found_where (not (null_of t) && is_same_type s r) (claim (learned x t known) (with_leaf x empty g) a r ∷ [])) hs e in
       let t = m.0 in
       let f = found (not (null_of t) && is_same_type s r) (claim (learned x t known) (with_leaf x empty g) a r ∷ []) hs m.2 in
-      let i = and_both (not (null_of t)) (is_same_type s r) f.0 in
+      let i = and_parts (not (null_of t)) (is_same_type s r) f.0 in
       let k = leaf_replaced x empty g t m.1 in
       subst (λ t'. Writes funs counts known g (wait_term x t' a) r (plain_rule ∷ ls) ms) (sym (is_same_type-true s r i.1))
-      (wait_line (not_true (null_of t) i.0) k.1 (one_of (claim (learned x t known) (with_leaf x empty g) a r) ls ms (subst (λ l. WritesAll l ls ms) (sym f.1) w)))
+      (wait_line (not-true (null_of t) i.0) k.1 (one_of (claim (learned x t known) (with_leaf x empty g) a r) ls ms (subst (λ l. WritesAll l ls ms) (sym f.1) w)))
   writes_plain known g (call_term f ms es) r hs e ls ks w = writes_call known g f ms es r hs e ls ks w
 
   -- a rule with a path

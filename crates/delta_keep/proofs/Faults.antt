@@ -2,9 +2,10 @@
 use Rattle.std.proofs.Common.{◌≡◌, ◌∙◌, ◌<◌, ◌≤◌, ◌+◌, ◌-◌, ℕ, suc, Bool, true, false, List, [], ◌∷◌, ◌++◌, length, ap, refl, subst, arith}
 use Rattle.std.specs.Prelude.{Option, Some, None, Err, nat_lt, if◌then◌else◌, option_map}
 use Rattle.std.proofs.lemmas.List.{append-nil}
-use Rattle.std.proofs.lemmas.Bool.{ltb-true, ltb-false}
+use Rattle.std.proofs.lemmas.Bool.{ltb-false}
 use Rattle.kept_state.specs.KeptBytes.{most_bytes}
 use Rattle.kept_state.specs.KeptForm.{Part, settle, after_byte, is_whole, go_on, fault_from, kept_parts, bad_form, bad_version, version_fault, or_else, form_fault}
+use Rattle.kept_state.proofs.WrittenBytes.{not_many}
 use Rattle.delta_keep.specs.declared.halt.Halt.{Halt}
 use Rattle.delta_keep.specs.declared.halt.Halt.TheVariants.{Memory, At}
 use Rattle.delta_keep.specs.declared.kept.Kept.{Kept}
@@ -91,14 +92,6 @@ pub whole : (bytes w rest : List ℕ) → bytes ≡ w ++ rest → length rest �
 whole bytes w [] h e = h ∙ append-nil w
 whole bytes w (b ∷ rest) h e = absurd (omega (arith, e))
 
--- a comparison by its outcome
-not_below : (n : ℕ) → n ≤ most_bytes → nat_lt most_bytes n ≡ false
-not_below n h = go (nat_lt most_bytes n) refl
-  where
-    go : (b : Bool) → nat_lt most_bytes n ≡ b → b ≡ false
-    go true e = let k = ltb-true most_bytes n e in absurd (omega (arith, h, k))
-    go false e = refl
-
 -- too many bytes
 below : (n : ℕ) → most_bytes < n → nat_lt most_bytes n ≡ true
 below n h = go (nat_lt most_bytes n) refl
@@ -113,11 +106,11 @@ many_told bytes h = ap (λ b. if b then Some (bad_form most_bytes) else or_else 
 -- another version, where there aren't too many bytes
 pub version_told : (bytes : List ℕ) (n : ℕ) → length bytes ≤ most_bytes → version_fault bytes ≡ Some (bad_version n) → form_fault bytes ≡ Some (bad_version n)
 version_told bytes n l v =
-    ap (λ b. if b then Some (bad_form most_bytes) else or_else (version_fault bytes) (option_map bad_form (fault_from kept_parts 0 bytes))) (not_below (length bytes) l)
+    ap (λ b. if b then Some (bad_form most_bytes) else or_else (version_fault bytes) (option_map bad_form (fault_from kept_parts 0 bytes))) (not_many (length bytes) l)
     ∙ ap (λ o. or_else o (option_map bad_form (fault_from kept_parts 0 bytes))) v
 
 -- where the version is the known one, the fault is that of the first byte in a wrong place
 pub fault_told : (bytes : List ℕ) (place : Option ℕ) → length bytes ≤ most_bytes → version_fault bytes ≡ None → fault_from kept_parts 0 bytes ≡ place → form_fault bytes ≡ option_map bad_form place
 fault_told bytes place l v f =
-    ap (λ b. if b then Some (bad_form most_bytes) else or_else (version_fault bytes) (option_map bad_form (fault_from kept_parts 0 bytes))) (not_below (length bytes) l)
+    ap (λ b. if b then Some (bad_form most_bytes) else or_else (version_fault bytes) (option_map bad_form (fault_from kept_parts 0 bytes))) (not_many (length bytes) l)
     ∙ (ap (λ o. or_else o (option_map bad_form (fault_from kept_parts 0 bytes))) v ∙ ap (option_map bad_form) f)

@@ -1,8 +1,8 @@
 -- The sizes of numbers that are put out in turn.
-use Rattle.std.proofs.Common.{◌≡◌, ◌∙◌, ◌<◌, ◌≤◌, ◌+◌, ℕ, List, [], ◌∷◌, ◌++◌, map, length, take, get_or, ap, refl, sym, subst, arith, length-append}
+use Rattle.std.proofs.Common.{◌≡◌, ◌∙◌, ◌<◌, ◌≤◌, ◌+◌, ℕ, List, [], ◌∷◌, ◌++◌, map, length, take, get_or, ap, sym, subst, arith, length-append}
 use Rattle.std.specs.Prelude.{⊤}
 use Rattle.std.specs.List.{AllByRecursion, concat}
-use Rattle.std.proofs.lemmas.List.{map-append, take_all, take_more}
+use Rattle.std.proofs.lemmas.List.{map-append, take_all, take_more, map-id}
 use Rattle.stream_type.specs.StreamType.{eps, one, int, cat, par, sum, star}
 use Rattle.stream_prefix.specs.StreamPrefix.{eps_emp, one_emp, one_full, int_emp, int_full, par_both, cat_fst, cat_both, sum_emp, in_left, in_right, star_emp, star_done, star_first, star_rest}
 use Rattle.hist_value.specs.HistValue.{unit_value, number, pair_of, left_of, right_of, no_items, item_before}
@@ -152,10 +152,6 @@ some_all f g Fits xs i {start} {out} h l p n =
     (count_fits f (map g xs) h these.puts n, these.sizes n)
 
 -- the same where the items stand for themselves
-map_same : {A : Type 0} (xs : List A) → map (λ x. x) xs ≡ xs
-map_same [] = refl
-map_same (x ∷ xs) = ap (λ ys. x ∷ ys) (map_same xs)
-
 pub all_themselves : {A : Type 0} (f : A → List ℕ) (Fits : A → Type 0) (xs : List A) (i : ℕ) {start out : Output} → Filled f → length xs ≤ i → PutSome f (λ x. x) Fits start out (take i xs) → IsCounted out
     → FitsList Fits xs
-all_themselves f Fits xs i h l p n = subst (FitsList Fits) (map_same xs) (some_all f (λ x. x) Fits xs i h l p n)
+all_themselves f Fits xs i h l p n = subst (FitsList Fits) (map-id xs) (some_all f (λ x. x) Fits xs i h l p n)

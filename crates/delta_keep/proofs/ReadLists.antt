@@ -1,7 +1,7 @@
 -- Lists read item by item.
 use Rattle.std.proofs.Common.{◌≡◌, ◌∙◌, ◌<◌, ◌+◌, ◌-◌, ℕ, suc, List, [], ◌∷◌, ◌++◌, map, length, ap, sym, refl, arith, subst}
 use Rattle.std.specs.List.{AllByRecursion}
-use Rattle.std.proofs.lemmas.List.{map-append, length-map}
+use Rattle.std.proofs.lemmas.List.{map-append, length-map, map-id}
 use Rattle.std.specs.Prelude.{Result, Ok, Err}
 use Rattle.kept_state.specs.KeptBytes.{short_bytes, list_bytes}
 use Rattle.kept_state.specs.KeptForm.{Item, bool_item, type_item, prefix_item, value_item, expr_item, node_item, known_item, held_item, argument_item, any, items, list_part, item_parts, settle}
@@ -111,10 +111,6 @@ list_read {A} {B} {item} {f} {g} {Fits} {many} {n} {bytes} {start} {rest} {xs} c
 }
 
 -- where the items are told as they are
-map_same : {A : Type 0} (xs : List A) → map (λ x. x) xs ≡ xs
-map_same [] = refl
-map_same (x ∷ xs) = ap (λ ys. x ∷ ys) (map_same xs)
-
 pub list_read_same : {A : Type 0} {item : Item} {f : A → List ℕ} {Fits : A → Type 0} {many n : ℕ} {bytes start rest : List ℕ} {xs : List A} → Read (any 4 ∷ []) bytes (short_bytes many) start (FitsShort many) → ReadSome item f (λ x. x) Fits many start n xs rest → n ≡ many
     → Read (list_part item ∷ []) bytes (list_bytes f xs) rest (FitsList Fits xs)
-list_read_same {A} {item} {f} {Fits} {many} {n} {bytes} {start} {rest} {xs} c h q = subst (λ ys. Read (list_part item ∷ []) bytes (list_bytes f ys) rest (FitsList Fits ys)) (map_same xs) (list_read c h q)
+list_read_same {A} {item} {f} {Fits} {many} {n} {bytes} {start} {rest} {xs} c h q = subst (λ ys. Read (list_part item ∷ []) bytes (list_bytes f ys) rest (FitsList Fits ys)) (map-id xs) (list_read c h q)

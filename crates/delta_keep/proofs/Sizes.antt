@@ -18,6 +18,7 @@ use Rattle.hist_value.specs.declared.history.Value.TheVariants.{List as ListValu
 use Rattle.hist_value.specs.HistValue.{HistValue, hist_value_of, list_of}
 use Rattle.hist_value.specs.declared.expr.Expr.{Expr}
 use Rattle.hist_value.specs.HistExpr.{expr_of}
+use Rattle.hist_value.proofs.Rows.{row_of-list}
 use Rattle.core_term.specs.declared.term.Node.{Node}
 use Rattle.core_term.specs.declared.term.Term.{Row_of-Node, end_of-Node, more_of-Node, items-the_row-Node, items_hidden-the_row-Node-0}
 use Rattle.core_term.specs.declared.term.Term.TheBlock.{hidden-the_row-Node-0}
@@ -25,6 +26,7 @@ use Rattle.core_term.specs.declared.term.Term.TheVariants.{Call}
 use Rattle.core_term.specs.CoreTerm.{term_in, terms_of, term_count}
 use Rattle.delta_state.specs.StateTree.{argument_names}
 use Rattle.kept_state.specs.KeptSizes.{FitsShort, FitsPrefix, FitsValue, FitsExprs, FitsTerm, FitsTerms, FitsState, FitsArguments, FitsLong, HasSizes}
+use Rattle.kept_state.proofs.SpelledParts.{count-list_of}
 use Rattle.delta_keep.specs.declared.kept.Argument.{Argument}
 use Rattle.delta_keep.specs.declared.kept.Kept.{Kept}
 use Rattle.delta_keep.specs.declared.kept.KeptState.{KeptState, Row_of-Argument, end_of-Argument, more_of-Argument, items-the_row-Argument, items_hidden-the_row-Argument-0}
@@ -32,7 +34,7 @@ use Rattle.delta_keep.specs.declared.kept.KeptState.TheBlock.{hidden-the_row-Arg
 use Rattle.delta_keep.specs.declared.kept.KeptState.TheVariants.{Frame}
 use Rattle.delta_keep.specs.KeptView.{kept_of, state_of, arguments_of}
 use Rattle.delta_keep.specs.Reads.{FitsList, FitsNode, FitsArgument}
-use Rattle.delta_keep.proofs.Trees.{whole-star_of, count-list_of, row_of-list}
+use Rattle.delta_keep.proofs.Trees.{whole-star_of}
 
 -- fewer can be counted too
 one_less : (n : ℕ) → FitsShort (suc n) → FitsShort n

@@ -11,17 +11,19 @@ use Rattle.stream_prefix.specs.declared.prefix.StarEnd.TheVariants.{Emp, Done, F
 use Rattle.stream_prefix.specs.StreamPrefix.{StreamPrefix}
 use Rattle.stream_prefix.specs.Tree.{prefix_of, end_of, star_of}
 use Rattle.stream_prefix.proofs.Rows.{prefix_of-star}
-use Rattle.hist_value.specs.declared.history.Value.{Value, Row_of-Value, end_of-Value, more_of-Value, items-the_row-Value, items_hidden-the_row-Value-0}
+use Rattle.hist_value.specs.declared.history.Value.{Value, items_hidden-the_row-Value-0}
 use Rattle.hist_value.specs.declared.history.Value.TheBlock.{hidden-the_row-Value-0}
 use Rattle.hist_value.specs.declared.history.Value.TheVariants.{List as ListValue}
-use Rattle.hist_value.specs.HistValue.{HistValue, hist_value_of, row_of, list_of}
+use Rattle.hist_value.specs.HistValue.{hist_value_of, list_of}
 use Rattle.hist_value.specs.declared.expr.Expr.{Expr}
 use Rattle.hist_value.specs.HistExpr.{expr_of}
+use Rattle.hist_value.proofs.Rows.{row_of-list}
 use Rattle.core_term.specs.declared.term.Node.{Node}
 use Rattle.core_term.specs.declared.term.Term.{Row_of-Node, end_of-Node, more_of-Node, items-the_row-Node, items_hidden-the_row-Node-0}
 use Rattle.core_term.specs.declared.term.Term.TheBlock.{hidden-the_row-Node-0}
 use Rattle.core_term.specs.declared.term.Term.TheVariants.{Call}
-use Rattle.kept_state.specs.KeptBytes.{short_bytes, list_bytes, whole_items, prefix_bytes, rest_bytes, item_count, value_bytes, items_bytes, expr_bytes}
+use Rattle.kept_state.specs.KeptBytes.{short_bytes, list_bytes, whole_items, prefix_bytes, rest_bytes, value_bytes, expr_bytes}
+use Rattle.kept_state.proofs.SpelledParts.{bytes-list_of}
 use Rattle.delta_keep.specs.declared.kept.Argument.{Argument}
 use Rattle.delta_keep.specs.declared.kept.KeptState.{KeptState, Row_of-Argument, end_of-Argument, more_of-Argument, items-the_row-Argument, items_hidden-the_row-Argument-0}
 use Rattle.delta_keep.specs.declared.kept.KeptState.TheBlock.{hidden-the_row-Argument-0}
@@ -48,23 +50,6 @@ bytes-star_of (p ∷ ps) e = ap₂ (λ n bs. 11 ∷ short_bytes n ++ bs) (whole-
 
 pub star_bytes : (v : Vec Prefix Global) (e : StarEnd) → prefix_bytes (prefix_of (Star v e)) ≡ 11 ∷ list_bytes prefix_bytes (map prefix_of v.items) ++ rest_bytes (end_of e)
 star_bytes v e = ap prefix_bytes (prefix_of-star v e) ∙ bytes-star_of (map prefix_of v.items) e
-
--- the items of a list's value
-pub count-list_of : (vs : List HistValue) → item_count (list_of vs) ≡ length vs
-count-list_of [] = refl
-count-list_of (v ∷ vs) = ap suc (count-list_of vs)
-
-items-list_of : (vs : List HistValue) → items_bytes (list_of vs) ≡ concat (map value_bytes vs)
-items-list_of [] = refl
-items-list_of (v ∷ vs) = ap (λ bs. value_bytes v ++ bs) (items-list_of vs)
-
-bytes-list_of : (vs : List HistValue) → value_bytes (list_of vs) ≡ 5 ∷ list_bytes value_bytes vs
-bytes-list_of [] = refl
-bytes-list_of (v ∷ vs) = ap₂ (λ n bs. 5 ∷ short_bytes n ++ bs) (count-list_of (v ∷ vs)) (items-list_of (v ∷ vs))
-
-pub row_of-list : (m : Count) (k : Row_of-Value m) → row_of k ≡ map hist_value_of (items-the_row-Value m k)
-row_of-list m end_of-Value = refl
-row_of-list m (more_of-Value v k) = cc (row_of-list _ k)
 
 pub list_value_bytes : (v : Vec Value Global) → value_bytes (hist_value_of (ListValue v)) ≡ 5 ∷ list_bytes value_bytes (map hist_value_of v.items)
 list_value_bytes v =

@@ -1,10 +1,9 @@
 -- Going over bytes in pieces: what is awaited first, and then what is awaited behind it.
-use Rattle.std.proofs.Common.{◌≡◌, ◌∙◌, ◌<◌, ◌^◌, ◌+◌, ◌*◌, ℕ, zero, suc, Bool, true, false, List, [], ◌∷◌, ◌++◌, length, ap, refl, sym, arith, append_assoc}
+use Rattle.std.proofs.Common.{◌≡◌, ◌∙◌, ◌<◌, ◌^◌, ◌+◌, ℕ, zero, suc, Bool, true, false, List, [], ◌∷◌, ◌++◌, length, ap, refl, sym, append_assoc}
 use Rattle.std.specs.Prelude.{Option, Some, None, ◌==◌, if◌then◌else◌, option_map}
-use Rattle.std.specs.Int.{byte_at}
-use Rattle.std.proofs.lemmas.Nat.{from_be_bytes-to_be_bytes_4}
 use Rattle.kept_state.specs.KeptBytes.{short_bytes}
 use Rattle.kept_state.specs.KeptForm.{Item, bool_item, type_item, prefix_item, value_item, expr_item, node_item, known_item, held_item, argument_item, Part, exactly, any, form, count, items, list_part, item_parts, forms_of, form_at, settle, after_byte}
+use Rattle.kept_state.proofs.FilledParts.{count_made}
 use Rattle.delta_keep.specs.Walking.{Walk, passed, stuck, walk_on, walk}
 
 infixl 10 ◌>>=◌
@@ -82,9 +81,6 @@ walk_2 ps qs bytes = ap (λ s. walk s bytes) (settle_both ps qs) ∙ walk_before
 counted : (n : ℕ) (item : Item) → settle (count zero n item ∷ []) ≡ settle (items n item ∷ [])
 counted zero item = refl
 counted (suc n) item = refl
-
-count_made : (n : ℕ) → n < 2 ^ 32 → (((0 * 256 + byte_at 3 n) * 256 + byte_at 2 n) * 256 + byte_at 1 n) * 256 + byte_at 0 n ≡ n
-count_made n h = omega (arith, from_be_bytes-to_be_bytes_4 n h)
 
 pub listed : (item : Item) (n : ℕ) (bytes start : List ℕ) → n < 2 ^ 32 → bytes ≡ short_bytes n ++ start → walk (list_part item ∷ []) bytes ≡ walk (settle (items n item ∷ [])) start
 listed item n bytes start h e =

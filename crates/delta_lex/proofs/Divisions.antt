@@ -5,6 +5,7 @@ use Rattle.std.specs.List.{list_all, prefix_len}
 use Rattle.std.specs.Char.{len_utf8}
 use Rattle.std.specs.Str.{encode_utf8_all}
 use Rattle.std.proofs.lemmas.List.{take-append-drop, length-append, length-take-le, nil_from_length}
+use Rattle.std.proofs.lemmas.Bool.{false_from_ne_true, and_parts, both_ways}
 use Rattle.delta_lex.specs.declared.token.Kind.{Kind}
 use Rattle.delta_lex.specs.declared.token.Kind.TheVariants.{Name, Word, Number, Sign}
 use Rattle.delta_lex.specs.declared.piece.Piece.{Piece}
@@ -48,27 +49,20 @@ separator_gap c cs e =
     ap (λ b. if b then Gap 0 else (if starts_name c then Solid Name (prefix_len (goes_on Letters) cs) else (if is_digit c then Solid Number (prefix_len (goes_on Digits) cs)
     else (if c == 47 && begins_with 47 cs then Gap (prefix_len (goes_on Comment) cs) else (if joins c cs then Solid Sign 1 else (if is_sign c then Solid Sign 0 else Stray)))))) e
 
-false_from : (b : Bool) → (b ≡ true → ⊥) → b ≡ false
-false_from true h = absurd (h refl)
-false_from false h = refl
-
 slash_no_name : starts_name 47 ≡ false
-slash_no_name = false_from (starts_name 47) (λ h. no_name 47 (sign_other 47 refl) h)
+slash_no_name = false_from_ne_true (starts_name 47) (λ h. no_name 47 (sign_other 47 refl) h)
 
 comment_gap : (cs : List ℕ) → begins_with 47 cs ≡ true → piece_of 47 cs ≡ Gap (prefix_len (goes_on Comment) cs)
 comment_gap cs e =
     ap (λ b. if b then Solid Name (prefix_len (goes_on Letters) cs) else (if begins_with 47 cs then Gap (prefix_len (goes_on Comment) cs) else (if joins 47 cs then Solid Sign 1 else Solid Sign 0))) slash_no_name
     ∙ ap (λ b. if b then Gap (prefix_len (goes_on Comment) cs) else (if joins 47 cs then Solid Sign 1 else Solid Sign 0)) e
 
-both : (a b : Bool) → (a && b) ≡ true → (a ≡ true) × (b ≡ true)
-both a b h = (grind arith, grind arith)
-
 -- a comment's body is the front without a line feed
 body_len : (body rest : List ℕ) → list_all (goes_on Comment) body ≡ true → EndsComment rest → prefix_len (goes_on Comment) (body ++ rest) ≡ length body
 body_len [] [] all ends = refl
 body_len [] (c ∷ rest) all ends = subst (λ (k : ℕ). prefix_len (goes_on Comment) (k ∷ rest) ≡ 0) (sym ends) refl
 body_len (c ∷ body) rest all ends =
-    let parts = both (goes_on Comment c) (list_all (goes_on Comment) body) all in
+    let parts = and_parts (goes_on Comment c) (list_all (goes_on Comment) body) all in
     ap (λ b. cond b (1 + prefix_len (goes_on Comment) (body ++ rest)) 0) parts.0 ∙ ap (λ k. 1 + k) (body_len body rest parts.1 ends) ∙ one_add (length body)
 
 -- what stands behind the front that passes ends a comment
@@ -97,9 +91,9 @@ slashes_divide at cs tokens d =
 
 comment_divides : (at c : ℕ) (cs : List ℕ) (tokens : List Lexeme) → (c == 47 && begins_with 47 cs) ≡ true
     → Divides (at + len_utf8 c + bytes_of (prefix_len (goes_on Comment) cs) cs) (drop (prefix_len (goes_on Comment) cs) cs) tokens → Divides at (c ∷ cs) tokens
-comment_divides at c [] tokens e d = let none = (both (c == 47) false e).1 in cc
+comment_divides at c [] tokens e d = let none = (and_parts (c == 47) false e).1 in cc
 comment_divides at c (b ∷ cs) tokens e d =
-    let parts = both (c == 47) (b == 47) e in
+    let parts = and_parts (c == 47) (b == 47) e in
     let first : c ≡ 47 = number_is c 47 parts.0 in
     let second : b ≡ 47 = number_is b 47 parts.1 in
     subst (λ (k : ℕ). Divides at (k ∷ b ∷ cs) tokens) (sym first) (subst (λ (k : ℕ). Divides at (47 ∷ k ∷ cs) tokens) (sym second)
@@ -129,7 +123,7 @@ longest_before c n cs kind h k more behind e s =
 
 no_slashes : (c n : ℕ) (cs : List ℕ) (kind : Kind) → piece_of c cs ≡ Solid kind n → (c == 47 && begins_with 47 cs) ≡ true → ⊥
 no_slashes c n cs kind e h =
-    let parts = both (c == 47) (begins_with 47 cs) h in
+    let parts = and_parts (c == 47) (begins_with 47 cs) h in
     let first : c ≡ 47 = number_is c 47 parts.0 in
     let gap : piece_of c cs ≡ Gap (prefix_len (goes_on Comment) cs) = ap (λ (k : ℕ). piece_of k cs) first ∙ comment_gap cs parts.1 in
     solid_no_gap kind n (prefix_len (goes_on Comment) cs) (sym e ∙ gap)
@@ -138,7 +132,7 @@ is_before : (c n : ℕ) (cs : List ℕ) (kind : Kind) → piece_of c cs ≡ Soli
 is_before c n cs kind e h = record {
   shape = h.1.0;
   longest = longest_before c n cs kind h;
-  no_comment = ap (λ (l : List ℕ). begins_comment (c ∷ l)) (take-append-drop n cs) ∙ false_from (c == 47 && begins_with 47 cs) (no_slashes c n cs kind e);
+  no_comment = ap (λ (l : List ℕ). begins_comment (c ∷ l)) (take-append-drop n cs) ∙ false_from_ne_true (c == 47 && begins_with 47 cs) (no_slashes c n cs kind e);
 }
 
 piece_divides : (p : Piece) (at c : ℕ) (cs : List ℕ) (next : ℕ → Result (List Lexeme) LexFault) (tokens : List Lexeme) → piece_of c cs ≡ p → IsLongest p c cs
@@ -163,9 +157,6 @@ read_divides (suc n) at (c ∷ cs) tokens e =
 read_divides zero at (c ∷ cs) tokens e =
     subst (λ (k : ℕ). Divides k (c ∷ cs) tokens) (sym (add-zero at))
     (piece_divides (piece_of c cs) at c cs (λ n. reading n (at + len_utf8 c) cs) tokens refl (longest_is_taken c cs) (λ n ts. read_divides n (at + len_utf8 c) cs ts) e)
-
-never : (b : Bool) → b ≡ false → b ≡ true → ⊥
-never b e h = cc
 
 no_empty : (kind : Kind) → has_shape kind [] ≡ true → ⊥
 no_empty Name h = cc
@@ -203,7 +194,7 @@ no_gap : (c n : ℕ) (kind : Kind) (w rest : List ℕ) → IsGap c (w ++ rest) n
 no_gap c n kind w rest (inl g) h is =
     let size : length (w ++ rest) ≡ length w + length rest = length-append w rest in
     h g.0 kind (length w) (omega arith) (ap (λ (l : List ℕ). has_shape kind (c ∷ l)) (take_front w rest) ∙ is.shape)
-no_gap c n kind w rest (inr g) h is = never (c == 47 && begins_with 47 (w ++ rest)) is.no_comment g.0
+no_gap c n kind w rest (inr g) h is = both_ways (c == 47 && begins_with 47 (w ++ rest)) is.no_comment g.0
 
 word_read : (p : Piece) (at c : ℕ) (kind : Kind) (w rest : List ℕ) (t : Lexeme) (ts : List Lexeme) → piece_of c (w ++ rest) ≡ p → IsLongest p c (w ++ rest)
     → IsTokenBefore kind (c ∷ w) rest → token_of kind at (encode_utf8_all (c ∷ w)) ≡ Ok t → reading 0 (at + length (encode_utf8_all (c ∷ w))) rest ≡ Ok ts

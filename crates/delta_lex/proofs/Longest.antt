@@ -11,6 +11,7 @@ use Rattle.delta_lex.specs.declared.character.Run.TheVariants.{Letters, Digits, 
 use Rattle.delta_lex.specs.Characters.{is_separator, starts_name, is_digit, is_sign, signs, goes_on}
 use Rattle.delta_lex.specs.Pieces.{begins_with, joins, piece_of}
 use Rattle.std.proofs.lemmas.List.Sums.{prefix_len-le-length}
+use Rattle.std.proofs.lemmas.Bool.{and_parts, both_ways}
 use Rattle.delta_lex.proofs.Runs.{one_add}
 use Rattle.delta_lex.specs.Shapes.{has_shape, NoneLonger, StartsNone, IsLongest}
 
@@ -19,16 +20,13 @@ abbrev all_below : (ℕ → Bool) → ℕ → Bool
 all_below p zero = true
 all_below p (suc n) = p n && all_below p n
 
-both_true : (a b : Bool) → (a && b) ≡ true → (a ≡ true) × (b ≡ true)
-both_true a b h = (grind arith, grind arith)
-
 here_or_below : (c n : ℕ) → c < suc n → (c ≡ n) ⊎ (c < n)
 here_or_below c n h = grind arith
 
 below_passes : (p : ℕ → Bool) (n c : ℕ) → all_below p n ≡ true → c < n → p c ≡ true
 below_passes p zero c h low = absurd (omega arith)
 below_passes p (suc n) c h low =
-    let parts = both_true (p n) (all_below p n) h in
+    let parts = and_parts (p n) (all_below p n) h in
     elim (here_or_below c n low) [
       | inl e ↦ subst (λ (k : ℕ). p k ≡ true) (sym e) parts.0
       | inr less ↦ below_passes p n c parts.1 less
@@ -49,7 +47,7 @@ any_step false x c xs e small h rest = rest h
 any_below : (xs : List ℕ) (c : ℕ) → list_all (λ x. nat_lt x 128) xs ≡ true → list_any (λ x. x == c) xs ≡ true → c < 128
 any_below [] c small h = cc
 any_below (x ∷ xs) c small h =
-    let parts = both_true (nat_lt x 128) (list_all (λ y. nat_lt y 128) xs) small in
+    let parts = and_parts (nat_lt x 128) (list_all (λ y. nat_lt y 128) xs) small in
     any_step (x == c) x c xs refl parts.0 h (any_below xs c parts.1)
 
 -- no name starts with a digit, a sign or a separator
@@ -125,10 +123,10 @@ first_of_sign c (d ∷ []) h = joins_sign c (d ∷ []) h
 first_of_sign c (d ∷ e ∷ ds) h = cc
 
 first_of_name : (c : ℕ) (ds : List ℕ) → has_shape Name (c ∷ ds) ≡ true → starts_name c ≡ true
-first_of_name c ds h = (both_true (starts_name c) (list_all (goes_on Letters) ds) h).0
+first_of_name c ds h = (and_parts (starts_name c) (list_all (goes_on Letters) ds) h).0
 
 first_of_number : (c : ℕ) (ds : List ℕ) → has_shape Number (c ∷ ds) ≡ true → is_digit c ≡ true
-first_of_number c ds h = (both_true (is_digit c) (list_all (goes_on Digits) ds) h).0
+first_of_number c ds h = (and_parts (is_digit c) (list_all (goes_on Digits) ds) h).0
 
 -- no token starts where no name, number or sign does
 none_starts : (c : ℕ) (cs : List ℕ) → (starts_name c ≡ true → ⊥) → (is_digit c ≡ true → ⊥) → (is_sign c ≡ true → ⊥) → StartsNone c cs
@@ -154,13 +152,13 @@ run_longest : (p : ℕ → Bool) (cs : List ℕ) (m : ℕ) → m ≤ length cs �
 run_longest p cs zero within h = omega arith
 run_longest p [] (suc m) within h = absurd (omega arith)
 run_longest p (c ∷ cs) (suc m) within h =
-    let parts = both_true (p c) (list_all p (take m cs)) h in
+    let parts = and_parts (p c) (list_all p (take m cs)) h in
     let deeper : m ≤ prefix_len p cs = run_longest p cs m (omega arith) parts.1 in
     subst (λ (b : Bool). suc m ≤ cond b (1 + prefix_len p cs) 0) (sym parts.0) (omega arith)
 
 name_none_longer : (c : ℕ) (cs : List ℕ) → starts_name c ≡ true → NoneLonger Name (prefix_len (goes_on Letters) cs) c cs
 name_none_longer c cs s Name m within h =
-    (refl, run_longest (goes_on Letters) cs m within (both_true (starts_name c) (list_all (goes_on Letters) (take m cs)) h).1)
+    (refl, run_longest (goes_on Letters) cs m within (and_parts (starts_name c) (list_all (goes_on Letters) (take m cs)) h).1)
 name_none_longer c cs s Word m within h = cc
 name_none_longer c cs s Number m within h = absurd (no_name c (digit_other c (first_of_number c (take m cs) h)) s)
 name_none_longer c cs s Sign m within h = absurd (no_name c (sign_other c (first_of_sign c (take m cs) h)) s)
@@ -169,7 +167,7 @@ number_none_longer : (c : ℕ) (cs : List ℕ) → (starts_name c ≡ true → �
 number_none_longer c cs n d Name m within h = absurd (n (first_of_name c (take m cs) h))
 number_none_longer c cs n d Word m within h = cc
 number_none_longer c cs n d Number m within h =
-    (refl, run_longest (goes_on Digits) cs m within (both_true (is_digit c) (list_all (goes_on Digits) (take m cs)) h).1)
+    (refl, run_longest (goes_on Digits) cs m within (and_parts (is_digit c) (list_all (goes_on Digits) (take m cs)) h).1)
 number_none_longer c cs n d Sign m within h = absurd (digit_no_sign c d (first_of_sign c (take m cs) h))
 
 none_of_three : (a b c : Bool) → ((a && false) || ((b && false) || (c && false))) ≡ true → ⊥
@@ -226,9 +224,6 @@ pair_longest c (e ∷ cs) n d j = (omega arith, (j, pair_none_longer c (e ∷ cs
 sign_longest : (c : ℕ) (cs : List ℕ) → (starts_name c ≡ true → ⊥) → (is_digit c ≡ true → ⊥) → joins c cs ≡ false → is_sign c ≡ true → IsLongest (Solid Sign 0) c cs
 sign_longest c cs n d j g = (omega arith, (g, sign_none_longer c cs n d j))
 
-never : (b : Bool) → b ≡ false → b ≡ true → ⊥
-never b e h = cc
-
 -- the tests in the order in which they are made
 chosen : (c : ℕ) (cs : List ℕ) (s n d m j g : Bool) → is_separator c ≡ s → starts_name c ≡ n → is_digit c ≡ d
     → joins c cs ≡ j → is_sign c ≡ g
@@ -236,11 +231,11 @@ chosen : (c : ℕ) (cs : List ℕ) (s n d m j g : Bool) → is_separator c ≡ s
     else (if m then Gap (prefix_len (goes_on Comment) cs) else (if j then Solid Sign 1 else (if g then Solid Sign 0 else Stray)))))) c cs
 chosen c cs true n d m j g es en ed ej eg = λ h. none_starts c cs (no_name c (separator_other c h)) (separator_no_digit c h) (separator_no_sign c h)
 chosen c cs false true d m j g es en ed ej eg = name_longest c cs en
-chosen c cs false false true m j g es en ed ej eg = number_longest c cs (never _ en) ed
-chosen c cs false false false true j g es en ed ej eg = λ h. absurd (never _ es h)
-chosen c cs false false false false true g es en ed ej eg = pair_longest c cs (never _ en) (never _ ed) ej
-chosen c cs false false false false false true es en ed ej eg = sign_longest c cs (never _ en) (never _ ed) ej eg
-chosen c cs false false false false false false es en ed ej eg = none_starts c cs (never _ en) (never _ ed) (never _ eg)
+chosen c cs false false true m j g es en ed ej eg = number_longest c cs (both_ways _ en) ed
+chosen c cs false false false true j g es en ed ej eg = λ h. absurd (both_ways _ es h)
+chosen c cs false false false false true g es en ed ej eg = pair_longest c cs (both_ways _ en) (both_ways _ ed) ej
+chosen c cs false false false false false true es en ed ej eg = sign_longest c cs (both_ways _ en) (both_ways _ ed) ej eg
+chosen c cs false false false false false false es en ed ej eg = none_starts c cs (both_ways _ en) (both_ways _ ed) (both_ways _ eg)
 
 pub longest_is_taken : (c : ℕ) (cs : List ℕ) → IsLongest (piece_of c cs) c cs
 longest_is_taken c cs = chosen c cs (is_separator c) (starts_name c) (is_digit c) (c == 47 && begins_with 47 cs) (joins c cs) (is_sign c) refl refl refl refl refl

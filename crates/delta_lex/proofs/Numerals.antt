@@ -10,11 +10,11 @@ use Rattle.std.proofs.lemmas.Str.Parse.{IsNumeralModel, numerals_by_value, parse
 use Rattle.std.proofs.lemmas.Bool.Decides.{nat_tests}
 use Rattle.delta_lex.specs.Numbers.{number_of}
 
-own : IsNumeralModel (λ ds. list_all is_ascii_digit ds ≡ true) (digits_value 10)
+pub own : IsNumeralModel (λ ds. list_all is_ascii_digit ds ≡ true) (digits_value 10)
 own = numerals_by_value _ (search rules)
 
 -- the tests of a number of so many digits with this value
-fits : (len value : ℕ) → 0 < len → value < 9223372036854775808 → (nat_lt 0 len && nat_le value 9223372036854775807) ≡ true
+pub fits : (len value : ℕ) → 0 < len → value < 9223372036854775808 → (nat_lt 0 len && nat_le value 9223372036854775807) ≡ true
 fits len value some small = grind (arith, nat_tests)
 
 unfit : (len value : ℕ) → ((0 < len) × (value < 9223372036854775808) → ⊥) → (nat_lt 0 len && nat_le value 9223372036854775807) ≡ false

@@ -5,7 +5,7 @@ use Rattle.std.specs.Str.{encode_utf8_all}
 use Rattle.std.specs.List.{prefix_len}
 use Rattle.std.proofs.lemmas.List.{at_drop_more, length-append}
 use Rattle.std.proofs.lemmas.Str.{length-encode, len_utf8_ascii}
-use Rattle.std.proofs.lemmas.Bool.Decides.{nat_tests}
+use Rattle.std.proofs.lemmas.Bool.{eqb-true}
 use Rattle.delta_lex.specs.Pieces.{begins_with, joins}
 use Rattle.delta_lex.specs.Measures.{run_bytes, bytes_of}
 
@@ -44,14 +44,11 @@ pub run_bytes_le : (p : ℕ → Bool) (cs : List ℕ) → run_bytes p cs ≤ len
 run_bytes_le p [] = omega arith
 run_bytes_le p (c ∷ cs) = le_step (p c) (run_bytes p cs) c _ (length (encode_utf8_all cs)) (length_cons c cs) (run_bytes_le p cs)
 
-same_number : (d k : ℕ) → eqb d k ≡ true → d ≡ k
-same_number d k h = grind (arith, nat_tests)
-
 -- an ASCII character at the front is one byte
 begins_bytes : (k : ℕ) (cs : List ℕ) → k < 128 → begins_with k cs ≡ true → bytes_of 1 cs ≡ 1
 begins_bytes k [] small h = cc
 begins_bytes k (d ∷ cs) small h =
-    let same : d ≡ k = same_number d k h in
+    let same : d ≡ k = eqb-true d k h in
     let one : len_utf8 d ≡ 1 = len_utf8_ascii d (omega arith) in
     bytes_of_cons 0 d cs ∙ ap (λ n. n + 0) one
 

@@ -1,7 +1,7 @@
 -- The text of the load's program is the text of its tree.
 use Rattle.std.proofs.Common.{◌≡◌, ℕ, zero, suc, ◌<◌, Bool, true, false, ◌&&◌, not, nat_lt, nat_le, [], ◌∷◌, length, get_or, refl, ap, sym, ◌∙◌, arith}
 use Rattle.std.specs.Str.{IsAscii}
-use Rattle.std.proofs.lemmas.Bool.{leb-true, ltb-true, ltb-false}
+use Rattle.std.proofs.lemmas.Bool.{leb-true, ltb-true, ltb-false, not-true, and_parts}
 use Rattle.std.proofs.lemmas.Str.{chars-IsAscii, IsUtf8-from_ascii}
 use Rattle.std.proofs.lemmas.Str.Ascii.{IsAscii-from_reads}
 use Rattle.grammar.proofs.Exact.{read_whole}
@@ -23,24 +23,15 @@ abbrev all_below : (ℕ → Bool) → ℕ → Bool
 all_below test zero = true
 all_below test (suc n) = test n && all_below test n
 
-both : (a b : Bool) → (a && b) ≡ true → (a ≡ true) × (b ≡ true)
-both true true h = (refl, refl)
-both true false h = absurd (let no : false ≡ true = h in cc)
-both false b h = absurd (let no : false ≡ true = h in cc)
-
 below : (test : ℕ → Bool) (n : ℕ) → all_below test n ≡ true → (k : ℕ) → k < n → test k ≡ true
 below test zero h k small = absurd (omega (arith, small))
-below test (suc n) h k small = by_place (nat_lt k n) refl (λ low. below test n (both (test n) (all_below test n) h).1 k low)
+below test (suc n) h k small = by_place (nat_lt k n) refl (λ low. below test n (and_parts (test n) (all_below test n) h).1 k low)
   where
     by_place : (b : Bool) → nat_lt k n ≡ b → (k < n → test k ≡ true) → test k ≡ true
     by_place true low rest = rest (ltb-true k n low)
     by_place false high rest =
         let last : n ≡ k = (let behind = ltb-false k n high in omega (arith, behind, small)) in
-        ap test (sym last) ∙ (both (test n) (all_below test n) h).0
-
-isnt : (b : Bool) → not b ≡ true → b ≡ false
-isnt true h = absurd (let no : false ≡ true = h in cc)
-isnt false h = refl
+        ap test (sym last) ∙ (and_parts (test n) (all_below test n) h).0
 
 text_is_ascii : IsAscii load_text
 text_is_ascii = IsAscii-from_reads load_text 209 (omega arith) (λ k small. ltb-true (get_or load_text k 0) 128 (below (λ n. nat_lt (get_or load_text n 0) 128) 209 refl k small))
@@ -67,8 +58,8 @@ is_shallow k small = leb-true (marks_before load_plain k) 64 (below (λ n. nat_l
 
 are_named : AreNamed load_plain (length load_plain)
 are_named = record {
-  once = λ k small. isnt (is_twice load_plain k) (below (λ n. not (is_twice load_plain n)) 81 refl k small);
-  few = λ k small. isnt (is_many load_plain k) (below (λ n. not (is_many load_plain n)) 81 refl k small);
+  once = λ k small. not-true (is_twice load_plain k) (below (λ n. not (is_twice load_plain n)) 81 refl k small);
+  few = λ k small. not-true (is_many load_plain k) (below (λ n. not (is_many load_plain n)) 81 refl k small);
 }
 
 pub is_text : IsTextOf load_text load_tree

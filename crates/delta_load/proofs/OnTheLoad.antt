@@ -25,7 +25,8 @@ use Rattle.delta_load.specs.Counting.{totals_of, IsLong}
 use Rattle.delta_load.specs.Standing.{IsOnLoad}
 use Rattle.delta_load.specs.Stopping.{IsMet}
 use Rattle.delta_load.proofs.Counts.{long-append}
-use Rattle.delta_load.proofs.Turns.{turn, parted}
+use Rattle.delta_load.proofs.Turns.{parted}
+use Rattle.delta_state.proofs.Counts.{take-next}
 
 -- what is put out on a word, and then on another behind it
 spoken_after-append : (P : OneShot) (before v w : List StreamEvent) → spoken_after P before (v ++ w) ≡ spoken_after P before v ++ spoken_after P (before ++ v) w
@@ -58,7 +59,7 @@ module _ (start items i : ℕ) (x : StreamEvent) (is : slice_get (load start ite
 
   -- the load up to this event, and around it
   pub load_turn : take (i + 1) (load start items) ≡ take i (load start items) ++ x ∷ []
-  load_turn = turn (load start items) i x within read
+  load_turn = take-next (load start items) i x within read
 
   pub load_parted : load start items ≡ take i (load start items) ++ x ∷ drop (i + 1) (load start items)
   load_parted = parted (load start items) i x within read

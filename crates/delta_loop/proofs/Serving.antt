@@ -23,7 +23,7 @@ use Rattle.delta_loop.proofs.Findings.{due_all, finding_all}
 use Rattle.delta_loop.proofs.Lefts.{loses_more, read_all}
 use Rattle.delta_loop.proofs.Limits.{within_limit}
 
-not_empty : (xs : List ℕ) → 0 < length xs → is_empty xs ≡ false
+pub not_empty : (xs : List ℕ) → 0 < length xs → is_empty xs ≡ false
 not_empty [] some = absurd (let no_byte : ⊥ = omega arith in no_byte)
 not_empty (x ∷ xs) some = refl
 

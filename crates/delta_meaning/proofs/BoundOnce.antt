@@ -2,7 +2,7 @@
 use Rattle.std.proofs.Common.{◌≡◌, ◌≢◌, ℕ, zero, suc, ◌+◌, ◌≤◌, ◌<◌, ◌⊎◌, inl, inr, Bool, true, false, true≢false, not, ◌&&◌, ◌||◌, if◌then◌else◌, List, [], ◌∷◌, ◌++◌, length, map, eqb, Some, None, refl, sym, ap, ap₂, ◌∙◌, subst, arith, length-append, append-nil}
 use Rattle.std.specs.List.{All}
 use Rattle.std.proofs.lemmas.List.{length-map}
-use Rattle.std.proofs.lemmas.Bool.{eqb-true, eq-eqb, ne_eqb}
+use Rattle.std.proofs.lemmas.Bool.{eqb-true, eq-eqb, ne_eqb, cases_lt}
 use Rattle.stream_type.specs.StreamType.{StreamType}
 use Rattle.bunch.specs.Names.{holds}
 use Rattle.bunch.specs.BunchTree.{leaf_names}
@@ -78,18 +78,9 @@ record Takes (n : ℕ) (new : List Origin) (xs : List ℕ) : Type 0 where
 takes_none : (n : ℕ) → Takes n [] []
 takes_none n = record { once = λ k. omega arith; low = λ k l. refl; high = λ k l. refl }
 
-below_or : (k m : ℕ) → (k < m) ⊎ (m ≤ k)
-below_or k zero = inr (omega arith)
-below_or zero (suc m) = inl (omega arith)
-below_or (suc k) (suc m) = go (below_or k m)
-  where
-    go : (k < m) ⊎ (m ≤ k) → (suc k < suc m) ⊎ (suc m ≤ suc k)
-    go (inl l) = inl (omega (arith, l))
-    go (inr l) = inr (omega (arith, l))
-
 takes_new : {n : ℕ} (o : Origin) {new : List Origin} {xs : List ℕ} → Takes (suc n) new xs → Takes n (o ∷ new) (n ∷ xs)
 takes_new {n = n} o {new = new} {xs = xs} t = record {
-  once = λ k. once k (below_or k (suc n));
+  once = λ k. once k (cases_lt k (suc n));
   low = λ k l. let e = one_if-other n k (λ q. absurd (omega (arith, q, l))) in let u = t.low k (omega (arith, l)) in omega (arith, e, u);
   high = λ k l. let e = one_if-other n k (λ q. absurd (omega (arith, q, l))) in let u = t.high k (omega (arith, l)) in omega (arith, e, u);
 }
@@ -100,7 +91,7 @@ takes_new {n = n} o {new = new} {xs = xs} t = record {
 
 takes_append : {n : ℕ} {new : List Origin} {later : List Origin} {xs ys : List ℕ} → Takes n new xs → Takes (n + length new) later ys → Takes n (new ++ later) (xs ++ ys)
 takes_append {n = n} {new = new} {later = later} {xs = xs} {ys = ys} s t = record {
-  once = λ k. let a = times-append k xs ys in once k a (below_or k (n + length new));
+  once = λ k. let a = times-append k xs ys in once k a (cases_lt k (n + length new));
   low = λ k l. let a = times-append k xs ys in let u = s.low k l in let v = t.low k (omega (arith, l)) in omega (arith, a, u, v);
   high = λ k l. let a = times-append k xs ys in let e = length-append new later in let u = s.high k (omega (arith, l, e)) in let v = t.high k (omega (arith, l, e)) in omega (arith, a, u, v);
 }
@@ -229,7 +220,7 @@ after_names xs n {new = new} {ys = ys} t = subst (λ k. Takes (n + k) new ys) (s
 
 -- a body binds each name at most once
 once_of : {n : ℕ} {new : List Origin} {b : CoreBody} (texts : ℕ) → Takes n new (names_bound_by b) → n + length new ≤ texts → IsBoundOnce texts b
-once_of {n = n} {new = new} {b = b} texts t le = record { is_once = distinct_of (names_bound_by b) t.once; has_text = λ x h. go x h (below_or x (n + length new)) }
+once_of {n = n} {new = new} {b = b} texts t le = record { is_once = distinct_of (names_bound_by b) t.once; has_text = λ x h. go x h (cases_lt x (n + length new)) }
   where
     go : (x : ℕ) → holds x (names_bound_by b) ≡ true → (x < n + length new) ⊎ (n + length new ≤ x) → x < texts
     go x h (inl l) = omega (arith, l, le)

@@ -1,11 +1,11 @@
 -- The free names of a typed term are stream names, so what follows a wait doesn't read its name as one.
 use Rattle.std.proofs.Common.{◌≡◌, ◌≢◌, ◌⊎◌, inl, inr, ℕ, Bool, true, false, true≢false, ◌||◌, List, [], ◌∷◌, ◌++◌, is_some, None, eqb, if◌then◌else◌, refl, sym, ap, ◌∙◌}
-use Rattle.std.proofs.lemmas.Bool.{eqb-true, eq-eqb}
+use Rattle.std.proofs.lemmas.Bool.{eqb-true, eq-eqb, or_right, false_from_ne_true}
 use Rattle.bunch.specs.Names.{put, holds}
 use Rattle.core_term.specs.CoreTerm.{CoreTerm, CoreTerms, var_term, eps_term, unit_term, nil_term, past_term, par_term, cat_term, cons_term, inl_term, inr_term, let_term, let_par_term, let_cat_term, case_sum_term, case_star_term, wait_term, call_term, no_terms, term_before}
 use Rattle.core_term.specs.FreeNames.{without, free_names, free_in_terms}
 use Rattle.core_term.specs.Typing.{waited}
-use Rattle.core_term.proofs.Sides.{or_second, holds-split, put-same, put-other}
+use Rattle.core_term.proofs.Sides.{holds-split, put-same, put-other}
 use Rattle.delta_meaning.specs.Laws.{WaitedIsUnread}
 use Rattle.delta_meaning.proofs.StreamNames.{ReadsStreams, ReadStreams, typed_reads}
 
@@ -19,7 +19,7 @@ holds-without y x [] h = absurd (true≢false (sym h))
 holds-without y x (z ∷ zs) h = go (holds-without y x zs) (eqb z x) refl h
   where
     later : IsOther y x zs → IsOther y x (z ∷ zs)
-    later o = record { other = o.other; there = or_second (eqb y z) (holds y zs) o.there }
+    later o = record { other = o.other; there = or_right (eqb y z) (holds y zs) o.there }
 
     first : (holds y (without x zs) ≡ true → IsOther y x zs) → eqb z x ≡ false → (c : Bool) → eqb y z ≡ c → (c || holds y (without x zs)) ≡ true → IsOther y x (z ∷ zs)
     first next e true f h = record {
@@ -91,12 +91,8 @@ mutual
   free_are_all_streams no_terms s = no_names
   free_are_all_streams (term_before e es) s = both_lists (free_are_streams e s.0) (free_are_all_streams es s.1)
 
-not_true : (b : Bool) → (b ≡ true → ⊥) → b ≡ false
-not_true true h = absurd (h refl)
-not_true false h = refl
-
 pub waited_is_unread : WaitedIsUnread
 waited_is_unread funs counts c x t a r h =
     let streams : ℕ → Bool = λ y. is_some (put x None c.types y) in
     let reads = typed_reads funs counts a (waited x c) r {streams = streams} (record { is_stream = λ y q. q }) h.3 in
-    not_true (holds x (free_names a)) (λ there. true≢false (sym ((free_are_streams a reads).is_stream x there) ∙ ap is_some (put-same x None c.types)))
+    false_from_ne_true (holds x (free_names a)) (λ there. true≢false (sym ((free_are_streams a reads).is_stream x there) ∙ ap is_some (put-same x None c.types)))

@@ -3,7 +3,7 @@
 use Rattle.std.proofs.Common.{◌≡◌, ℕ, suc, ◌+◌, ◌≤◌, max, Bool, true, false, ◌||◌, List, [], ◌∷◌, ◌++◌, length, refl, sym, ap, ap₂, ◌∙◌, arith}
 use mathlib.Core.Path.{fun_ext}
 use Rattle.stream_type.specs.StreamType.{StreamType, eps, one, sum}
-use Rattle.stream_prefix.specs.StreamPrefix.{StreamPrefix, eps_emp, one_full, in_left, in_right, star_emp, star_done, star_first, star_rest, is_maximal}
+use Rattle.stream_prefix.specs.StreamPrefix.{StreamPrefix, eps_emp, one_full, in_left, in_right, is_maximal}
 use Rattle.bunch.specs.Names.{put}
 use Rattle.hist_value.specs.HistExpr.{HistExpr, variable, literal, unit_expr, reckoned, pair_expr, first_expr, second_expr, left_expr, right_expr, choice, nil_expr, cons_expr, fold_expr}
 use Rattle.hist_value.specs.HistValue.{HistValue, pair_of, left_of, right_of}
@@ -16,6 +16,7 @@ use Rattle.core_term.specs.Parts.{par_left, par_right, cat_first, cat_second, su
 use Rattle.core_term.specs.Run.{Run, Runs, deeper, quiet, relabel, par_run, cat_run, let_run, sum_run, star_run, wait_run, run_before, call_run}
 use Rattle.core_term.specs.Meaning.{Past, Calls, values, run_with, run_all}
 use Rattle.core_term.proofs.Sides.{put-same}
+use Rattle.core_term.proofs.FreeRuns.{star_run-same}
 use Rattle.delta_meaning.specs.TypeNames.{TypeNames, type_meant}
 use Rattle.delta_meaning.specs.SourceBody.{SourceBody}
 use Rattle.delta_meaning.specs.SourceMeaning.{is_name, is_name_head, head_type, typed_run, if_run, written_values, source_run, head_run, arguments_run}
@@ -105,12 +106,6 @@ sum_run-same r _ a c b d ea eb = refl
 -- cases on equal prefixes with equal branches
 pub sum_run-at : (r : StreamType) {p q : StreamPrefix} (a c b d : StreamPrefix → Run) → p ≡ q → ((q : StreamPrefix) → a q ≡ c q) → ((q : StreamPrefix) → b q ≡ d q) → sum_run r p a b ≡ sum_run r q c d
 sum_run-at r {q = q} a c b d e ea eb = ap (λ p. sum_run r p a b) e ∙ sum_run-same r q a c b d ea eb
-
-star_run-same : (r : StreamType) (p : StreamPrefix) (a c : Run) (b d : StreamPrefix → StreamPrefix → Run) → a ≡ c → ((p q : StreamPrefix) → b p q ≡ d p q) → star_run r p a b ≡ star_run r p c d
-star_run-same r star_done a c b d ea eb = ea
-star_run-same r (star_first p) a c b d ea eb = eb p star_emp
-star_run-same r (star_rest p q) a c b d ea eb = eb p q
-star_run-same r _ a c b d ea eb = refl
 
 pub star_run-at : (r : StreamType) {p q : StreamPrefix} (a c : Run) (b d : StreamPrefix → StreamPrefix → Run) → p ≡ q → a ≡ c → ((p q : StreamPrefix) → b p q ≡ d p q) → star_run r p a b ≡ star_run r q c d
 star_run-at r {q = q} a c b d e ea eb = ap (λ p. star_run r p a b) e ∙ star_run-same r q a c b d ea eb

@@ -1,7 +1,8 @@
 -- What is wrong first in a list of tokens.
-use Rattle.std.proofs.Common.{◌≡◌, ◌∙◌, ℕ, zero, suc, ◌+◌, ◌-◌, ◌<◌, ◌≤◌, ◌⊎◌, inl, inr, true, false, List, [], ◌++◌, refl, sym, ap, length, take, drop, arith, append-nil, append_assoc, subst, ⊎_elim}
+use Rattle.std.proofs.Common.{◌≡◌, ◌∙◌, ℕ, ◌+◌, ◌-◌, ◌<◌, ◌≤◌, ◌⊎◌, inl, inr, true, false, List, [], ◌++◌, refl, sym, ap, length, take, drop, arith, append-nil, append_assoc, subst, ⊎_elim}
 use Rattle.std.proofs.Math.Seq.{take-length}
 use Rattle.std.proofs.lemmas.List.{take-append-drop, take-take, take-map, length-map, length-take-le}
+use Rattle.std.proofs.lemmas.Bool.{cases_lt}
 use Rattle.grammar.specs.Sentences.{IsSentence}
 use Rattle.delta_tree.specs.SyntaxTree.{WrittenFunction, Declaration}
 use Rattle.delta_parse.specs.declared.plain.Plain.{Plain}
@@ -17,13 +18,8 @@ use Rattle.delta_parse.specs.Bindings.{is_twice, is_many, AreNamed, IsFaultAt}
 use Rattle.delta_parse.specs.Causes.{Wrong, too_deep, unexpected, bound_twice, too_many, no_main, order_of, IsWrong, IsFirstWrong, IsComplaint, IsCut, name_complaint}
 use Rattle.delta_parse.proofs.BindingSteps.{named_shorter}
 
-pub below_or : (a b : ℕ) → (a < b) ⊎ (b ≤ a)
-below_or a zero = inr (omega arith)
-below_or zero (suc b) = inl (omega arith)
-below_or (suc a) (suc b) = ⊎_elim (λ h. inl (omega (arith, h))) (λ h. inr (omega (arith, h))) (below_or a b)
-
 later : (n m a b : ℕ) → n ≤ m → a ≤ b → (n < m) ⊎ ((n ≡ m) × (a ≤ b))
-later n m a b h k = ⊎_elim (λ w. inl w) (λ w. inr (omega arith, k)) (below_or n m)
+later n m a b h k = ⊎_elim (λ w. inl w) (λ w. inr (omega arith, k)) (cases_lt n m)
 
 take-of-take : {A : Type 0} (m n : ℕ) (ts : List A) → m ≤ n → take m (take n ts) ≡ take m ts
 take-of-take m n ts h = take-take m n ts h
@@ -45,16 +41,16 @@ begins_whole ts ds m d =
     record { begun = ([], (ds, m), subst P (sym (append-nil ts)) d.derived) }
 
 unexpected_after : (ts : List Tok) (n m : ℕ) → n ≤ length ts → BeginsProgram (take n ts) → IsUnexpected ts m → n ≤ m
-unexpected_after ts n m h b u = ⊎_elim (λ w. absurd (u.fails (omega arith) (begins_shorter ts (m + 1) n (omega arith) b))) (λ w. w) (below_or m n)
+unexpected_after ts n m h b u = ⊎_elim (λ w. absurd (u.fails (omega arith) (begins_shorter ts (m + 1) n (omega arith) b))) (λ w. w) (cases_lt m n)
 
 deep_after : (ts : List Tok) (n m : ℕ) → IsShallow ts n → 64 < marks_before ts m → n ≤ m
-deep_after ts n m s d = ⊎_elim (λ w. absurd (let k : marks_before ts m ≤ 64 = s m w in omega arith)) (λ w. w) (below_or m n)
+deep_after ts n m s d = ⊎_elim (λ w. absurd (let k : marks_before ts m ≤ 64 = s m w in omega arith)) (λ w. w) (cases_lt m n)
 
 once_after : (ts : List Tok) (n m : ℕ) → AreNamed ts n → is_twice ts m ≡ true → n ≤ m
-once_after ts n m a w = ⊎_elim (λ h. absurd (let k : is_twice ts m ≡ false = a.once m h in cc)) (λ h. h) (below_or m n)
+once_after ts n m a w = ⊎_elim (λ h. absurd (let k : is_twice ts m ≡ false = a.once m h in cc)) (λ h. h) (cases_lt m n)
 
 few_after : (ts : List Tok) (n m : ℕ) → AreNamed ts n → is_many ts m ≡ true → n ≤ m
-few_after ts n m a w = ⊎_elim (λ h. absurd (let k : is_many ts m ≡ false = a.few m h in cc)) (λ h. h) (below_or m n)
+few_after ts n m a w = ⊎_elim (λ h. absurd (let k : is_many ts m ≡ false = a.few m h in cc)) (λ h. h) (cases_lt m n)
 
 -- a token that is too deep
 pub deep_first : (ts : List Tok) (n : ℕ) → IsFirstDeep ts n → AreNamed ts n → n < length ts → BeginsProgram (take n ts) → IsFirstWrong ts n too_deep
@@ -72,7 +68,7 @@ pub unexpected_first : (ts : List Tok) (n : ℕ) → IsUnexpected ts n → Begin
 unexpected_first ts n u b s here a = record { wrong = u; first = others }
   where
     strictly : (m : ℕ) → n ≤ m → m < length ts → 64 < marks_before ts m → (n < m) ⊎ ((n ≡ m) × (2 ≤ 1))
-    strictly m h w d = ⊎_elim (λ k. inl k) (λ k. absurd (let e : m ≡ n = omega arith in let g : marks_before ts n ≤ 64 = here (omega arith) in let f : marks_before ts m ≡ marks_before ts n = ap (marks_before ts) e in omega arith)) (below_or n m)
+    strictly m h w d = ⊎_elim (λ k. inl k) (λ k. absurd (let e : m ≡ n = omega arith in let g : marks_before ts n ≤ 64 = here (omega arith) in let f : marks_before ts m ≡ marks_before ts n = ap (marks_before ts) e in omega arith)) (cases_lt n m)
 
     others : (m : ℕ) (v : Wrong) → IsWrong ts m v → (n < m) ⊎ ((n ≡ m) × (order_of unexpected ≤ order_of v))
     others m too_deep w = strictly m (deep_after ts n m s w.1) w.0 w.1
@@ -97,7 +93,7 @@ many_first : (ts : List Tok) (n d : ℕ) → IsFirstDeep ts d → n < d → IsFa
 many_first ts n d f h a b = record { wrong = (a.within, a.is.1); first = others }
   where
     strictly : (m : ℕ) → n ≤ m → is_twice ts m ≡ true → (n < m) ⊎ ((n ≡ m) × (4 ≤ 3))
-    strictly m k w = ⊎_elim (λ l. inl l) (λ l. absurd (let e : m ≡ n = omega arith in let g : is_twice ts m ≡ is_twice ts n = ap (is_twice ts) e in let z = a.is.0 in cc)) (below_or n m)
+    strictly m k w = ⊎_elim (λ l. inl l) (λ l. absurd (let e : m ≡ n = omega arith in let g : is_twice ts m ≡ is_twice ts n = ap (is_twice ts) e in let z = a.is.0 in cc)) (cases_lt n m)
 
     others : (m : ℕ) (v : Wrong) → IsWrong ts m v → (n < m) ⊎ ((n ≡ m) × (order_of too_many ≤ order_of v))
     others m too_deep w = inl (let k = deep_after ts d m f.shallow w.1 in omega arith)

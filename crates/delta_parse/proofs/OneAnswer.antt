@@ -1,6 +1,7 @@
 -- Tokens have one answer: one tree, or one first fault.
 use Rattle.std.proofs.Common.{◌≡◌, ◌∙◌, ℕ, zero, suc, ◌+◌, ◌<◌, ◌≤◌, ◌⊎◌, inl, inr, false, List, refl, sym, ap, length, arith, ⊎_elim}
 use Rattle.std.proofs.Math.Seq.{take-length}
+use Rattle.std.proofs.lemmas.Bool.{cases_lt}
 use Rattle.delta_tree.specs.SyntaxTree.{WrittenFunction, Declaration}
 use Rattle.delta_parse.specs.Terminals.{Tok}
 use Rattle.delta_parse.specs.Plain.{grammar_tokens, names_in}
@@ -11,7 +12,7 @@ use Rattle.delta_parse.specs.Places.{place_at}
 use Rattle.delta_parse.specs.Causes.{Wrong, too_deep, unexpected, bound_twice, too_many, no_main, order_of, IsWrong}
 use Rattle.delta_parse.specs.Laws.{TreeIsOne, CauseIsOne, ProgramsHaveNoCause}
 use Rattle.delta_parse.proofs.Programs.{one_program, declarations_no_program}
-use Rattle.delta_parse.proofs.Firsts.{begins_whole, begins_shorter, below_or}
+use Rattle.delta_parse.proofs.Firsts.{begins_whole, begins_shorter}
 
 -- the numbers of the order tell what is wrong
 wrong_at : ℕ → Wrong
@@ -52,7 +53,7 @@ nothing_wrong : (ts : List Tok) (ds : List Declaration) (m : WrittenFunction) �
 nothing_wrong ts ds m p s a n too_deep w = (let k : marks_before ts n ≤ 64 = s n w.0 in let d = w.1 in absurd (omega arith))
 nothing_wrong ts ds m p s a n unexpected w = ⊎_elim
     (λ h. w.fails h (begins_shorter ts (n + 1) (length ts) (omega arith) (rw (take-length ts) (begins_whole ts ds m p))))
-    (λ h. w.no_program (let k = w.within in omega arith) ds m p) (below_or n (length ts))
+    (λ h. w.no_program (let k = w.within in omega arith) ds m p) (cases_lt n (length ts))
 nothing_wrong ts ds m p s a n bound_twice w = (let k : is_twice ts n ≡ false = a.once n w.0 in let z = w.1 in cc)
 nothing_wrong ts ds m p s a n too_many w = (let k : is_many ts n ≡ false = a.few n w.0 in let z = w.1 in cc)
 nothing_wrong ts ds m p s a n no_main w = declarations_no_program ts ds m w.1 p

@@ -1,7 +1,8 @@
 -- The grammar's tables are right, and one token decides each of its choices.
 use Rattle.std.proofs.Common.{◌≡◌, Bool, true, false, ◌||◌, ◌&&◌, refl, nat_lt}
+use Rattle.std.proofs.lemmas.Bool.{and_parts}
 use Rattle.grammar.specs.Reading.{nullable, first}
-use Rattle.grammar.proofs.Tests.{and_true, implied}
+use Rattle.grammar.proofs.Tests.{implied}
 use Rattle.grammar.proofs.Checked.{left_below, next, is_decided}
 use Rattle.delta_parse.specs.declared.terminal.Terminal.{Terminal}
 use Rattle.delta_parse.specs.declared.terminal.Terminal.TheVariants.{FunWord, MainWord, TypeWord, LetWord, InWord, CaseWord, OfWord, InlWord, InrWord, NilWord, WaitWord, EpsWord, IfWord, ThenWord, ElseWord, FoldWord, FromWord, WithWord, IntWord, FstWord, SndWord, Open, Close, OpenBrace, CloseBrace, Comma, Semicolon, Colon, Colons, Equals, Arrow, Bar, Bars, Plus, Minus, Times, Slash, Less, Dot, NameToken, OneToken, NumberToken, Other}
@@ -16,48 +17,48 @@ every p = p FunWord && (p MainWord && (p TypeWord && (p LetWord && (p InWord && 
 
 pub every_is : (p : Terminal → Bool) → every p ≡ true → (t : Terminal) → p t ≡ true
 every_is p e t =
-    let a0 = and_true _ _ e in
-    let a1 = and_true _ _ a0.1 in
-    let a2 = and_true _ _ a1.1 in
-    let a3 = and_true _ _ a2.1 in
-    let a4 = and_true _ _ a3.1 in
-    let a5 = and_true _ _ a4.1 in
-    let a6 = and_true _ _ a5.1 in
-    let a7 = and_true _ _ a6.1 in
-    let a8 = and_true _ _ a7.1 in
-    let a9 = and_true _ _ a8.1 in
-    let a10 = and_true _ _ a9.1 in
-    let a11 = and_true _ _ a10.1 in
-    let a12 = and_true _ _ a11.1 in
-    let a13 = and_true _ _ a12.1 in
-    let a14 = and_true _ _ a13.1 in
-    let a15 = and_true _ _ a14.1 in
-    let a16 = and_true _ _ a15.1 in
-    let a17 = and_true _ _ a16.1 in
-    let a18 = and_true _ _ a17.1 in
-    let a19 = and_true _ _ a18.1 in
-    let a20 = and_true _ _ a19.1 in
-    let a21 = and_true _ _ a20.1 in
-    let a22 = and_true _ _ a21.1 in
-    let a23 = and_true _ _ a22.1 in
-    let a24 = and_true _ _ a23.1 in
-    let a25 = and_true _ _ a24.1 in
-    let a26 = and_true _ _ a25.1 in
-    let a27 = and_true _ _ a26.1 in
-    let a28 = and_true _ _ a27.1 in
-    let a29 = and_true _ _ a28.1 in
-    let a30 = and_true _ _ a29.1 in
-    let a31 = and_true _ _ a30.1 in
-    let a32 = and_true _ _ a31.1 in
-    let a33 = and_true _ _ a32.1 in
-    let a34 = and_true _ _ a33.1 in
-    let a35 = and_true _ _ a34.1 in
-    let a36 = and_true _ _ a35.1 in
-    let a37 = and_true _ _ a36.1 in
-    let a38 = and_true _ _ a37.1 in
-    let a39 = and_true _ _ a38.1 in
-    let a40 = and_true _ _ a39.1 in
-    let a41 = and_true _ _ a40.1 in
+    let a0 = and_parts _ _ e in
+    let a1 = and_parts _ _ a0.1 in
+    let a2 = and_parts _ _ a1.1 in
+    let a3 = and_parts _ _ a2.1 in
+    let a4 = and_parts _ _ a3.1 in
+    let a5 = and_parts _ _ a4.1 in
+    let a6 = and_parts _ _ a5.1 in
+    let a7 = and_parts _ _ a6.1 in
+    let a8 = and_parts _ _ a7.1 in
+    let a9 = and_parts _ _ a8.1 in
+    let a10 = and_parts _ _ a9.1 in
+    let a11 = and_parts _ _ a10.1 in
+    let a12 = and_parts _ _ a11.1 in
+    let a13 = and_parts _ _ a12.1 in
+    let a14 = and_parts _ _ a13.1 in
+    let a15 = and_parts _ _ a14.1 in
+    let a16 = and_parts _ _ a15.1 in
+    let a17 = and_parts _ _ a16.1 in
+    let a18 = and_parts _ _ a17.1 in
+    let a19 = and_parts _ _ a18.1 in
+    let a20 = and_parts _ _ a19.1 in
+    let a21 = and_parts _ _ a20.1 in
+    let a22 = and_parts _ _ a21.1 in
+    let a23 = and_parts _ _ a22.1 in
+    let a24 = and_parts _ _ a23.1 in
+    let a25 = and_parts _ _ a24.1 in
+    let a26 = and_parts _ _ a25.1 in
+    let a27 = and_parts _ _ a26.1 in
+    let a28 = and_parts _ _ a27.1 in
+    let a29 = and_parts _ _ a28.1 in
+    let a30 = and_parts _ _ a29.1 in
+    let a31 = and_parts _ _ a30.1 in
+    let a32 = and_parts _ _ a31.1 in
+    let a33 = and_parts _ _ a32.1 in
+    let a34 = and_parts _ _ a33.1 in
+    let a35 = and_parts _ _ a34.1 in
+    let a36 = and_parts _ _ a35.1 in
+    let a37 = and_parts _ _ a36.1 in
+    let a38 = and_parts _ _ a37.1 in
+    let a39 = and_parts _ _ a38.1 in
+    let a40 = and_parts _ _ a39.1 in
+    let a41 = and_parts _ _ a40.1 in
     elim t as (λ t. p t ≡ true) [ FunWord ↦ a0.0 | MainWord ↦ a1.0 | TypeWord ↦ a2.0 | LetWord ↦ a3.0 | InWord ↦ a4.0 | CaseWord ↦ a5.0 | OfWord ↦ a6.0 | InlWord ↦ a7.0 | InrWord ↦ a8.0 | NilWord ↦ a9.0 | WaitWord ↦ a10.0 | EpsWord ↦ a11.0 | IfWord ↦ a12.0 | ThenWord ↦ a13.0 | ElseWord ↦ a14.0 | FoldWord ↦ a15.0 | FromWord ↦ a16.0 | WithWord ↦ a17.0 | IntWord ↦ a18.0 | FstWord ↦ a19.0 | SndWord ↦ a20.0 | Open ↦ a21.0 | Close ↦ a22.0 | OpenBrace ↦ a23.0 | CloseBrace ↦ a24.0 | Comma ↦ a25.0 | Semicolon ↦ a26.0 | Colon ↦ a27.0 | Colons ↦ a28.0 | Equals ↦ a29.0 | Arrow ↦ a30.0 | Bar ↦ a31.0 | Bars ↦ a32.0 | Plus ↦ a33.0 | Minus ↦ a34.0 | Times ↦ a35.0 | Slash ↦ a36.0 | Less ↦ a37.0 | Dot ↦ a38.0 | NameToken ↦ a39.0 | OneToken ↦ a40.0 | NumberToken ↦ a41.0 | Other ↦ a41.1 ]
 
 abbrev pub goes_on_type : Terminal → Bool

@@ -22,7 +22,7 @@ use Rattle.delta_print.proofs.NaturalRules.{natural}
 use Rattle.delta_print.proofs.DerivedTypes.{brackets, type_stands}
 use Rattle.delta_print.proofs.DerivedExpressions.{expression_stands}
 
-both_true : (a b : Bool) → a && b ≡ true → (a ≡ true) × (b ≡ true)
+pub both_true : (a b : Bool) → a && b ≡ true → (a ≡ true) × (b ≡ true)
 both_true true b h = (refl, h)
 both_true false b h = absurd (cc h)
 

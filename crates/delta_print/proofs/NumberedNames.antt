@@ -27,10 +27,7 @@ use Rattle.delta_print.specs.Chunks.{name_text}
 use Rattle.delta_print.specs.ReadingBack.{IsNameText, AreDistinct}
 use Rattle.delta_print.proofs.ItemsOfTokens.{token_name, token_names, IsNumber, AreNumbers}
 use Rattle.delta_print.proofs.Numbering.{name_text-read, any_at}
-
-both_true : (a b : Bool) → a && b ≡ true → (a ≡ true) × (b ≡ true)
-both_true true b h = (refl, h)
-both_true false b h = absurd (cc h)
+use Rattle.delta_print.proofs.DerivedPrograms.{both_true}
 
 -- NUMBERS
 

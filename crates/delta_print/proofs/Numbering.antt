@@ -11,6 +11,7 @@ use Rattle.std.proofs.lemmas.List.Sums.{position_or_len_is}
 use Rattle.std.proofs.lemmas.Slice.Eq.{bytes_eq-Decides}
 use Rattle.std.proofs.lemmas.Bool.Decides.{nat_tests}
 use Rattle.std.proofs.lemmas.Option.{unwrap_or-slice_get}
+use Rattle.std.proofs.lemmas.Bool.{false_from_ne_true}
 use Rattle.bunch.specs.declared.name.Name.{Name as NameOf}
 use Rattle.delta_lex.specs.Tokens.{Lexeme}
 use Rattle.delta_tree.specs.SyntaxTree.{WrittenFunction}
@@ -32,15 +33,11 @@ use Rattle.delta_print.proofs.DerivedPrograms.{canonical_is_derived}
 
 -- TESTS
 
-false_from : (b : Bool) → (b ≡ true → ⊥) → b ≡ false
-false_from true h = absurd (h refl)
-false_from false h = refl
-
 same_text : (a b : List ℕ) → a ≡ b → bytes_eq a b ≡ true
 same_text a b e = (bytes_eq-Decides a b).1 e
 
 other_text : (a b : List ℕ) → (a ≡ b → ⊥) → bytes_eq a b ≡ false
-other_text a b h = false_from (bytes_eq a b) (λ e. h ((bytes_eq-Decides a b).0 e))
+other_text a b h = false_from_ne_true (bytes_eq a b) (λ e. h ((bytes_eq-Decides a b).0 e))
 
 -- a number's text is `1` where it is 1
 numeral_is : (m : ℕ) → m < 2 ^ 63 → numeral_of (decimal m) ≡ (if m == 1 then OneToken else NumberToken)

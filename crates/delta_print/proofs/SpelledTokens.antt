@@ -1,6 +1,6 @@
 -- Each token of a row is one token of the text.
-use Rattle.std.proofs.Common.{rules, ◌≡◌, ℕ, ◌+◌, ◌%◌, ◌<◌, ◌^◌, Bool, true, false, ◌&&◌, List, [], ◌∷◌, ◌++◌, length, refl, ap, subst, ◌∙◌, arith, ◌⊎◌, inl, inr, Some, Ok, codes}
-use Rattle.std.specs.Prelude.{◌==◌, pos, nat_lt, nat_le, if◌then◌else◌}
+use Rattle.std.proofs.Common.{◌≡◌, ℕ, ◌+◌, ◌%◌, ◌<◌, ◌^◌, Bool, true, false, ◌&&◌, List, [], ◌∷◌, ◌++◌, length, refl, ap, subst, ◌∙◌, arith, ◌⊎◌, inl, inr, Some, Ok, codes}
+use Rattle.std.specs.Prelude.{◌==◌, pos, if◌then◌else◌}
 use Rattle.std.specs.Char.{is_ascii_digit}
 use Rattle.std.specs.List.{list_all}
 use Rattle.std.specs.Fmt.{decimal}
@@ -8,8 +8,8 @@ use Rattle.std.specs.Str.{chars, IsUtf8}
 use Rattle.std.specs.Str.Parse.{digits_value}
 use Rattle.std.proofs.lemmas.Fmt.{decimal_by_steps, decimal_nonempty, IsAscii-decimal, digits_decimal, digits_value-decimal}
 use Rattle.std.proofs.lemmas.Str.{chars-IsAscii, IsUtf8-from_ascii}
-use Rattle.std.proofs.lemmas.Str.Parse.{IsNumeralModel, numerals_by_value}
 use Rattle.std.proofs.lemmas.Bool.Decides.{nat_tests}
+use Rattle.std.proofs.lemmas.Bool.{and_parts}
 use Rattle.unicode_ident.proofs.Computing.{unicode_ident}
 use lib.Utf8.{encode}
 use Rattle.bunch.specs.declared.name.Name.{Name as NameOf}
@@ -22,6 +22,7 @@ use Rattle.delta_lex.specs.Shapes.{has_shape}
 use Rattle.delta_lex.specs.Tokens.{lexeme, token_of}
 use Rattle.delta_lex.specs.Division.{IsTokenBefore}
 use Rattle.delta_lex.proofs.Longest.{no_name, sign_other}
+use Rattle.delta_lex.proofs.Numerals.{fits, own}
 use Rattle.delta_parse.specs.declared.terminal.Terminal.TheVariants.{FunWord, MainWord, TypeWord, LetWord, InWord, CaseWord, OfWord, InlWord, InrWord, NilWord, WaitWord, EpsWord, IfWord, ThenWord, ElseWord, FoldWord, FromWord, WithWord, IntWord, FstWord, SndWord, Open, Close, OpenBrace, CloseBrace, Comma, Semicolon, Colon, Colons, Equals, Arrow, Bar, Bars, Plus, Minus as MinusSign, Times, Slash, Less, Dot, NameToken, OneToken, NumberToken, Other}
 use Rattle.delta_print.specs.declared.chunk.Chunk.{Chunk}
 use Rattle.delta_print.specs.declared.chunk.Chunk.TheVariants.{Fixed, Named, Digits, Minus, TypeStar}
@@ -42,10 +43,6 @@ pub record IsToken (names : List (List ℕ)) (c : Chunk) : Type 0 where
   pub made : (at : ℕ) → token_of kind at (chunk_text names c) ≡ Ok (lexeme (chunk_lexeme_kind c) at (chunk_text names c))
   pub before_all : holds_next c ≡ true → (rest : List ℕ) → IsTokenBefore kind (first ∷ others) rest
   pub back : holds_back c ≡ true → IsApart first
-
-both_true : (a b : Bool) → (a && b) ≡ true → (a ≡ true) × (b ≡ true)
-both_true true b h = (refl, h)
-both_true false b h = absurd (cc h)
 
 -- NAMES
 
@@ -68,7 +65,7 @@ record IsName (cs : List ℕ) : Type 0 where
 
 name_parts : (cs : List ℕ) → has_shape Name cs ≡ true → IsName cs
 name_parts [] h = absurd (cc h)
-name_parts (c ∷ cs) h = record { first = c; others = cs; all = refl; shape = h; slash = no_slash c (both_true (starts_name c) (list_all is_xid_continue cs) h).0 }
+name_parts (c ∷ cs) h = record { first = c; others = cs; all = refl; shape = h; slash = no_slash c (and_parts (starts_name c) (list_all is_xid_continue cs) h).0 }
 
 name_is : (names : List (List ℕ)) (x : NameOf) → IsNameText (name_text names x.0) → IsToken names (Named x)
 name_is names x h =
@@ -87,12 +84,6 @@ name_is names x h =
 
 -- NUMBERS
 
-own : IsNumeralModel (λ ds. list_all is_ascii_digit ds ≡ true) (digits_value 10)
-own = numerals_by_value _ (search rules)
-
-fits : (len value : ℕ) → 0 < len → value < 9223372036854775808 → (nat_lt 0 len && nat_le value 9223372036854775807) ≡ true
-fits len value some small = grind (arith, nat_tests)
-
 -- the digits of a number write it
 pub number_of-decimal : (n : ℕ) → n < 2 ^ 63 → number_of (decimal n) ≡ Some (pos n)
 number_of-decimal n h =
@@ -109,13 +100,13 @@ digit_passes n h = grind (arith, nat_tests)
 all_behind : (p : ℕ → Bool) (ds : List ℕ) (d : ℕ) → list_all p ds ≡ true → p d ≡ true → list_all p (ds ++ d ∷ []) ≡ true
 all_behind p [] d h e = ap (λ b. b && true) e
 all_behind p (c ∷ ds) d h e =
-    let parts = both_true (p c) (list_all p ds) h in
+    let parts = and_parts (p c) (list_all p ds) h in
     ap (λ b. b && list_all p (ds ++ d ∷ [])) parts.0 ∙ all_behind p ds d parts.1 e
 
 one_more : (ds : List ℕ) (d : ℕ) → has_shape Number ds ≡ true → is_digit d ≡ true → has_shape Number (ds ++ d ∷ []) ≡ true
 one_more [] d h e = absurd (cc h)
 one_more (c ∷ ds) d h e =
-    let parts = both_true (is_digit c) (list_all is_digit ds) h in
+    let parts = and_parts (is_digit c) (list_all is_digit ds) h in
     ap (λ b. b && list_all is_digit (ds ++ d ∷ [])) parts.0 ∙ all_behind is_digit ds d parts.1 e
 
 rest_small : (n : ℕ) → n % 10 < 10
@@ -139,7 +130,7 @@ record IsNumber (cs : List ℕ) : Type 0 where
 
 number_parts : (cs : List ℕ) → has_shape Number cs ≡ true → IsNumber cs
 number_parts [] h = absurd (cc h)
-number_parts (c ∷ cs) h = record { first = c; others = cs; all = refl; shape = h; slash = digit_no_slash c (both_true (is_digit c) (list_all is_digit cs) h).0 }
+number_parts (c ∷ cs) h = record { first = c; others = cs; all = refl; shape = h; slash = digit_no_slash c (and_parts (is_digit c) (list_all is_digit cs) h).0 }
 
 number_is : (names : List (List ℕ)) (n : ℕ) → n < 2 ^ 63 → IsToken names (Digits n)
 number_is names n h =

@@ -2,6 +2,7 @@
 use Rattle.std.proofs.Common.{◌≡◌, ℕ, Bool, true, false, ◌&&◌, ◌||◌, List, [], ◌∷◌, ◌++◌, refl, ap, subst, ◌∙◌, arith, ◌⊎◌, inl, inr}
 use Rattle.std.specs.Prelude.{◌==◌, ⊤}
 use Rattle.std.specs.List.{list_all}
+use Rattle.std.proofs.lemmas.Bool.{and_parts}
 use Rattle.unicode_ident.proofs.Computing.{unicode_ident}
 use Rattle.delta_lex.specs.declared.token.Kind.{Kind}
 use Rattle.delta_lex.specs.declared.token.Kind.TheVariants.{Name, Word, Number, Sign}
@@ -48,13 +49,9 @@ pub semicolon_apart : IsApart 59
 unfolding unicode_ident
 semicolon_apart = record { letters = refl; digits = refl; pairs = refl; slash = refl }
 
-both_true : (a b : Bool) → (a && b) ≡ true → (a ≡ true) × (b ≡ true)
-both_true true b h = (refl, h)
-both_true false b h = absurd (cc h)
-
 passes_inside : (p : ℕ → Bool) (w more : List ℕ) (d : ℕ) → list_all p (w ++ d ∷ more) ≡ true → p d ≡ true
-passes_inside p [] more d h = (both_true (p d) (list_all p more) h).0
-passes_inside p (c ∷ w) more d h = passes_inside p w more d (both_true (p c) (list_all p (w ++ d ∷ more)) h).1
+passes_inside p [] more d h = (and_parts (p d) (list_all p more) h).0
+passes_inside p (c ∷ w) more d h = passes_inside p w more d (and_parts (p c) (list_all p (w ++ d ∷ more)) h).1
 
 -- the second of two characters that are one sign
 second_of_three : (a b c x y z : Bool) → (a && x) || ((b && y) || (c && z)) ≡ true → x || (y || z) ≡ true
@@ -71,10 +68,10 @@ no_sign c d (e ∷ more) a h = cc h
 -- nothing longer has a shape
 none_longer : (k : Kind) (c d : ℕ) (w more : List ℕ) → IsApart d → has_shape k (c ∷ (w ++ d ∷ more)) ≡ true → ⊥
 none_longer Name c d w more a h =
-    let e : is_xid_continue d ≡ true = passes_inside is_xid_continue w more d (both_true (starts_name c) (list_all is_xid_continue (w ++ d ∷ more)) h).1 in cc (a.letters, e)
+    let e : is_xid_continue d ≡ true = passes_inside is_xid_continue w more d (and_parts (starts_name c) (list_all is_xid_continue (w ++ d ∷ more)) h).1 in cc (a.letters, e)
 none_longer Word c d w more a h = cc h
 none_longer Number c d w more a h =
-    let e : is_digit d ≡ true = passes_inside is_digit w more d (both_true (is_digit c) (list_all is_digit (w ++ d ∷ more)) h).1 in cc (a.digits, e)
+    let e : is_digit d ≡ true = passes_inside is_digit w more d (and_parts (is_digit c) (list_all is_digit (w ++ d ∷ more)) h).1 in cc (a.digits, e)
 none_longer Sign c d [] more a h = no_sign c d more a h
 none_longer Sign c d (e ∷ w) more a h = no_third c e d w more h
 
@@ -106,7 +103,7 @@ token_apart kind c w rest h s a = record { shape = h; longest = longest_apart c 
 -- an opening bracket and a minus stand before anything
 open_longest : (rest : List ℕ) (k : Kind) (more behind : List ℕ) → rest ≡ more ++ behind → has_shape k (40 ∷ more) ≡ true → more ≡ []
 open_longest rest k [] behind e h = refl
-open_longest rest Name (d ∷ more) behind e h = absurd (no_name 40 (sign_other 40 refl) (both_true (starts_name 40) (list_all is_xid_continue (d ∷ more)) h).0)
+open_longest rest Name (d ∷ more) behind e h = absurd (no_name 40 (sign_other 40 refl) (and_parts (starts_name 40) (list_all is_xid_continue (d ∷ more)) h).0)
 open_longest rest Word (d ∷ more) behind e h = absurd (cc h)
 open_longest rest Number (d ∷ more) behind e h = absurd (cc h)
 open_longest rest Sign (d ∷ []) behind e h = absurd (cc h)
@@ -114,7 +111,7 @@ open_longest rest Sign (d ∷ x ∷ more) behind e h = absurd (cc h)
 
 minus_longest : (rest : List ℕ) (k : Kind) (more behind : List ℕ) → rest ≡ more ++ behind → has_shape k (45 ∷ more) ≡ true → more ≡ []
 minus_longest rest k [] behind e h = refl
-minus_longest rest Name (d ∷ more) behind e h = absurd (no_name 45 (sign_other 45 refl) (both_true (starts_name 45) (list_all is_xid_continue (d ∷ more)) h).0)
+minus_longest rest Name (d ∷ more) behind e h = absurd (no_name 45 (sign_other 45 refl) (and_parts (starts_name 45) (list_all is_xid_continue (d ∷ more)) h).0)
 minus_longest rest Word (d ∷ more) behind e h = absurd (cc h)
 minus_longest rest Number (d ∷ more) behind e h = absurd (cc h)
 minus_longest rest Sign (d ∷ []) behind e h = absurd (cc h)

@@ -11,7 +11,7 @@ use Rattle.event_word.proofs.Walks.{no_fault_is_admitted}
 use Rattle.event_word.proofs.Words.{word_derives, after_word-push, after_word-pre}
 use Rattle.event_frame.specs.declared.version.Version.{Version}
 use Rattle.event_frame.specs.declared.version.Version.TheVariants.{V1, V2}
-use Rattle.event_frame.specs.Frames.{longest, header, frame, frames, AllFit}
+use Rattle.event_frame.specs.Frames.{longest, header, frames, AllFit}
 use Rattle.event_frame.specs.Reading.{whole}
 use Rattle.event_frame.proofs.FrameLaws.{frames_are_read}
 use Rattle.delta_tree.specs.SyntaxTree.{ProgramTree}
@@ -52,16 +52,12 @@ use Rattle.delta_run.specs.Saved.{IsLeft}
 use Rattle.delta_run.specs.SavedAgain.{IsLeftAgain}
 use Rattle.delta_run.specs.Resumed.{IsMeantSince}
 use Rattle.delta_run.specs.Laws.{StateIsOne, LeftIsTyped, LeftAgainIsTyped, FramesJoin, DueJoins, KeptFurther}
+use Rattle.command_text.proofs.Feeding.{frames-append}
 
 -- what is left of a type after two words is what the second leaves of what the first left
 after_both : (s : StreamType) (v w : List StreamEvent) → after_word (v ++ w) s ≡ after_word w (after_word v s)
 after_both s [] w = refl
 after_both s (x ∷ v) w = after_both (after x s) v w
-
--- the frames of two words, and where those of each fit
-frames_both : (v : Version) (a b : List StreamEvent) → frames v (a ++ b) ≡ frames v a ++ frames v b
-frames_both v [] b = refl
-frames_both v (x ∷ a) b = ap (λ (bs : List ℕ). frame v x ++ bs) (frames_both v a b) ∙ sym (append_assoc (frame v x) (frames v a) (frames v b))
 
 fit_both : (v : Version) (a b : List StreamEvent) → AllFit v a → AllFit v b → AllFit v (a ++ b)
 fit_both v [] b h k = k
@@ -73,7 +69,7 @@ read_whole v word fit = ap (λ r. r.word) (frames_are_read v word fit)
 
 pub frames_join : FramesJoin
 frames_join v first second h k =
-    ap whole (append_assoc (header v) (frames v first) (frames v second) ∙ ap (λ (bs : List ℕ). header v ++ bs) (sym (frames_both v first second)))
+    ap whole (append_assoc (header v) (frames v first) (frames v second) ∙ ap (λ (bs : List ℕ). header v ++ bs) (sym (frames-append v first second)))
     ∙ (read_whole v (first ++ second) (fit_both v first second h k)
     ∙ sym (ap₂ (λ (a b : List StreamEvent). a ++ b) (read_whole v first h) (read_whole v second k)))
 

@@ -51,7 +51,7 @@ canon-item-length (q ∷ ps) p =
     omega (arith, left, right, ih)
 
 -- the front of a list with one part more
-take-next : {A : Type 0} (xs : List A) (i : ℕ) (a : A) → i < length xs → a ≡ get_or xs i a → take (i + 1) xs ≡ take i xs ++ a ∷ []
+pub take-next : {A : Type 0} (xs : List A) (i : ℕ) (a : A) → i < length xs → a ≡ get_or xs i a → take (i + 1) xs ≡ take i xs ++ a ∷ []
 take-next xs i a h e = ap (λ n. take n xs) (add-one i) ∙ take-suc xs i a h ∙ ap (λ b. take i xs ++ b ∷ []) (sym e)
 
 -- what the next part adds to a count

@@ -1,17 +1,19 @@
 -- A settled state whose free names are finished is finished: nothing more comes on either.
 use Rattle.std.proofs.Common.{◌≡◌, ◌∙◌, ℕ, Bool, true, false, true≢false, not, ◌&&◌, List, [], ◌∷◌, ◌++◌, ap, ap₂, refl, sym, subst, eqb, if◌then◌else◌}
+use Rattle.std.proofs.lemmas.Bool.{not-true}
 use Rattle.stream_type.specs.StreamType.{StreamType, cat, par, null_of}
 use Rattle.stream_prefix.specs.StreamPrefix.{is_maximal, der, IsPrefix}
 use Rattle.stream_prefix.proofs.Derivations.{derives}
 use Rattle.stream_prefix.proofs.Joins.{null_of-der}
 use Rattle.bunch.specs.Names.{put, holds}
 use Rattle.bunch.specs.Facts.{place_like, place_let}
+use Rattle.bunch.proofs.Tests.{and_first, and_second}
 use Rattle.core_term.specs.CoreTerm.{CoreBody}
 use Rattle.core_term.specs.FreeNames.{free_names, without}
 use Rattle.core_term.specs.Environment.{NameTypes}
 use Rattle.core_term.specs.Parts.{par_left, par_right}
 use Rattle.core_term.specs.Typing.{Context}
-use Rattle.core_term.proofs.Sides.{and_first, and_second, holds-head, holds-left, holds-right}
+use Rattle.core_term.proofs.Sides.{holds-head, holds-left, holds-right}
 use Rattle.core_term.proofs.Without.{holds-tail, put_on}
 use Rattle.core_term.proofs.TypedTerms.{PastTypes, Extends, type_in, extends_name}
 use Rattle.core_term.proofs.TypedRuns.{extends_own}
@@ -21,7 +23,7 @@ use Rattle.delta_state.specs.StateTyping.{HasStateType, HaveArgumentTypes, conte
 use Rattle.delta_state.specs.Settled.{has_tag, is_settled, are_settled}
 use Rattle.delta_state.specs.Laws.{SettledIsFinished}
 use Rattle.delta_state.proofs.HeldNames.{mark_is, held_prefix, held_left, arguments_extend}
-use Rattle.delta_state.proofs.SettledStates.{is_not, sum_untagged, star_untagged}
+use Rattle.delta_state.proofs.SettledStates.{sum_untagged, star_untagged}
 
 -- nothing more comes on these names
 record FinishedOn (xs : List ℕ) (T : NameTypes) : Type 0 where
@@ -50,7 +52,7 @@ module _ (funs : List CoreBody) (counts : ℕ → Bool) where
     settled_finished (par_state a b) c T H _ e k i h = absurd k
     settled_finished (cat_state a l) c T H (cat s t) e k i h =
         let first = settled_finished a c T H s e k.0 (and_first (is_settled a s) (not (null_of s)) i) (left_of (free_in_state a) (free_names l.term) T h) in
-        absurd (true≢false (sym first ∙ is_not (null_of s) (and_second (is_settled a s) (not (null_of s)) i)))
+        absurd (true≢false (sym first ∙ not-true (null_of s) (and_second (is_settled a s) (not (null_of s)) i)))
     settled_finished (cat_state a l) c T H _ e k i h = absurd k
     settled_finished (let_state x s a b) c T H r e k i h =
         let first = settled_finished a c T H s e k.0 (and_first (is_settled a s) (is_settled b r) i) (left_of (free_in_state a) (without x (free_in_state b)) T h) in
@@ -69,21 +71,21 @@ module _ (funs : List CoreBody) (counts : ℕ → Bool) where
         let first = holds-head z _ in
         let typed = mark_is held z _ k.2.subject_typed in
         let prefix = held_prefix c T H e (free_in_sum z x l y m) held k.1 z first in
-        let none = sum_untagged _ _ (prefixes_held held z) (subst (λ s. IsPrefix s (prefixes_held held z)) typed prefix) (is_not (has_tag (prefixes_held held z)) i) in
+        let none = sum_untagged _ _ (prefixes_held held z) (subst (λ s. IsPrefix s (prefixes_held held z)) typed prefix) (not-true (has_tag (prefixes_held held z)) i) in
         let left = held_left c T H e (free_in_sum z x l y m) held k.1 z first ∙ ap₂ der none typed in
         absurd (true≢false (sym (h.at z first) ∙ ap null_of left))
     settled_finished (star_state z t held l y ys m) c T H r e k i h =
         let first = holds-head z _ in
         let typed = mark_is held z _ k.2.subject_typed in
         let prefix = held_prefix c T H e (free_in_star z l y ys m) held k.1 z first in
-        let none = star_untagged _ (prefixes_held held z) (subst (λ s. IsPrefix s (prefixes_held held z)) typed prefix) (is_not (has_tag (prefixes_held held z)) i) in
+        let none = star_untagged _ (prefixes_held held z) (subst (λ s. IsPrefix s (prefixes_held held z)) typed prefix) (not-true (has_tag (prefixes_held held z)) i) in
         let left = held_left c T H e (free_in_star z l y ys m) held k.1 z first ∙ ap₂ der none typed in
         absurd (true≢false (sym (h.at z first) ∙ ap null_of left))
     settled_finished (wait_state x t held l) c T H r e k i h =
         let first = holds-head x _ in
         let prefix = held_prefix c T H e (free_in_wait x l) held k.1 x first in
         let left = held_left c T H e (free_in_wait x l) held k.1 x first in
-        absurd (true≢false (sym (h.at x first) ∙ (ap null_of left ∙ (null_of-der (derives (types_held held x) (prefixes_held held x) prefix) ∙ is_not (is_maximal (prefixes_held held x)) i))))
+        absurd (true≢false (sym (h.at x first) ∙ (ap null_of left ∙ (null_of-der (derives (types_held held x) (prefixes_held held x) prefix) ∙ not-true (is_maximal (prefixes_held held x)) i))))
     settled_finished (frame_state args s) c T H r e k i h =
         let q = settled_arguments_finished args c T H e k.0 (and_first (are_settled args) (is_settled s r) i) h in
         settled_finished s (context_of_arguments c args) (types_of_arguments args) no_pasts r (arguments_extend c args) k.1 (and_second (are_settled args) (is_settled s r) i) (record { at = λ x m. q x })

@@ -1,9 +1,11 @@
 -- A settled typed state gives nothing where nothing comes on its free names, and makes no call.
 use Rattle.std.proofs.Common.{◌≡◌, ◌∙◌, ℕ, Bool, true, false, true≢false, not, ◌||◌, List, [], ◌∷◌, ◌++◌, ap, ap₂, refl, sym, subst, arith, eqb, if◌then◌else◌}
+use Rattle.std.proofs.lemmas.Bool.{not-true}
 use Rattle.stream_type.specs.StreamType.{StreamType, cat, par, sum, star, null_of}
 use Rattle.stream_prefix.specs.StreamPrefix.{StreamPrefix, eps_emp, par_both, cat_fst, sum_emp, in_left, in_right, star_emp, star_done, star_first, star_rest, emp, is_maximal, IsPrefix}
 use Rattle.bunch.specs.Names.{put, value_at}
 use Rattle.bunch.specs.Facts.{place_like, place_let}
+use Rattle.bunch.proofs.Tests.{and_first, and_second}
 use Rattle.hist_value.specs.Wholes.{value_of}
 use Rattle.core_term.specs.CoreTerm.{CoreBody, fun_at}
 use Rattle.core_term.specs.FreeNames.{free_names, without}
@@ -11,7 +13,7 @@ use Rattle.core_term.specs.Environment.{Environment, NameTypes}
 use Rattle.core_term.specs.Parts.{par_left, par_right, cat_first, cat_second, sum_left, sum_right, star_item, star_items, left_part, right_part, first_part, second_part}
 use Rattle.core_term.specs.Run.{Run, Runs, deeper, let_run, sum_run, star_run, wait_run, frame_run}
 use Rattle.core_term.specs.Typing.{Context}
-use Rattle.core_term.proofs.Sides.{and_first, and_second, holds-head, holds-left, holds-right}
+use Rattle.core_term.proofs.Sides.{holds-head, holds-left, holds-right}
 use Rattle.core_term.proofs.Without.{holds-tail}
 use Rattle.core_term.proofs.TypedTerms.{PastTypes, Extends, type_in, extends_name}
 use Rattle.core_term.proofs.InertRuns.{EmptyOn, empty_put, cat_run-nothing}
@@ -22,11 +24,6 @@ use Rattle.delta_state.specs.StateTyping.{HasStateType, HaveArgumentTypes, conte
 use Rattle.delta_state.specs.Settled.{has_tag, is_settled, are_settled}
 use Rattle.delta_state.proofs.HeldNames.{mark_is, held_prefix, nothing_more, arguments_extend}
 use Rattle.delta_state.specs.Laws.{GivesNothing, SettledGivesNothing}
-
--- what isn't true is false
-pub is_not : (b : Bool) → not b ≡ true → b ≡ false
-is_not false h = refl
-is_not true h = absurd (true≢false (sym h))
 
 -- what is empty on names is so on fewer of them
 pub left_of : (xs ys : List ℕ) (T : NameTypes) (d : Environment) → EmptyOn (xs ++ ys) T d → EmptyOn xs T d
@@ -88,7 +85,7 @@ module _ (funs : List CoreBody) (counts : ℕ → Bool) where
     settled_nothing (par_state a b) c T H _ e k i d h = absurd k
     settled_nothing (cat_state a l) c T H (cat s t) e k i d h =
         let x = settled_nothing a c T H s e k.0 (and_first (is_settled a s) (not (null_of s)) i) d (left_of (free_in_state a) (free_names l.term) T d h) in
-        let first = cat_run-nothing s (run_state (fun_at funs) a T s d) (run_later (fun_at funs) l T t d) x.out (is_not (null_of s) (and_second (is_settled a s) (not (null_of s)) i)) in
+        let first = cat_run-nothing s (run_state (fun_at funs) a T s d) (run_later (fun_at funs) l T t d) x.out (not-true (null_of s) (and_second (is_settled a s) (not (null_of s)) i)) in
         subst (GivesNothing (cat s t)) (sym first) (record { out = ap cat_fst x.out; calls = x.calls; level = x.level })
     settled_nothing (cat_state a l) c T H _ e k i d h = absurd k
     settled_nothing (let_state x s a b) c T H r e k i d h =
@@ -114,7 +111,7 @@ module _ (funs : List CoreBody) (counts : ℕ → Bool) where
         let first = holds-head z _ in
         let typed = mark_is held z _ k.2.subject_typed in
         let prefix = held_prefix c T H e (free_in_sum z x l y m) held k.1 z first in
-        let none = sum_untagged _ _ (prefixes_held held z) (subst (λ s. IsPrefix s (prefixes_held held z)) typed prefix) (is_not (has_tag (prefixes_held held z)) i) in
+        let none = sum_untagged _ _ (prefixes_held held z) (subst (λ s. IsPrefix s (prefixes_held held z)) typed prefix) (not-true (has_tag (prefixes_held held z)) i) in
         let now : with_held held d z ≡ sum_emp = nothing_more c T H e (free_in_sum z x l y m) held k.1 z first d (h.at z first) ∙ none in
         subst
         (λ p. GivesNothing r
@@ -125,7 +122,7 @@ module _ (funs : List CoreBody) (counts : ℕ → Bool) where
         let first = holds-head z _ in
         let typed = mark_is held z _ k.2.subject_typed in
         let prefix = held_prefix c T H e (free_in_star z l y ys m) held k.1 z first in
-        let none = star_untagged _ (prefixes_held held z) (subst (λ s. IsPrefix s (prefixes_held held z)) typed prefix) (is_not (has_tag (prefixes_held held z)) i) in
+        let none = star_untagged _ (prefixes_held held z) (subst (λ s. IsPrefix s (prefixes_held held z)) typed prefix) (not-true (has_tag (prefixes_held held z)) i) in
         let now : with_held held d z ≡ star_emp = nothing_more c T H e (free_in_star z l y ys m) held k.1 z first d (h.at z first) ∙ none in
         subst
         (λ p. GivesNothing r
@@ -137,7 +134,7 @@ module _ (funs : List CoreBody) (counts : ℕ → Bool) where
         let now = nothing_more c T H e (free_in_wait x l) held k.1 x first d (h.at x first) in
         subst
         (λ b. GivesNothing r (wait_run r b (run_later (fun_at funs) (knowing x (types_held held x) (value_of (with_held held d x)) l) (types_held held) r (with_held held d))))
-        (sym (ap is_maximal now ∙ is_not (is_maximal (prefixes_held held x)) i)) (record { out = refl; calls = refl; level = refl })
+        (sym (ap is_maximal now ∙ not-true (is_maximal (prefixes_held held x)) i)) (record { out = refl; calls = refl; level = refl })
     settled_nothing (frame_state args s) c T H r e k i d h =
         let q = settled_nothings args c T H e k.0 (and_first (are_settled args) (is_settled s r) i) d h in
         frame_nothing q

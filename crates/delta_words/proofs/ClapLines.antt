@@ -3,7 +3,7 @@ use Rattle.std.proofs.Common.{◌≡◌, ◌⊎◌, inl, inr, ℕ, ◌+◌, ◌<
 use Rattle.std.specs.Prelude.{nat_eq, nat_le, option_and_then}
 use Rattle.std.specs.List.{starts_with}
 use Rattle.std.specs.Str.{bytes_eq}
-use Rattle.std.proofs.lemmas.Bool.{eqb-true}
+use Rattle.std.proofs.lemmas.Bool.{eqb-true, not-true, and_parts}
 use Rattle.std.proofs.lemmas.Bool.Decides.{nat_tests}
 use Rattle.clap.specs.Values.{reading_of}
 use Rattle.clap.specs.Faults.{turn_fault, walk_fault}
@@ -13,15 +13,11 @@ use Rattle.clap.specs.declared.builder.value_parser.ValueParser.TheVariants as v
 use Rattle.clap.specs.declared.parser.matches.ValueSource.TheVariants.{CommandLine}
 use Rattle.delta_words.specs.declared.command.Takes.{Takes}
 use Rattle.delta_words.specs.CommandLine.{WrittenLine, is_option, value_of, with_operand, with_value, with_both, with_setting, with_option, read_word, read_rest}
-use Rattle.delta_words.proofs.ClapRows.{found, used-new, and_true, same_bytes}
+use Rattle.delta_words.proofs.ClapRows.{found, used-new, same_bytes}
 use Rattle.delta_words.proofs.ClapKnows.{Knows}
 use Rattle.delta_words.proofs.ClapSteps as steps
 use Rattle.delta_words.proofs.ClapSteps.{at, place_of, IsPlain, Holds, Good, Stands, Awaits, word_row, flag_row, flag_found, unused}
 use Rattle.delta_words.proofs.ClapHolds.{add_first, add_second, add_rest, add_budget, add_v2, add_frames}
-
-pub not_true : (b : Bool) → not b ≡ true → b ≡ false
-not_true true e = cc
-not_true false e = refl
 
 is_none : {A : Type 0} (o : Option A) → is_some o ≡ false → o ≡ None
 is_none None e = refl
@@ -32,7 +28,7 @@ begins : (a b : List ℕ) → starts_with nat_eq a b ≡ true → a ≡ b ++ dro
 begins a [] e = refl
 begins [] (y ∷ b) e = cc
 begins (x ∷ a) (y ∷ b) e =
-    let h = and_true (y == x) (starts_with nat_eq a b) e in
+    let h = and_parts (y == x) (starts_with nat_eq a b) e in
     ap₂ (λ (k : ℕ) (r : List ℕ). k ∷ r) (sym (eqb-true y x h.0)) (begins a b h.1)
 
 module _ (s : Shape) (t : Takes) (k : Knows s t) where
@@ -289,19 +285,19 @@ module _ (s : Shape) (t : Takes) (k : Knows s t) where
           (cond b6 (cond b7 (Some (record l { awaits = true })) (with_both l v)) None)) ≡ Some m
           → Steps W word m
       go true e2 b3 e3 true e4 b5 e5 b6 e6 b7 e7 v e8 same =
-          let r = and_true t.v2 (not l.v2) e4 in
-          as_is (codes "--v2") _ (same_bytes _ _ e2) same (v2_at rows pending waiting l quiet good calm few e r.0 (not_true l.v2 r.1))
+          let r = and_parts t.v2 (not l.v2) e4 in
+          as_is (codes "--v2") _ (same_bytes _ _ e2) same (v2_at rows pending waiting l quiet good calm few e r.0 (not-true l.v2 r.1))
       go true e2 b3 e3 false e4 b5 e5 b6 e6 b7 e7 v e8 same = cc
       go false e2 true e3 b4 e4 true e5 b6 e6 b7 e7 v e8 same =
-          let r = and_true t.frames (not l.frames) e5 in
-          as_is (codes "--frames") _ (same_bytes _ _ e3) same (frames_at rows pending waiting l quiet good calm few e r.0 (not_true l.frames r.1))
+          let r = and_parts t.frames (not l.frames) e5 in
+          as_is (codes "--frames") _ (same_bytes _ _ e3) same (frames_at rows pending waiting l quiet good calm few e r.0 (not-true l.frames r.1))
       go false e2 true e3 b4 e4 false e5 b6 e6 b7 e7 v e8 same = cc
       go false e2 false e3 b4 e4 b5 e5 true e6 true e7 v e8 same =
-          let r = and_true t.budget (not (is_some l.budget)) e6 in
-          as_is (codes "--budget") _ (same_bytes _ _ e7) same (budget_at rows pending waiting l quiet good few e r.0 (is_none l.budget (not_true (is_some l.budget) r.1)))
+          let r = and_parts t.budget (not (is_some l.budget)) e6 in
+          as_is (codes "--budget") _ (same_bytes _ _ e7) same (budget_at rows pending waiting l quiet good few e r.0 (is_none l.budget (not-true (is_some l.budget) r.1)))
       go false e2 false e3 b4 e4 b5 e5 true e6 false e7 (Some v) e8 same =
-          let r = and_true t.budget (not (is_some l.budget)) e6 in
-          as_is (codes "--budget=" ++ v) _ (value_is v e8) same (equals_at rows pending waiting l v quiet good calm few e r.0 (is_none l.budget (not_true (is_some l.budget) r.1)))
+          let r = and_parts t.budget (not (is_some l.budget)) e6 in
+          as_is (codes "--budget=" ++ v) _ (value_is v e8) same (equals_at rows pending waiting l v quiet good calm few e r.0 (is_none l.budget (not-true (is_some l.budget) r.1)))
       go false e2 false e3 b4 e4 b5 e5 true e6 false e7 None e8 same = cc
       go false e2 false e3 b4 e4 b5 e5 false e6 b7 e7 v e8 same = cc
 

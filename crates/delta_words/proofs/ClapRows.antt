@@ -1,8 +1,8 @@
 -- The rows of clap's matches.
-use Rattle.std.proofs.Common.{◌≡◌, ℕ, List, [], ◌∷◌, ◌++◌, Bool, true, false, ◌||◌, ◌&&◌, ◌==◌, cond, refl, sym, ap, ap₂, ◌∙◌, Option, Some, None, is_some, find, fold}
+use Rattle.std.proofs.Common.{◌≡◌, ℕ, List, [], ◌∷◌, ◌++◌, Bool, true, false, ◌||◌, ◌==◌, cond, refl, sym, ap, ap₂, ◌∙◌, Option, Some, None, is_some, find, fold}
 use Rattle.std.specs.Str.{bytes_eq}
 use Rattle.std.specs.Option.{option_map_or}
-use Rattle.std.proofs.lemmas.Bool.{eqb-true}
+use Rattle.std.proofs.lemmas.Bool.{eqb-true, and_parts}
 use Rattle.clap.specs.Facts.{explicit_source}
 use Rattle.clap.specs.Takes.{is_given}
 use Rattle.clap.specs.Walk.{Row, Rule, Text, has_row, with_values, stronger, without, with_default, default_rows, reading_by}
@@ -10,17 +10,13 @@ use Rattle.clap.specs.declared.parser.matches.ValueSource.{ValueSource}
 use Rattle.clap.specs.declared.parser.matches.ValueSource.TheVariants.{DefaultValue, CommandLine}
 use Rattle.clap.specs.declared.builder.value_parser.Reading.{Reading}
 
-pub and_true : (a b : Bool) → (a && b) ≡ true → (a ≡ true) × (b ≡ true)
-and_true true b e = (refl, e)
-and_true false b e = cc
-
 -- texts that are equal byte by byte
 pub same_bytes : (a b : List ℕ) → bytes_eq a b ≡ true → a ≡ b
 same_bytes [] [] e = refl
 same_bytes [] (y ∷ b) e = cc
 same_bytes (x ∷ a) [] e = cc
 same_bytes (x ∷ a) (y ∷ b) e =
-    let h = and_true (x == y) (bytes_eq a b) e in
+    let h = and_parts (x == y) (bytes_eq a b) e in
     ap₂ (λ (k : ℕ) (r : List ℕ). k ∷ r) (eqb-true x y h.0) (same_bytes a b h.1)
 
 -- the first row of an id

@@ -2,7 +2,7 @@
 use Rattle.std.proofs.Common.{inl, ◌≡◌, ◌<◌, ◌≤◌, List, [], ◌∷◌, ◌++◌, length, Bool, true, false, ◌&&◌, not, cond, refl, sym, ap, ap₂, ◌∙◌, subst, codes, Option, Some, None, is_some, option_map, arith, fold, append-nil, append_assoc}
 use Rattle.std.specs.Prelude.{slice_get, option_and_then, nat_le}
 use Rattle.std.specs.Str.{bytes_eq}
-use Rattle.std.proofs.lemmas.Bool.{leb-true}
+use Rattle.std.proofs.lemmas.Bool.{leb-true, not-true, and_parts}
 use Rattle.clap.specs.Values.{reading_of}
 use Rattle.clap.specs.Kinds.{Kinds, or_else}
 use Rattle.clap.specs.Takes.{is_given}
@@ -20,10 +20,10 @@ use Rattle.delta_words.specs.Commands.{command_of, takes_of}
 use Rattle.delta_words.specs.CommandLine.{WrittenLine, no_words, read_rest, whole_line, line_of}
 use Rattle.delta_words.specs.CommandTask.{CommandTask, task_of_line, task_of_command, task_of}
 use Rattle.delta_words.specs.ClapCommand.{delta_app, with_rule_if}
-use Rattle.delta_words.proofs.ClapRows.{found, row_of, given, defaults-found, same_bytes, and_true}
+use Rattle.delta_words.proofs.ClapRows.{found, row_of, given, defaults-found, same_bytes}
 use Rattle.delta_words.proofs.ClapKnows.{Knows, knows, leaf_of, leaf_that, name_of}
 use Rattle.delta_words.proofs.ClapSteps.{Stands, word_row, rest_found}
-use Rattle.delta_words.proofs.ClapLines.{walks, not_true}
+use Rattle.delta_words.proofs.ClapLines.{walks}
 
 no_faults : (a b c d : Kinds) → a ≡ [] → b ≡ [] → c ≡ [] → d ≡ [] → or_else a (or_else [] (or_else b (or_else c d))) ≡ []
 no_faults a b c d p q r s = rw (p, q, r, s) refl
@@ -177,8 +177,8 @@ line_takes c rest line h = go (read_rest (takes_of c) no_words rest) refl h
         whole : (b : Bool) → (not m.awaits && nat_le (takes_of c).operands (length m.operands)) ≡ b → cond b (Some m) None ≡ Some line
             → level_fault (leaf_of c) [] nothing_held rest false [] ≡ []
         whole true is j =
-            let r = and_true (not m.awaits) (nat_le (takes_of c).operands (length m.operands)) is in
-            level_takes (leaf_of c) (takes_of c) (knows c) rest m e (not_true m.awaits r.0) (leb-true (takes_of c).operands (length m.operands) r.1)
+            let r = and_parts (not m.awaits) (nat_le (takes_of c).operands (length m.operands)) is in
+            level_takes (leaf_of c) (takes_of c) (knows c) rest m e (not-true m.awaits r.0) (leb-true (takes_of c).operands (length m.operands) r.1)
         whole false is j = cc
 
 -- clap refuses no words that ask for a task

@@ -55,7 +55,7 @@ pub part_is_good : (bytes : List ℕ) (fault : FrameFault) → part_ending bytes
 part_is_good [] fault e = cc
 part_is_good (b ∷ bytes) fault e = cc
 
-frames_more : (v : Version) (word : List StreamEvent) (x : StreamEvent) → frames v (word ++ x ∷ []) ≡ frames v word ++ frame v x
+pub frames_more : (v : Version) (word : List StreamEvent) (x : StreamEvent) → frames v (word ++ x ∷ []) ≡ frames v word ++ frame v x
 frames_more v [] x = append-nil (frame v x)
 frames_more v (y ∷ word) x = ap (λ (bs : List ℕ). frame v y ++ bs) (frames_more v word x) ∙ sym (append_assoc (frame v y) (frames v word) (frame v x))
 

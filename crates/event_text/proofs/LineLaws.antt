@@ -42,10 +42,10 @@ are_digits ds some digits =
     let all : all_ascii_digits ds ≡ true = own.from ds digits in
     grind (arith, nat_tests)
 
-not_too_high : (n : ℕ) (leaf : Leaf) → n < 2 ^ 63 → cond (nat_lt n (2 ^ 63)) (Some leaf) None ≡ Some leaf
+pub not_too_high : (n : ℕ) (leaf : Leaf) → n < 2 ^ 63 → cond (nat_lt n (2 ^ 63)) (Some leaf) None ≡ Some leaf
 not_too_high n leaf low = grind (arith, nat_tests)
 
-not_too_low : (n : ℕ) (leaf : Leaf) → n ≤ 2 ^ 63 → cond (nat_le n (2 ^ 63)) (Some leaf) None ≡ Some leaf
+pub not_too_low : (n : ℕ) (leaf : Leaf) → n ≤ 2 ^ 63 → cond (nat_le n (2 ^ 63)) (Some leaf) None ≡ Some leaf
 not_too_low n leaf low = grind (arith, nat_tests)
 
 -- digits without a sign

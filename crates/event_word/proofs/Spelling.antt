@@ -28,7 +28,7 @@ right_word : (s t : StreamType) (w : List StreamEvent) → IsWord t w → IsWord
 right_word s t [] h = tt
 right_word s t (x ∷ w) h = (h.0, rw (der-emp s) (right_word s (after x t) w h.1))
 
-right_pre : (s t : StreamType) (w : List StreamEvent) → IsWord t w → pre (par s t) (map (under Right) w) ≡ par_both (emp s) (pre t w)
+pub right_pre : (s t : StreamType) (w : List StreamEvent) → IsWord t w → pre (par s t) (map (under Right) w) ≡ par_both (emp s) (pre t w)
 right_pre s t [] h = refl
 right_pre s t (x ∷ w) h =
     rw (der-emp s, right_pre s (after x t) w h.1) (ap (λ p. par_both p (pre t (x ∷ w))) (join-emp (emp_is_prefix s)))

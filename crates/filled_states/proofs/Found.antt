@@ -5,8 +5,8 @@ use Rattle.std.proofs.lemmas.List.{get_or-map}
 use Rattle.std.proofs.lemmas.Bool.{eqb-true, eq-eqb, or_parts, not-true}
 use Rattle.std.proofs.lemmas.Bool.Decides.{Decides-int_eq}
 use Rattle.bunch.specs.Names.{holds}
+use Rattle.bunch.proofs.Tests.{and_first, and_second}
 use Rattle.core_term.specs.FreeNames.{is_distinct}
-use Rattle.core_term.proofs.Sides.{and_first, and_second}
 use Rattle.filled_states.specs.Registers.{number_or, number_at, is_key, are_distinct, depth_or, depth_at}
 use Rattle.filled_states.specs.Laws.{NumbersFound, DepthsFound, NumbersInTurn, DepthsInTurn, NumbersByPlace, DepthsByPlace, NumbersFirst, DepthsFirst}
 

@@ -3,10 +3,9 @@
 use Rattle.std.proofs.Common.{◌≡◌, ◌∙◌, ◌+◌, ◌-◌, ◌*◌, ◌<◌, ◌≤◌, ℕ, zero, suc, Bool, true, false, true≢false, not, ◌&&◌, ◌||◌, List, [], ◌∷◌, map, length, get_or, eqb, leb, if◌then◌else◌, ap, ap₂, refl, sym, subst, arith}
 use Rattle.std.specs.List.{All}
 use Rattle.std.proofs.Math.Nat.{suc-mul}
-use Rattle.std.proofs.lemmas.Bool.{eqb-true, eq-eqb, le-leb, lt-leb}
+use Rattle.std.proofs.lemmas.Bool.{eqb-true, eq-eqb, le-leb, lt-leb, or_left, or_right}
 use Rattle.std.proofs.lemmas.List.Elements.{All-nil, All-cons, All-head, All-tail, All-same, All-map, All-weaker}
 use Rattle.bunch.specs.Names.{holds}
-use Rattle.core_term.proofs.Sides.{or_first, or_second}
 use Rattle.delta_state.specs.StateTree.{LaterTree, laters_of}
 use Rattle.other_numbers.specs.StateNumbers.{exchanged_later}
 use Rattle.other_depths.specs.Depths.{deepened_later}
@@ -86,8 +85,8 @@ shift_at bs es m b s l h =
 -- what stands at a place is there
 there_at : (xs : List ℕ) (i d : ℕ) → i < length xs → holds (get_or xs i d) xs ≡ true
 there_at [] i d h = absurd (omega (arith, h))
-there_at (x ∷ xs) zero d h = or_first (eqb x x) (holds x xs) (eq-eqb x x refl)
-there_at (x ∷ xs) (suc i) d h = or_second (eqb (get_or xs i d) x) (holds (get_or xs i d) xs) (there_at xs i d (omega (arith, h)))
+there_at (x ∷ xs) zero d h = or_left (eqb x x) (holds x xs) (eq-eqb x x refl)
+there_at (x ∷ xs) (suc i) d h = or_right (eqb (get_or xs i d) x) (holds (get_or xs i d) xs) (there_at xs i d (omega (arith, h)))
 
 pub shift_by_place : ShiftByPlace
 shift_by_place bs es m i j b e s l there few deep =
@@ -96,7 +95,7 @@ shift_by_place bs es m i j b e s l there few deep =
 -- two functions that are the same on all that is held
 same_on : (f g : ℕ → ℕ) (xs : List ℕ) → ((x : ℕ) → holds x xs ≡ true → f x ≡ g x) → map f xs ≡ map g xs
 same_on f g [] h = refl
-same_on f g (x ∷ xs) h = ap₂ ◌∷◌ (h x (or_first (eqb x x) (holds x xs) (eq-eqb x x refl))) (same_on f g xs (λ y i. h y (or_second (eqb y x) (holds y xs) i)))
+same_on f g (x ∷ xs) h = ap₂ ◌∷◌ (h x (or_left (eqb x x) (holds x xs) (eq-eqb x x refl))) (same_on f g xs (λ y i. h y (or_right (eqb y x) (holds y xs) i)))
 
 pub shifts_all : ShiftsAll
 shifts_all bs es m s l = same_on (shift bs es m) (depth_at bs es) bs (λ b h. shift_at bs es m b s l h) ∙ depths_in_turn bs es (spread_is_distinct m bs s) l
@@ -105,15 +104,15 @@ shifts_all bs es m s l = same_on (shift bs es m) (depth_at bs es) bs (λ b h. sh
 depth_or_there : (d : ℕ) (ds bs all : List ℕ) (n : ℕ) → holds d all ≡ true → ((x : ℕ) → holds x bs ≡ true → holds x all ≡ true) → holds (depth_or d ds bs n) all ≡ true
 depth_or_there d [] bs all n h i = h
 depth_or_there d (k ∷ ds) [] all n h i = h
-depth_or_there d (k ∷ ds) (b ∷ bs) all n h i = go (depth_or_there d ds bs all n h (λ x j. i x (or_second (eqb x b) (holds x bs) j))) (eqb k n)
+depth_or_there d (k ∷ ds) (b ∷ bs) all n h i = go (depth_or_there d ds bs all n h (λ x j. i x (or_right (eqb x b) (holds x bs) j))) (eqb k n)
   where
     go : holds (depth_or d ds bs n) all ≡ true → (t : Bool) → holds (if t then b else depth_or d ds bs n) all ≡ true
-    go rest true = i b (or_first (eqb b b) (holds b bs) (eq-eqb b b refl))
+    go rest true = i b (or_left (eqb b b) (holds b bs) (eq-eqb b b refl))
     go rest false = rest
 
 pub depth_there : (ds bs : List ℕ) (n : ℕ) → 0 < length bs → holds (depth_at ds bs n) bs ≡ true
 depth_there ds [] n h = absurd (omega (arith, h))
-depth_there ds (b ∷ bs) n h = depth_or_there b ds (b ∷ bs) (b ∷ bs) n (or_first (eqb b b) (holds b bs) (eq-eqb b b refl)) (λ x i. i)
+depth_there ds (b ∷ bs) n h = depth_or_there b ds (b ∷ bs) (b ∷ bs) n (or_left (eqb b b) (holds b bs) (eq-eqb b b refl)) (λ x i. i)
 
 -- what holds of all holds of one
 of_one : (P : ℕ → Type 0) (bs : List ℕ) (b : ℕ) → All P bs → holds b bs ≡ true → P b

@@ -1,14 +1,15 @@
 -- Enough levels read the same, so reading needs no count of levels: it is the rule, read with reading itself.
 use Rattle.std.proofs.Common.{◌≡◌, ℕ, zero, suc, ◌+◌, ◌*◌, ◌<◌, Bool, true, false, List, [], ◌∷◌, refl, sym, ap, ◌∙◌, cond, length, arith, length-append}
+use Rattle.std.proofs.lemmas.Bool.{and_parts}
 use Rattle.grammar.specs.Rules.{Sort, Language, TokenOf, Value, Rule, one_of, part, both, either, maybe, placed, make}
 use Rattle.grammar.specs.Grammar.{Grammar, by_part}
 use Rattle.grammar.specs.Reading.{Outcome, got, stuck, out, ◌>>=◌, nullable, Reads, read_with, read, weight, reading}
-use Rattle.grammar.proofs.Tests.{and_true, cond_true, lt_of}
+use Rattle.grammar.proofs.Tests.{cond_true, lt_of}
 use Rattle.grammar.proofs.Checked.{IsSound, left_below, Checked}
 use Rattle.grammar.proofs.FirstTokens.{nullable_law}
 use Rattle.grammar.proofs.Prefixes.{IsGood, good_rule}
 
-no_tokens : {K : Type 0} → (u : List K) → (u ≡ [] → ⊥) → 0 < length u
+pub no_tokens : {K : Type 0} → (u : List K) → (u ≡ [] → ⊥) → 0 < length u
 no_tokens [] h = absurd (h refl)
 no_tokens (t ∷ u) h = omega arith
 
@@ -51,11 +52,11 @@ module _ (L : Language) (G : Grammar L) (C : Checked L G) where
       agree (one_of is) ts r h l same = refl
       agree (part p) ts r h l same = (let below : G.rank p < r = lt_of (G.rank p) r l in same p ts (omega arith))
       agree (both a b) ts r h l same =
-          let c = and_true _ _ l in
+          let c = and_parts _ _ l in
           let e : read_with L G f a ts ≡ read_with L G g a ts = agree a ts r h.0 c.0 same in
           rw e (second a b ts r same (λ rest q m w. agree b rest q h.1 m w) (nullable L G a) refl c.1 (read_with L G g a ts) (good_rule L G C g good a h.0 ts))
       agree (either a b) ts r h l same =
-          let c = and_true _ _ l in
+          let c = and_parts _ _ l in
           let e : read_with L G f a ts ≡ read_with L G g a ts = agree a ts r h.0 c.0 same in
           let k : read_with L G f b ts ≡ read_with L G g b ts = agree b ts r h.1 c.1 same in
           rw (e, k) refl

@@ -1,22 +1,10 @@
 -- Tests of truth values, and what they say.
-use Rattle.std.proofs.Common.{◌≡◌, ℕ, ◌<◌, Bool, true, false, ◌⊎◌, inl, inr, ◌||◌, ◌&&◌, not, refl, cond, nat_lt, arith}
-
-pub and_true : (a b : Bool) → (a && b) ≡ true → (a ≡ true) × (b ≡ true)
-and_true true b e = (refl, e)
-and_true false b e = cc
+use Rattle.std.proofs.Common.{◌≡◌, ℕ, ◌<◌, Bool, true, false, ◌⊎◌, inl, inr, ◌||◌, ◌&&◌, refl, cond, nat_lt, arith}
 
 pub or_true : (a b : Bool) → (a ≡ true) ⊎ (b ≡ true) → (a || b) ≡ true
 or_true a b (inl e) = rw e refl
 or_true true b (inr e) = refl
 or_true false b (inr e) = e
-
-pub or_false : (a b : Bool) → (a || b) ≡ false → (a ≡ false) × (b ≡ false)
-or_false true b e = cc
-or_false false b e = (refl, e)
-
-pub not_true : (b : Bool) → not b ≡ true → b ≡ false
-not_true true e = cc
-not_true false e = refl
 
 abbrev pub implied : Bool → Bool → Bool
 implied true b = b

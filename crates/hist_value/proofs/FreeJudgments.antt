@@ -1,6 +1,7 @@
 -- What is judged of an expression depends on the types of its free names alone.
 use Rattle.std.proofs.Common.{◌≡◌, ℕ, ◌==◌, not, ◌&&◌, ◌||◌, refl, ap, ◌∙◌}
 use Rattle.std.specs.Prelude.{Option, Some, None}
+use Rattle.std.proofs.lemmas.Bool.{or_left, or_right}
 use Rattle.hist_value.specs.HistType.{HistType, unit_type, int_type, pair_type, sum_type, list_type}
 use Rattle.hist_value.specs.HistExpr.{HistExpr, variable, literal, unit_expr, reckoned, pair_expr, first_expr, second_expr, left_expr, right_expr, choice, nil_expr, cons_expr, fold_expr}
 use Rattle.bunch.specs.Names.{put}
@@ -8,7 +9,7 @@ use Rattle.hist_value.specs.Typing.{type_of_op}
 use Rattle.hist_value.specs.Judge.{Judged, good, bad, and_then, at_name, found, of_pair, of_sum, of_items, in_pair, in_sum, in_list, judge}
 use Rattle.hist_value.specs.FreeNames.{is_free}
 use Rattle.hist_value.specs.Laws.{JudgeOfFreeNames}
-use Rattle.hist_value.proofs.FreeValues.{Same, in_first, in_second, under, self_equal}
+use Rattle.hist_value.proofs.FreeValues.{Same, under, self_equal}
 
 -- the steps of a judgment, part by part
 then_same : (m n : Judged) (f g : HistType → Judged) → m ≡ n → ((t : HistType) → f t ≡ g t) → and_then m f ≡ and_then n g
@@ -61,14 +62,14 @@ same (variable x) p q h w = ap (λ o. and_then (at_name x o) (λ t. found w t)) 
 same (literal n) p q h w = refl
 same unit_expr p q h w = refl
 same (reckoned o a b) p q h w =
-    let ha : Same (λ z. is_free z a) p q = λ z k. h z (in_first (is_free z a) (is_free z b) k) in
-    let hb : Same (λ z. is_free z b) p q = λ z k. h z (in_second (is_free z a) (is_free z b) k) in
+    let ha : Same (λ z. is_free z a) p q = λ z k. h z (or_left (is_free z a) (is_free z b) k) in
+    let hb : Same (λ z. is_free z b) p q = λ z k. h z (or_right (is_free z a) (is_free z b) k) in
     then_same (found w (type_of_op o)) (found w (type_of_op o)) (λ t. and_then (judge p a (Some int_type)) (λ _. and_then (judge p b (Some int_type)) (λ _. good t))) (λ t. and_then (judge q a (Some int_type)) (λ _. and_then (judge q b (Some int_type)) (λ _. good t))) refl
     (λ t. then_same (judge p a (Some int_type)) (judge q a (Some int_type)) (λ _. and_then (judge p b (Some int_type)) (λ _. good t)) (λ _. and_then (judge q b (Some int_type)) (λ _. good t)) (same a p q ha (Some int_type))
     (λ _. ap (λ m. and_then m (λ _. good t)) (same b p q hb (Some int_type))))
 same (pair_expr a b) p q h w =
-    let ha : Same (λ z. is_free z a) p q = λ z k. h z (in_first (is_free z a) (is_free z b) k) in
-    let hb : Same (λ z. is_free z b) p q = λ z k. h z (in_second (is_free z a) (is_free z b) k) in
+    let ha : Same (λ z. is_free z a) p q = λ z k. h z (or_left (is_free z a) (is_free z b) k) in
+    let hb : Same (λ z. is_free z b) p q = λ z k. h z (or_right (is_free z a) (is_free z b) k) in
     of_pair-same w (λ s t. and_then (judge p a s) (λ u. and_then (judge p b t) (λ v. good (pair_type u v)))) (λ s t. and_then (judge q a s) (λ u. and_then (judge q b t) (λ v. good (pair_type u v))))
     (λ s t. then_same (judge p a s) (judge q a s) (λ u. and_then (judge p b t) (λ v. good (pair_type u v))) (λ u. and_then (judge q b t) (λ v. good (pair_type u v))) (same a p q ha s)
     (λ u. ap (λ m. and_then m (λ v. good (pair_type u v))) (same b p q hb t)))
@@ -81,9 +82,9 @@ same (right_expr a) p q h w =
     of_sum-same w (λ s t. and_then (judge p a (Some t)) (λ u. good (sum_type s u))) (λ s t. and_then (judge q a (Some t)) (λ u. good (sum_type s u)))
     (λ s t. ap (λ m. and_then m (λ u. good (sum_type s u))) (same a p q h (Some t)))
 same (choice a x b y c) p q h w =
-    let ha : Same (λ z. is_free z a) p q = λ z k. h z (in_first (is_free z a) ((not (z == x) && is_free z b) || (not (z == y) && is_free z c)) k) in
-    let hb : Same (λ z. not (z == x) && is_free z b) p q = λ z k. h z (in_second (is_free z a) ((not (z == x) && is_free z b) || (not (z == y) && is_free z c)) (in_first (not (z == x) && is_free z b) (not (z == y) && is_free z c) k)) in
-    let hc : Same (λ z. not (z == y) && is_free z c) p q = λ z k. h z (in_second (is_free z a) ((not (z == x) && is_free z b) || (not (z == y) && is_free z c)) (in_second (not (z == x) && is_free z b) (not (z == y) && is_free z c) k)) in
+    let ha : Same (λ z. is_free z a) p q = λ z k. h z (or_left (is_free z a) ((not (z == x) && is_free z b) || (not (z == y) && is_free z c)) k) in
+    let hb : Same (λ z. not (z == x) && is_free z b) p q = λ z k. h z (or_right (is_free z a) ((not (z == x) && is_free z b) || (not (z == y) && is_free z c)) (or_left (not (z == x) && is_free z b) (not (z == y) && is_free z c) k)) in
+    let hc : Same (λ z. not (z == y) && is_free z c) p q = λ z k. h z (or_right (is_free z a) ((not (z == x) && is_free z b) || (not (z == y) && is_free z c)) (or_right (not (z == x) && is_free z b) (not (z == y) && is_free z c) k)) in
     then_same (judge p a None) (judge q a None) (λ k. in_sum k (λ s t. and_then (judge (put x (Some s) p) b w) (λ r. judge (put y (Some t) p) c (Some r)))) (λ k. in_sum k (λ s t. and_then (judge (put x (Some s) q) b w) (λ r. judge (put y (Some t) q) c (Some r))))
     (same a p q ha None)
     (λ k. in_sum-same k (λ s t. and_then (judge (put x (Some s) p) b w) (λ r. judge (put y (Some t) p) c (Some r))) (λ s t. and_then (judge (put x (Some s) q) b w) (λ r. judge (put y (Some t) q) c (Some r)))
@@ -92,14 +93,14 @@ same (choice a x b y c) p q h w =
     (λ r. same c (put y (Some t) p) (put y (Some t) q) (under (λ z. is_free z c) y (Some t) p q hc) (Some r))))
 same nil_expr p q h w = refl
 same (cons_expr a b) p q h w =
-    let ha : Same (λ z. is_free z a) p q = λ z k. h z (in_first (is_free z a) (is_free z b) k) in
-    let hb : Same (λ z. is_free z b) p q = λ z k. h z (in_second (is_free z a) (is_free z b) k) in
+    let ha : Same (λ z. is_free z a) p q = λ z k. h z (or_left (is_free z a) (is_free z b) k) in
+    let hb : Same (λ z. is_free z b) p q = λ z k. h z (or_right (is_free z a) (is_free z b) k) in
     of_items-same w (λ s. and_then (judge p a s) (λ u. judge p b (Some (list_type u)))) (λ s. and_then (judge q a s) (λ u. judge q b (Some (list_type u))))
     (λ s. then_same (judge p a s) (judge q a s) (λ u. judge p b (Some (list_type u))) (λ u. judge q b (Some (list_type u))) (same a p q ha s) (λ u. same b p q hb (Some (list_type u))))
 same (fold_expr a i x y b) p q h w =
-    let ha : Same (λ z. is_free z a) p q = λ z k. h z (in_first (is_free z a) (is_free z i || (not (z == x) && (not (z == y) && is_free z b))) k) in
-    let hi : Same (λ z. is_free z i) p q = λ z k. h z (in_second (is_free z a) (is_free z i || (not (z == x) && (not (z == y) && is_free z b))) (in_first (is_free z i) (not (z == x) && (not (z == y) && is_free z b)) k)) in
-    let hb : Same (λ z. not (z == x) && (not (z == y) && is_free z b)) p q = λ z k. h z (in_second (is_free z a) (is_free z i || (not (z == x) && (not (z == y) && is_free z b))) (in_second (is_free z i) (not (z == x) && (not (z == y) && is_free z b)) k)) in
+    let ha : Same (λ z. is_free z a) p q = λ z k. h z (or_left (is_free z a) (is_free z i || (not (z == x) && (not (z == y) && is_free z b))) k) in
+    let hi : Same (λ z. is_free z i) p q = λ z k. h z (or_right (is_free z a) (is_free z i || (not (z == x) && (not (z == y) && is_free z b))) (or_left (is_free z i) (not (z == x) && (not (z == y) && is_free z b)) k)) in
+    let hb : Same (λ z. not (z == x) && (not (z == y) && is_free z b)) p q = λ z k. h z (or_right (is_free z a) (is_free z i || (not (z == x) && (not (z == y) && is_free z b))) (or_right (is_free z i) (not (z == x) && (not (z == y) && is_free z b)) k)) in
     then_same (judge p a None) (judge q a None) (λ k. in_list k (λ s. and_then (judge p i w) (λ r. judge (put y (Some s) (put x (Some r) p)) b (Some r)))) (λ k. in_list k (λ s. and_then (judge q i w) (λ r. judge (put y (Some s) (put x (Some r) q)) b (Some r))))
     (same a p q ha None)
     (λ k. in_list-same k (λ s. and_then (judge p i w) (λ r. judge (put y (Some s) (put x (Some r) p)) b (Some r))) (λ s. and_then (judge q i w) (λ r. judge (put y (Some s) (put x (Some r) q)) b (Some r)))

@@ -1,6 +1,7 @@
 -- The value of an expression depends on its free names alone.
 use Rattle.std.proofs.Common.{◌≡◌, ℕ, ◌==◌, Bool, true, false, not, ◌&&◌, ◌||◌, refl, ap, ap₂, ◌∙◌, arith}
 use Rattle.std.specs.Prelude.{if◌then◌else◌}
+use Rattle.std.proofs.lemmas.Bool.{or_left, or_right}
 use Rattle.hist_value.specs.HistValue.{HistValue, pair_of, left_of, right_of, item_before}
 use Rattle.hist_value.specs.HistExpr.{HistExpr, variable, literal, unit_expr, reckoned, pair_expr, first_expr, second_expr, left_expr, right_expr, choice, nil_expr, cons_expr, fold_expr}
 use Rattle.bunch.specs.Names.{put}
@@ -11,13 +12,6 @@ use Rattle.hist_value.specs.Laws.{ValueOfFreeNames}
 -- where the test holds, the two environments have the same
 abbrev pub Same : {A : Type 0} → (ℕ → Bool) → (ℕ → A) → (ℕ → A) → Type 0
 Same test p q = (z : ℕ) → test z ≡ true → p z ≡ q z
-
-pub in_first : (a b : Bool) → a ≡ true → (a || b) ≡ true
-in_first a b h = ap (λ c. c || b) h
-
-pub in_second : (a b : Bool) → b ≡ true → (a || b) ≡ true
-in_second true b h = refl
-in_second false b h = h
 
 -- under a bound name
 pick : {A : Type 0} (b c : Bool) (v p q : A) → ((not b && c) ≡ true → p ≡ q) → c ≡ true → (if b then v else p) ≡ (if b then v else q)
@@ -43,26 +37,26 @@ same : (e : HistExpr) (p q : ℕ → HistValue) → Same (λ z. is_free z e) p q
 same (variable x) p q h = h x (self_equal x)
 same (literal n) p q h = refl
 same unit_expr p q h = refl
-same (reckoned o a b) p q h = ap₂ (reckon_values o) (same a p q (λ z k. h z (in_first (is_free z a) (is_free z b) k))) (same b p q (λ z k. h z (in_second (is_free z a) (is_free z b) k)))
-same (pair_expr a b) p q h = ap₂ pair_of (same a p q (λ z k. h z (in_first (is_free z a) (is_free z b) k))) (same b p q (λ z k. h z (in_second (is_free z a) (is_free z b) k)))
+same (reckoned o a b) p q h = ap₂ (reckon_values o) (same a p q (λ z k. h z (or_left (is_free z a) (is_free z b) k))) (same b p q (λ z k. h z (or_right (is_free z a) (is_free z b) k)))
+same (pair_expr a b) p q h = ap₂ pair_of (same a p q (λ z k. h z (or_left (is_free z a) (is_free z b) k))) (same b p q (λ z k. h z (or_right (is_free z a) (is_free z b) k)))
 same (first_expr a) p q h = ap first_of (same a p q h)
 same (second_expr a) p q h = ap second_of (same a p q h)
 same (left_expr a) p q h = ap left_of (same a p q h)
 same (right_expr a) p q h = ap right_of (same a p q h)
 same (choice a x b y c) p q h =
-    let ha : Same (λ z. is_free z a) p q = λ z k. h z (in_first (is_free z a) ((not (z == x) && is_free z b) || (not (z == y) && is_free z c)) k) in
-    let hb : Same (λ z. not (z == x) && is_free z b) p q = λ z k. h z (in_second (is_free z a) ((not (z == x) && is_free z b) || (not (z == y) && is_free z c)) (in_first (not (z == x) && is_free z b) (not (z == y) && is_free z c) k)) in
-    let hc : Same (λ z. not (z == y) && is_free z c) p q = λ z k. h z (in_second (is_free z a) ((not (z == x) && is_free z b) || (not (z == y) && is_free z c)) (in_second (not (z == x) && is_free z b) (not (z == y) && is_free z c) k)) in
+    let ha : Same (λ z. is_free z a) p q = λ z k. h z (or_left (is_free z a) ((not (z == x) && is_free z b) || (not (z == y) && is_free z c)) k) in
+    let hb : Same (λ z. not (z == x) && is_free z b) p q = λ z k. h z (or_right (is_free z a) ((not (z == x) && is_free z b) || (not (z == y) && is_free z c)) (or_left (not (z == x) && is_free z b) (not (z == y) && is_free z c) k)) in
+    let hc : Same (λ z. not (z == y) && is_free z c) p q = λ z k. h z (or_right (is_free z a) ((not (z == x) && is_free z b) || (not (z == y) && is_free z c)) (or_right (not (z == x) && is_free z b) (not (z == y) && is_free z c) k)) in
     ap (choose (λ v. value b (put x v p)) (λ v. value c (put y v p))) (same a p q ha)
     ∙ choose-same (λ v. value b (put x v p)) (λ v. value b (put x v q)) (λ v. value c (put y v p)) (λ v. value c (put y v q)) (value a q)
     (λ w. same b (put x w p) (put x w q) (under (λ z. is_free z b) x w p q hb))
     (λ w. same c (put y w p) (put y w q) (under (λ z. is_free z c) y w p q hc))
 same nil_expr p q h = refl
-same (cons_expr a b) p q h = ap₂ cons_of (same a p q (λ z k. h z (in_first (is_free z a) (is_free z b) k))) (same b p q (λ z k. h z (in_second (is_free z a) (is_free z b) k)))
+same (cons_expr a b) p q h = ap₂ cons_of (same a p q (λ z k. h z (or_left (is_free z a) (is_free z b) k))) (same b p q (λ z k. h z (or_right (is_free z a) (is_free z b) k)))
 same (fold_expr a s x y b) p q h =
-    let ha : Same (λ z. is_free z a) p q = λ z k. h z (in_first (is_free z a) (is_free z s || (not (z == x) && (not (z == y) && is_free z b))) k) in
-    let hs : Same (λ z. is_free z s) p q = λ z k. h z (in_second (is_free z a) (is_free z s || (not (z == x) && (not (z == y) && is_free z b))) (in_first (is_free z s) (not (z == x) && (not (z == y) && is_free z b)) k)) in
-    let hb : Same (λ z. not (z == x) && (not (z == y) && is_free z b)) p q = λ z k. h z (in_second (is_free z a) (is_free z s || (not (z == x) && (not (z == y) && is_free z b))) (in_second (is_free z s) (not (z == x) && (not (z == y) && is_free z b)) k)) in
+    let ha : Same (λ z. is_free z a) p q = λ z k. h z (or_left (is_free z a) (is_free z s || (not (z == x) && (not (z == y) && is_free z b))) k) in
+    let hs : Same (λ z. is_free z s) p q = λ z k. h z (or_right (is_free z a) (is_free z s || (not (z == x) && (not (z == y) && is_free z b))) (or_left (is_free z s) (not (z == x) && (not (z == y) && is_free z b)) k)) in
+    let hb : Same (λ z. not (z == x) && (not (z == y) && is_free z b)) p q = λ z k. h z (or_right (is_free z a) (is_free z s || (not (z == x) && (not (z == y) && is_free z b))) (or_right (is_free z s) (not (z == x) && (not (z == y) && is_free z b)) k)) in
     ap₂ (gather (λ g v. value b (put y v (put x g p)))) (same s p q hs) (same a p q ha)
     ∙ gather-same (λ g v. value b (put y v (put x g p))) (λ g v. value b (put y v (put x g q)))
     (λ g v. same b (put y v (put x g p)) (put y v (put x g q)) (under (λ z. is_free z b) y v (put x g p) (put x g q) (under (λ z. not (z == y) && is_free z b) x g p q hb)))

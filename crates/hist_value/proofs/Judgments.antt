@@ -1,22 +1,14 @@
 -- An expression is judged to have a type exactly where the rules give it that type.
-use Rattle.std.proofs.Common.{◌≡◌, ℕ, Bool, true, false, refl, sym, ap, ap₂, ◌∙◌, subst, ◌&&◌}
+use Rattle.std.proofs.Common.{◌≡◌, ℕ, Bool, true, false, refl, sym, ap, ap₂, ◌∙◌, subst}
 use Rattle.std.specs.Prelude.{Option, Some, None, if◌then◌else◌, ⊤}
 use Rattle.hist_value.specs.HistType.{HistType, unit_type, int_type, pair_type, sum_type, list_type, same_type}
 use Rattle.hist_value.specs.HistExpr.{HistExpr, variable, literal, unit_expr, reckoned, pair_expr, first_expr, second_expr, left_expr, right_expr, choice, nil_expr, cons_expr, fold_expr}
 use Rattle.bunch.specs.Names.{put}
+use Rattle.bunch.proofs.Tests.{and_first, and_second}
 use Rattle.hist_value.specs.Typing.{type_of_op, Agrees, Gives, gives_variable, gives_literal, gives_unit, gives_reckoned, gives_pair, gives_wanted_pair, gives_first, gives_second, gives_left, gives_right, gives_choice, gives_nil, gives_cons, gives_wanted_cons, gives_fold}
 use Rattle.hist_value.specs.Refusal.{HistRefusal, mismatch}
 use Rattle.hist_value.specs.Judge.{Judged, good, bad, and_then, at_name, found, in_pair, in_sum, in_list, judge}
 use Rattle.hist_value.specs.Laws.{JudgeIsGives, GivesAtMostOne, GivesWhatIsWanted}
-
--- the test of types
-first : (a b : Bool) → (a && b) ≡ true → a ≡ true
-first true b h = refl
-first false b h = h
-
-second : (a b : Bool) → (a && b) ≡ true → b ≡ true
-second true b h = h
-second false b h = absurd (cc h)
 
 pub same_type_itself : (t : HistType) → same_type t t ≡ true
 same_type_itself unit_type = refl
@@ -28,8 +20,8 @@ same_type_itself (list_type s) = same_type_itself s
 pub same_type_is : (s t : HistType) → same_type s t ≡ true → s ≡ t
 same_type_is unit_type unit_type h = refl
 same_type_is int_type int_type h = refl
-same_type_is (pair_type s t) (pair_type u v) h = ap₂ pair_type (same_type_is s u (first (same_type s u) (same_type t v) h)) (same_type_is t v (second (same_type s u) (same_type t v) h))
-same_type_is (sum_type s t) (sum_type u v) h = ap₂ sum_type (same_type_is s u (first (same_type s u) (same_type t v) h)) (same_type_is t v (second (same_type s u) (same_type t v) h))
+same_type_is (pair_type s t) (pair_type u v) h = ap₂ pair_type (same_type_is s u (and_first (same_type s u) (same_type t v) h)) (same_type_is t v (and_second (same_type s u) (same_type t v) h))
+same_type_is (sum_type s t) (sum_type u v) h = ap₂ sum_type (same_type_is s u (and_first (same_type s u) (same_type t v) h)) (same_type_is t v (and_second (same_type s u) (same_type t v) h))
 same_type_is (list_type s) (list_type u) h = ap list_type (same_type_is s u h)
 same_type_is _ _ h = absurd (cc h)
 

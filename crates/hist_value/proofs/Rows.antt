@@ -10,7 +10,7 @@ use Rattle.hist_value.specs.HistType.{HistType, list_type}
 use Rattle.hist_value.specs.HistValue.{HistValue, HasType, hist_value_of, row_of, list_of}
 
 -- what a row of trees stands for, item by item
-row_of-list : (m : Count) (k : Row_of-Value m) → row_of k ≡ map hist_value_of (items-the_row-Value m k)
+pub row_of-list : (m : Count) (k : Row_of-Value m) → row_of k ≡ map hist_value_of (items-the_row-Value m k)
 row_of-list m end_of-Value = refl
 row_of-list m (more_of-Value p k) = cc (row_of-list _ k)
 

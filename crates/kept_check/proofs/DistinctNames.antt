@@ -1,33 +1,21 @@
 -- Names that are distinct, gone through in turn.
-use Rattle.std.proofs.Common.{◌≡◌, ◌∙◌, ◌<◌, ◌+◌, ℕ, Bool, true, false, true≢false, ◌&&◌, ◌||◌, not, eqb, List, [], ◌∷◌, ◌++◌, length, get_or, take, drop, refl, ap, ap₂, sym}
-use Rattle.std.proofs.lemmas.Bool.{eqb-true}
+use Rattle.std.proofs.Common.{◌≡◌, ◌∙◌, ◌<◌, ◌+◌, ℕ, Bool, true, false, List, [], ◌∷◌, ◌++◌, length, get_or, take, drop, refl, ap, ap₂, sym}
 use Rattle.std.proofs.lemmas.List.{at_drop_more, take-append-drop, take-map, take_more, length-map}
 use Rattle.std.proofs.Math.Seq.{take-append_seam}
 use Rattle.bunch.specs.declared.name.Name.{Name}
 use Rattle.bunch.specs.Names.{holds, number_of, numbers_of}
-use Rattle.bunch.proofs.NameLists.{holds-append, numbers_of-append}
+use Rattle.bunch.proofs.NameLists.{numbers_of-append}
 use Rattle.core_term.specs.FreeNames.{is_distinct}
 use Rattle.core_term.proofs.Sides.{holds-head}
 use Rattle.core_term.proofs.BoundOnce.{distinct_apart}
-
--- a name that isn't among distinct ones, behind them
-distinct_behind : (xs : List ℕ) (y : ℕ) → is_distinct xs ≡ true → holds y xs ≡ false → is_distinct (xs ++ y ∷ []) ≡ true
-distinct_behind [] y d f = refl
-distinct_behind (x ∷ xs) y d f = go (holds x xs) (eqb y x) (eqb x y) refl refl refl d f (distinct_behind xs y)
-  where
-    go : (a b c : Bool) → holds x xs ≡ a → eqb y x ≡ b → eqb x y ≡ c → (not a && is_distinct xs) ≡ true → (b || holds y xs) ≡ false → (is_distinct xs ≡ true → holds y xs ≡ false → is_distinct (xs ++ y ∷ []) ≡ true)
-        → (not (holds x (xs ++ y ∷ [])) && is_distinct (xs ++ y ∷ [])) ≡ true
-    go true b c p q r d f ih = absurd (true≢false (sym d))
-    go false true c p q r d f ih = absurd (true≢false f)
-    go false false true p q r d f ih = absurd (true≢false (sym r ∙ sym (ap₂ eqb (sym (eqb-true x y r)) (eqb-true x y r)) ∙ q))
-    go false false false p q r d f ih = ap (λ b. not b && is_distinct (xs ++ y ∷ [])) (holds-append x xs (y ∷ []) ∙ ap (λ b. b || (eqb x y || false)) p ∙ ap (λ b. b || false) r) ∙ ih d f
+use Rattle.state_steps.proofs.HeldForms.{distinct-last}
 
 module _ (names : List Name) (i : ℕ) (d : Name) (h : i < length names) where
   -- a name more that isn't among those so far
   pub still_distinct : is_distinct (numbers_of (take i names)) ≡ true → holds (get_or names i d).0 (numbers_of (take i names)) ≡ false → is_distinct (numbers_of (take (i + 1) names)) ≡ true
   still_distinct e f =
       ap (λ l. is_distinct (numbers_of l)) (take_more names i d h) ∙ ap is_distinct (numbers_of-append (take i names) (get_or names i d ∷ []))
-      ∙ distinct_behind (numbers_of (take i names)) (get_or names i d).0 e f
+      ∙ distinct-last (numbers_of (take i names)) (get_or names i d).0 e f
 
   -- or is
   pub not_distinct : holds (get_or names i d).0 (numbers_of (take i names)) ≡ true → is_distinct (numbers_of names) ≡ false

@@ -11,6 +11,7 @@ use Rattle.delta_state.specs.StateTree.{free_in_state, free_in_arguments}
 use Rattle.delta_keep.specs.declared.kept.Argument.{Argument}
 use Rattle.delta_keep.specs.KeptView.{state_of, arguments_from}
 use Rattle.kept_check.specs.Free.{HasNames, without_all}
+use Rattle.delta_check.proofs.Once.{and_true}
 
 less_one : (h e : Bool) → e ≡ true → (h && not e) ≡ not e
 less_one true e i = refl
@@ -27,10 +28,6 @@ holds-without x y (z ∷ zs) = go (eqb z y) (eqb x z) refl refl (holds-without x
     go true false e f ih = ih
     go false true e f ih = ap (λ c. c || holds x (without y zs)) f ∙ sym (ap not (ap (λ w. eqb w y) (eqb-true x z f) ∙ e))
     go false false e f ih = ap (λ c. c || holds x (without y zs)) f ∙ ih
-
-and_true : (h : Bool) → h ≡ (h && true)
-and_true true = refl
-and_true false = refl
 
 less_both : (h a b : Bool) → ((h && not b) && not a) ≡ (h && not (a || b))
 less_both false a b = refl

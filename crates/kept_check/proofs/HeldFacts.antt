@@ -11,11 +11,13 @@ use Rattle.stream_prefix.specs.Tree.{prefix_of, end_of, star_of}
 use Rattle.bunch.specs.declared.name.Name.{Name}
 use Rattle.bunch.specs.Names.{holds, numbers_of}
 use Rattle.bunch.specs.Facts.{Facts}
+use Rattle.bunch.proofs.Tests.{and_none}
 use Rattle.delta_check.specs.Scopes.{facts_given}
 use Rattle.delta_state.specs.StateTree.{HeldName, held_names}
 use Rattle.delta_state.specs.StateTyping.{is_empty, facts_held}
 use Rattle.delta_state.specs.Settled.{has_tag}
 use Rattle.kept_check.specs.Holding.{stays_before}
+use Rattle.core_term.proofs.OnceEach.{or_false}
 
 -- a star with an item has begun
 pub begun : (ps : List Prefix) (e : StarEnd) → 1 ≤ length ps → true ≡ has_tag (star_of (map prefix_of ps) (end_of e))
@@ -28,14 +30,6 @@ not_begun [] Emp = refl
 not_begun [] Done = refl
 not_begun [] (First' x p) = refl
 not_begun (p ∷ ps) e = refl
-
-or_false : (b : Bool) → (b || false) ≡ b
-or_false true = refl
-or_false false = refl
-
-and_false : (b : Bool) → (b && false) ≡ false
-and_false true = refl
-and_false false = refl
 
 and_assoc : (a b c : Bool) → ((a && b) && c) ≡ (a && (b && c))
 and_assoc true b c = refl
@@ -54,7 +48,7 @@ one_more fs gs x y u v d e k =
     and_true false = refl
 
 pub no_more : (a b c d : Bool) → d ≡ false → a ≡ (a || (b && (c && d)))
-no_more a b c d k = sym (ap (λ e. a || (b && (c && e))) k ∙ (ap (λ e. a || (b && e)) (and_false c) ∙ (ap (λ e. a || e) (and_false b) ∙ or_false a)))
+no_more a b c d k = sym (ap (λ e. a || (b && (c && e))) k ∙ (ap (λ e. a || (b && e)) (and_none c) ∙ (ap (λ e. a || e) (and_none b) ∙ or_false a)))
 
 -- one more of several ways to a fact
 with_one : (f e r x y : Bool) → (e ≡ true → y ≡ x) → ((f || (e && y)) || (r && x)) ≡ (f || ((e || r) && x))
@@ -108,4 +102,4 @@ pub all_facts : (f g b : Bool) (names : List Name) (i u : ℕ) → length names 
 all_facts f g b names i u h k = sym (ap (λ (l : List Name). f || (holds u (numbers_of l) && b)) (drop_all i names h) ∙ or_false f) ∙ k
 
 pub all_named : (f g b d : Bool) (names : List Name) (i v : ℕ) → length names ≤ i → (f || (b && (holds v (numbers_of (drop i names)) && d))) ≡ g → f ≡ g
-all_named f g b d names i v h k = sym (ap (λ (l : List Name). f || (b && (holds v (numbers_of l) && d))) (drop_all i names h) ∙ (ap (λ e. f || e) (and_false b) ∙ or_false f)) ∙ k
+all_named f g b d names i v h k = sym (ap (λ (l : List Name). f || (b && (holds v (numbers_of l) && d))) (drop_all i names h) ∙ (ap (λ e. f || e) (and_none b) ∙ or_false f)) ∙ k

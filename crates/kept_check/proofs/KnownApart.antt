@@ -1,6 +1,6 @@
 -- Names that a form binds for code, beside the values of the code, whose names are others.
 use mathlib.Core.Path.{fun_ext}
-use Rattle.std.proofs.Common.{◌≡◌, ◌∙◌, ℕ, Bool, true, false, true≢false, ◌||◌, eqb, if◌then◌else◌, List, [], ◌∷◌, refl, ap, sym}
+use Rattle.std.proofs.Common.{◌≡◌, ◌∙◌, ℕ, Bool, true, false, true≢false, eqb, if◌then◌else◌, List, [], ◌∷◌, refl, ap, sym}
 use Rattle.std.specs.Prelude.{Some, None}
 use Rattle.std.proofs.lemmas.Bool.{eqb-true}
 use Rattle.stream_type.specs.StreamType.{StreamType}
@@ -10,6 +10,7 @@ use Rattle.core_term.specs.FreeNames.{bound_names}
 use Rattle.core_term.specs.Typing.{Context, with_name_like, with_fact, with_parts}
 use Rattle.core_term.proofs.Sides.{holds-head, holds-left, holds-right}
 use Rattle.bunch.specs.Facts.{place_like}
+use Rattle.bunch.proofs.Tests.{or_false_left, or_false_right}
 use Rattle.delta_state.specs.StateTree.{Known, LaterTree}
 use Rattle.delta_state.specs.StateTyping.{with_known, with_past}
 use Rattle.kept_state.specs.KeptNames.{known_names, IsPastApart}
@@ -24,21 +25,13 @@ swapped x y u v p n = fun_ext (λ w. go w (eqb w x) (eqb w y) refl refl)
     go w false true e f = refl
     go w false false e f = refl
 
-or_first : (a b : Bool) → (a || b) ≡ false → a ≡ false
-or_first true b h = absurd (true≢false h)
-or_first false b h = refl
-
-or_second : (a b : Bool) → (a || b) ≡ false → b ≡ false
-or_second true b h = absurd (true≢false h)
-or_second false b h = h
-
 -- what binds a name, before values or behind them
 module _ (x : ℕ) (F : Context → Context) (one : (y : ℕ) (t : StreamType) (d : Context) → eqb x y ≡ false → F (with_known y t d) ≡ with_known y t (F d)) where
   moved : (es : List Known) (c : Context) → holds x (known_names es) ≡ false → F (with_past es c) ≡ with_past es (F c)
   moved [] c h = refl
   moved (e ∷ es) c h =
-      one e.name e.type (with_past es c) (or_first (eqb x e.name) (holds x (known_names es)) h)
-      ∙ ap (with_known e.name e.type) (moved es c (or_second (eqb x e.name) (holds x (known_names es)) h))
+      one e.name e.type (with_past es c) (or_false_left (eqb x e.name) (holds x (known_names es)) h)
+      ∙ ap (with_known e.name e.type) (moved es c (or_false_right (eqb x e.name) (holds x (known_names es)) h))
 
 like_moved : (x : ℕ) (s : StreamType) (z : ℕ) (es : List Known) (c : Context) → holds x (known_names es) ≡ false → with_name_like x s z (with_past es c) ≡ with_past es (with_name_like x s z c)
 like_moved x s z = moved x (with_name_like x s z)

@@ -3,6 +3,7 @@ use Rattle.std.proofs.Common.{◌≡◌, ◌∙◌, ◌↔◌, ◌≤◌, ℕ, B
 use Rattle.std.specs.Prelude.{Result, IfOk}
 use Rattle.std.specs.List.{All, list_all}
 use Rattle.std.proofs.lemmas.Result.{IfOk-weaker}
+use Rattle.std.proofs.lemmas.Bool.{or_parts}
 use Rattle.stream_type.specs.StreamType.{StreamType}
 use Rattle.bunch.specs.Names.{holds}
 use Rattle.bunch.proofs.NameLists.{holds-append}
@@ -22,10 +23,6 @@ use Rattle.kept_state.specs.KeptNames.{known_names, IsPastApart}
 use Rattle.kept_rules.specs.StateRules.{IsGoodLater}
 use Rattle.kept_check.specs.Laters.{IsFitLater}
 use Rattle.kept_check.proofs.SameNames.{apart_at, apart_of}
-
-or_both : (a b : Bool) → (a || b) ≡ false → (a ≡ false) × (b ≡ false)
-or_both true b h = absurd (true≢false h)
-or_both false b h = (refl, h)
 
 neither : {a b : Bool} → a ≡ false → b ≡ false → (a || b) ≡ false
 neither {b = b} h k = ap (λ c. c || b) h ∙ k
@@ -85,7 +82,7 @@ module _ (others : List ℕ) (l : LaterTree) (names : List ℕ) (e : names ≡ k
       at t x i = apart_at names taken (sym h ∙ t) x (ap (holds x) e ∙ i)
 
       both : (x : ℕ) → holds x taken ≡ false → (holds x (once (free_names l.term)) ≡ false) × (holds x (others ++ bound_names l.term) ≡ false)
-      both x n = or_both (holds x (once (free_names l.term))) (holds x (others ++ bound_names l.term)) (sym (holds-append x (once (free_names l.term)) (others ++ bound_names l.term)) ∙ sym (ap (holds x) w) ∙ n)
+      both x n = or_parts (holds x (once (free_names l.term))) (holds x (others ++ bound_names l.term)) (sym (holds-append x (once (free_names l.term)) (others ++ bound_names l.term)) ∙ sym (ap (holds x) w) ∙ n)
 
 -- a term that is found to have no type has none
 denies : (f : TypeFault) (P : Type 0) → Denies f P → (f ≡ Memory → ⊥) → P → ⊥

@@ -1,19 +1,16 @@
 -- Where the name of a let is placed, from its free names as they were found.
 use mathlib.Core.Path.{fun_ext}
-use Rattle.std.proofs.Common.{◌≡◌, ◌∙◌, ℕ, Bool, true, false, ◌&&◌, List, refl, ap, ap₂}
-use Rattle.std.specs.Prelude.{Result, Ok, Err, IfOk, if◌then◌else◌, ◌==◌}
+use Rattle.std.proofs.Common.{◌≡◌, ◌∙◌, ℕ, Bool, true, ◌&&◌, List, refl, ap, ap₂}
+use Rattle.std.specs.Prelude.{Result, Ok, Err, IfOk, ◌==◌}
 use Rattle.std.specs.List.{list_all}
 use Rattle.bunch.specs.declared.name.Name.{Name}
 use Rattle.bunch.specs.Facts.{Facts, before_let, after_let, place_let}
 use Rattle.bunch.specs.Names.{numbers_of}
 use Rattle.delta_check.specs.declared.scope.Placed.{Placed}
 use Rattle.delta_check.specs.Scopes.{known_at, before_by, after_by, IsKnown, place_known}
+use Rattle.delta_check.proofs.Known.{choose}
 use Rattle.kept_check.specs.Free.{HasNames}
 use Rattle.kept_check.proofs.ParameterFacts.{same_list}
-
-choose : {A : Type 0} (c : Bool) (a b d e : A) → a ≡ d → b ≡ e → (if c then a else b) ≡ (if c then d else e)
-choose true a b d e h k = h
-choose false a b d e h k = k
 
 -- what is known says what the free names say
 known_placed : (x : ℕ) (p : Placed) (names : List ℕ) (inert : Bool) (before : Facts) → numbers_of p.free.items ≡ names → p.inert ≡ inert → IsKnown p.known.items names inert before

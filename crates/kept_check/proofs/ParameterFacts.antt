@@ -3,7 +3,7 @@ use mathlib.Core.Path.{fun_ext}
 use Rattle.std.proofs.Common.{◌≡◌, ◌∙◌, ℕ, ◌+◌, ◌<◌, ◌≤◌, Bool, true, false, true≢false, ◌&&◌, ◌||◌, not, if◌then◌else◌, List, [], ◌∷◌, ◌++◌, map, length, get_or, take, drop, refl, ap, ap₂, sym}
 use Rattle.std.specs.Prelude.{Option, Some, IsTrue, ◌↔◌, ◌==◌}
 use Rattle.std.specs.List.{list_all}
-use Rattle.std.proofs.lemmas.Bool.{eqb-true}
+use Rattle.std.proofs.lemmas.Bool.{eqb-true, not-true}
 use Rattle.std.proofs.lemmas.List.{drop_all, drop_more, take_all}
 use Rattle.std.proofs.lemmas.List.Folds.{list_any-append}
 use Rattle.stream_type.specs.declared.ty.Ty.{Ty}
@@ -11,11 +11,14 @@ use Rattle.stream_type.specs.StreamType.{StreamType, type_of}
 use Rattle.bunch.specs.declared.name.Name.{Name}
 use Rattle.bunch.specs.Facts.{Facts}
 use Rattle.bunch.specs.Names.{numbers_of, holds}
+use Rattle.bunch.proofs.Tests.{and_first, and_second, or_assoc}
 use Rattle.core_term.specs.CoreTerm.{typed_names_of}
 use Rattle.core_term.specs.FreeNames.{is_distinct}
 use Rattle.core_term.specs.Typing.{Context, is_before, AllBefore}
-use Rattle.core_term.proofs.Sides.{and_first, and_second, all-holds, holds-all}
+use Rattle.core_term.proofs.Sides.{all-holds, holds-all}
+use Rattle.core_term.proofs.OnceEach.{or_false}
 use Rattle.delta_check.specs.Scopes.{given_at, facts_given, context_given}
+use Rattle.delta_check.proofs.Once.{and_assoc}
 use Rattle.delta_state.specs.StateTree.{StateTree, ArgumentTrees, no_arguments, argument_before, argument_names, argument_at, free_in_state}
 use Rattle.delta_state.specs.StateTyping.{marks_of_arguments, facts_of_arguments, context_of_arguments, no_pasts}
 use Rattle.delta_keep.specs.declared.kept.Argument.{Argument}
@@ -76,13 +79,9 @@ behind_found c found xs args y k =
     some_same (λ s. are_before c (numbers_of found) (free_in_state s)) (λ s. are_before c xs (free_in_state s)) args y
     (λ s. before_same c (numbers_of found) (free_in_state s) xs (free_in_state s) k (λ z. refl))
 
-or_none : (b : Bool) → (b || false) ≡ b
-or_none true = refl
-or_none false = refl
-
 -- one more fact
 facts_more : (fs : List (Name × Name)) (u v : Name) (x y : ℕ) → facts_given (fs ++ (u, v) ∷ []) x y ≡ (facts_given fs x y || ((x == u.0) && (y == v.0)))
-facts_more fs u v x y = list_any-append _ fs ((u, v) ∷ []) ∙ ap (λ b. facts_given fs x y || b) (or_none ((x == u.0) && (y == v.0)))
+facts_more fs u v x y = list_any-append _ fs ((u, v) ∷ []) ∙ ap (λ b. facts_given fs x y || b) (or_false ((x == u.0) && (y == v.0)))
 
 -- it says what the test of the next argument says
 fact_put : (f a b r : Bool) → ((f || (a && b)) || (a && r)) ≡ (f || (a && ((b && true) || r)))
@@ -96,11 +95,6 @@ fact_left : (f a b r : Bool) → (f || (a && r)) ≡ (f || (a && ((b && false) |
 fact_left f a true r = refl
 fact_left f a false r = refl
 
--- the facts of one parameter more
-row_put : (f g r : Bool) → ((f || g) || r) ≡ (f || (g || r))
-row_put true g r = refl
-row_put false g r = refl
-
 -- where no parameter stands twice, the one with a name is the first
 not_there : (p : StateTree → Bool) (args : ArgumentTrees) (x : ℕ) → holds x (argument_names args) ≡ false → some_argument p args x ≡ false
 not_there p no_arguments x h = refl
@@ -110,10 +104,6 @@ not_there p (argument_before u t s args) x h = go (x == u) (not_there p args x) 
     go true f i = absurd (true≢false i)
     go false f i = f i
 
-not_true : (b : Bool) → not b ≡ true → b ≡ false
-not_true true h = absurd (true≢false (sym h))
-not_true false h = refl
-
 some_is : (p : StateTree → Bool) (args : ArgumentTrees) (x : ℕ) → is_distinct (argument_names args) ≡ true → some_argument p args x ≡ (holds x (argument_names args) && p (argument_at args x))
 some_is p no_arguments x d = refl
 some_is p (argument_before u t s args) x d = go (x == u) refl (some_is p args x (and_second (not (holds u (argument_names args))) (is_distinct (argument_names args)) d))
@@ -122,7 +112,7 @@ some_is p (argument_before u t s args) x d = go (x == u) refl (some_is p args x 
     rest = some_argument p args x
 
     alone : x ≡ u → rest ≡ false
-    alone e = not_there p args x (ap (λ z. holds z (argument_names args)) e ∙ not_true (holds u (argument_names args)) (and_first (not (holds u (argument_names args))) (is_distinct (argument_names args)) d))
+    alone e = not_there p args x (ap (λ z. holds z (argument_names args)) e ∙ not-true (holds u (argument_names args)) (and_first (not (holds u (argument_names args))) (is_distinct (argument_names args)) d))
 
     or_not : (a r : Bool) → r ≡ false → (a || r) ≡ a
     or_not true r e = refl
@@ -131,10 +121,6 @@ some_is p (argument_before u t s args) x d = go (x == u) refl (some_is p args x 
     go : (b : Bool) → (x == u) ≡ b → rest ≡ (holds x (argument_names args) && p (argument_at args x)) → ((b && p s) || rest) ≡ ((b || holds x (argument_names args)) && p (if b then s else argument_at args x))
     go true e f = or_not (p s) rest (alone (eqb-true x u e))
     go false e f = f
-
-and_assoc : (a b d : Bool) → (a && (b && d)) ≡ ((a && b) && d)
-and_assoc true b d = refl
-and_assoc false b d = refl
 
 -- so the facts of all parameters are those of the called body
 order_is : (c : Context) (args : ArgumentTrees) (x y : ℕ) → is_distinct (argument_names args) ≡ true → are_in_order c args args x y ≡ facts_of_arguments c args x y
@@ -156,7 +142,7 @@ order_more c args i a found before after all l e n step left x y =
     let whole = arguments_from args in
     let more = are_in_order c (arguments_from (drop (i + 1) args)) whole x y in
     ap (λ b. b || more) (step x y ∙ ap (λ b. before x y || ((x == a.name.0) && b)) (behind_found c found (free_in_state (state_of a.state.value)) whole y n))
-    ∙ row_put (before x y) ((x == a.name.0) && are_behind c (free_in_state (state_of a.state.value)) whole y) more
+    ∙ or_assoc (before x y) ((x == a.name.0) && are_behind c (free_in_state (state_of a.state.value)) whole y) more
     ∙ ap (λ rest. before x y || are_in_order c (arguments_from rest) whole x y) (sym (next_argument args i a l e))
     ∙ left x y
 
@@ -165,7 +151,7 @@ pub order_whole : (c : Context) (args : List Argument) (i : ℕ) (facts : Facts)
     → ((x y : ℕ) → (facts x y || are_in_order c (arguments_from (drop i args)) (arguments_from args) x y) ≡ are_in_order c (arguments_from args) (arguments_from args) x y)
     → (x y : ℕ) → facts x y ≡ facts_of_arguments c (arguments_from args) x y
 order_whole c args i facts l d left x y =
-    sym (or_none (facts x y)) ∙ ap (λ rest. facts x y || are_in_order c (arguments_from rest) (arguments_from args) x y) (sym (drop_all i args l)) ∙ left x y
+    sym (or_false (facts x y)) ∙ ap (λ rest. facts x y || are_in_order c (arguments_from rest) (arguments_from args) x y) (sym (drop_all i args l)) ∙ left x y
     ∙ order_is c (arguments_from args) x y d
 
 -- with the fact of the next argument, those of the ones behind it are left
@@ -198,7 +184,7 @@ row_else c u xs args i a fs all b l e t h left x y =
 pub row_whole : (c : Context) (u : Name) (xs : List ℕ) (args : List Argument) (i : ℕ) (fs : List (Name × Name)) (all : Facts) → length args ≤ i
     → ((x y : ℕ) → (facts_given fs x y || ((x == u.0) && are_behind c xs (arguments_from (drop i args)) y)) ≡ all x y) → (x y : ℕ) → facts_given fs x y ≡ all x y
 row_whole c u xs args i fs all l left x y =
-    sym (or_none (facts_given fs x y)) ∙ ap (λ b. facts_given fs x y || b) (sym (and_none (x == u.0)))
+    sym (or_false (facts_given fs x y)) ∙ ap (λ b. facts_given fs x y || b) (sym (and_none (x == u.0)))
     ∙ ap (λ rest. facts_given fs x y || ((x == u.0) && are_behind c xs (arguments_from rest) y)) (sym (drop_all i args l)) ∙ left x y
   where
     and_none : (b : Bool) → (b && false) ≡ false

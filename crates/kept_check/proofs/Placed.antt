@@ -4,14 +4,14 @@ use Rattle.std.specs.Prelude.{Some, None, IsTrue, ◌↔◌, option_map, ◌==�
 use Rattle.std.specs.List.{list_all}
 use Rattle.stream_type.specs.StreamType.{StreamType, eps, null_of}
 use Rattle.bunch.specs.Names.{holds}
-use Rattle.bunch.specs.BunchTree.{BunchTree, empty, leaf, comma, semi, leaf_names}
-use Rattle.bunch.proofs.NameLists.{holds-append}
+use Rattle.bunch.specs.BunchTree.{BunchTree, leaf_names}
 use Rattle.core_term.specs.Agreement.{types_in}
 use Rattle.core_term.specs.Environment.{NameTypes}
 use Rattle.core_term.specs.Parts.{is_same_type}
 use Rattle.core_term.proofs.Causes.{is_same_type-true, is_same_type-same}
 use Rattle.core_term.proofs.Sides.{all-holds, holds-all}
 use Rattle.kept_state.specs.KeptPlace.{IsOver, IsUncut, IsUntouched}
+use Rattle.delta_check.proofs.Arguments.{types_in-none}
 
 -- a test of two types tells whether they are the same
 pub same_told : (r : Bool) (s t : StreamType) → (IsTrue r ↔ (s ≡ t)) → r ≡ is_same_type s t
@@ -57,19 +57,13 @@ second : (c d : Bool) (s t : StreamType) → (c || d) ≡ false → (d ≡ false
 second true d s t h f = absurd (true≢false h)
 second false d s t h f = f h
 
-not_declared : (b : BunchTree) (x : ℕ) → holds x (leaf_names b) ≡ false → types_in b x ≡ eps
-not_declared empty x h = refl
-not_declared (leaf y t) x h = second (x == y) false t eps h (λ e. refl)
-not_declared (comma a b) x h = second (holds x (leaf_names a)) (holds x (leaf_names b)) (types_in a x) (types_in b x) (sym (holds-append x (leaf_names a) (leaf_names b)) ∙ h) (not_declared b x)
-not_declared (semi a b) x h = second (holds x (leaf_names a)) (holds x (leaf_names b)) (types_in a x) (types_in b x) (sym (holds-append x (leaf_names a) (leaf_names b)) ∙ h) (not_declared b x)
-
 -- where nothing is told of it, it has none
 pub undeclared : {A : Type 0} (b : BunchTree) (x : ℕ) (f : A → StreamType) → option_map f None ≡ (if holds x (leaf_names b) then Some (types_in b x) else None) → types_in b x ≡ eps
 undeclared b x f h = go (holds x (leaf_names b)) refl h
   where
     go : (c : Bool) → holds x (leaf_names b) ≡ c → option_map f None ≡ (if c then Some (types_in b x) else None) → types_in b x ≡ eps
     go true e i = absurd (cc i)
-    go false e i = not_declared b x e
+    go false e i = types_in-none b x e
 
 -- and what is told is its type
 pub declared : {A : Type 0} (b : BunchTree) (x : ℕ) (f : A → StreamType) (a : A) → option_map f (Some a) ≡ (if holds x (leaf_names b) then Some (types_in b x) else None) → f a ≡ types_in b x

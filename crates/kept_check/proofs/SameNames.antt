@@ -2,13 +2,14 @@
 use Rattle.std.proofs.Common.{◌≡◌, ◌∙◌, ◌↔◌, ℕ, Bool, true, false, ◌&&◌, not, List, refl, ap, sym}
 use Rattle.std.specs.Prelude.{Some}
 use Rattle.std.specs.List.{All, list_all}
-use Rattle.std.proofs.lemmas.Bool.{not-true}
+use Rattle.std.proofs.lemmas.Bool.{not-true, and_from}
 use Rattle.stream_prefix.specs.StreamPrefix.{der, IsPrefix}
 use Rattle.bunch.specs.declared.name.Name.{Name}
 use Rattle.bunch.specs.Names.{holds, numbers_of}
+use Rattle.bunch.proofs.Tests.{and_first, and_second}
 use Rattle.core_term.specs.FreeNames.{is_distinct}
 use Rattle.core_term.specs.Typing.{Context}
-use Rattle.core_term.proofs.Sides.{and_first, and_second, all-holds, holds-all}
+use Rattle.core_term.proofs.Sides.{all-holds, holds-all}
 use Rattle.delta_state.specs.StateTree.{HeldName, held_names}
 use Rattle.delta_state.specs.StateTyping.{IsHeld}
 use Rattle.kept_check.specs.Free.{HasNames}
@@ -17,9 +18,6 @@ same_test : (a b : Bool) → (a ≡ true → b ≡ true) → (b ≡ true → a �
 same_test true b h k = sym (h refl)
 same_test false true h k = k refl
 same_test false false h k = refl
-
-pub and_both : (a b : Bool) → a ≡ true → b ≡ true → (a && b) ≡ true
-and_both a b h k = ap (λ c. c && b) h ∙ k
 
 -- whether each name of the first list is in the second, and each of the second in the first
 abbrev pub are_same : List ℕ → List ℕ → Bool
@@ -37,7 +35,7 @@ names_of_same xs ys h x =
 
 pub same_of_names : (xs ys : List ℕ) → ((x : ℕ) → holds x xs ≡ holds x ys) → are_same xs ys ≡ true
 same_of_names xs ys h =
-    and_both (list_all (λ x. holds x ys) xs) (list_all (λ x. holds x xs) ys) (holds-all (λ x. holds x ys) xs (λ x m. sym (h x) ∙ m)) (holds-all (λ x. holds x xs) ys (λ x m. h x ∙ m))
+    and_from (list_all (λ x. holds x ys) xs) (list_all (λ x. holds x xs) ys) (holds-all (λ x. holds x ys) xs (λ x m. sym (h x) ∙ m)) (holds-all (λ x. holds x xs) ys (λ x m. h x ∙ m))
 
 -- no name of the first list is in the second
 pub apart_at : (xs ys : List ℕ) → list_all (λ x. not (holds x ys)) xs ≡ true → (x : ℕ) → holds x xs ≡ true → holds x ys ≡ false
@@ -62,7 +60,7 @@ module _ (c : Context) (names : List Name) (free : List ℕ) (held : List HeldNa
 
   pub held_just : IsHeld c free held → are_just (numbers_of names) free ≡ true
   held_just i =
-      and_both (is_distinct (numbers_of names)) (are_same (numbers_of names) free) (ap is_distinct e ∙ i.are_once) (same_of_names (numbers_of names) free (λ x. ap (holds x) e ∙ i.are_free x))
+      and_from (is_distinct (numbers_of names)) (are_same (numbers_of names) free) (ap is_distinct e ∙ i.are_once) (same_of_names (numbers_of names) free (λ x. ap (holds x) e ∙ i.are_free x))
 
 -- whatever list has these names
 pub held_like : (c : Context) (v : List Name) (free : List ℕ) (held : List HeldName) → HasNames v free → IsHeld c (numbers_of v) held ↔ IsHeld c free held

@@ -11,6 +11,7 @@ use Rattle.delta_state.specs.StateTree.{StateTree, ArgumentTrees, sink, var_stat
 use Rattle.delta_state.specs.StateTyping.{context_of_arguments}
 use Rattle.kept_rules.specs.InTurn.{StateAt, state_at, with_state, with_sides, with_steps, own_names, names_of_parts, names_in_turn, names_of_arguments, states_in, states_of, states_of_arguments}
 use Rattle.kept_rules.specs.StateRules.{IsGood, AreGood}
+use Rattle.kept_rules.proofs.GoodStates.{nothing_more, whole_of}
 use Rattle.kept_check.specs.declared.stop.Stop.{Stop}
 use Rattle.kept_check.specs.declared.stop.Stop.TheVariants.{Memory, At}
 use Rattle.kept_check.specs.Sizes.{states_of_parts, states_in_arguments, states_number}
@@ -52,13 +53,6 @@ mutual
   length-arguments (argument_before x t s args) c before =
       length-append (states_of c t before s) (states_of_arguments c (before ++ names_in_turn s) args)
       ∙ before_all _ _ _ _ (length-parts s c t (before ++ own_names s)) (length-arguments args c (before ++ names_in_turn s))
-
--- names that are bound before a form, by it and in its parts
-whole_of : (before own parts : List ℕ) → is_distinct ((before ++ own) ++ parts) ≡ true → is_distinct (before ++ (own ++ parts)) ≡ true
-whole_of before own parts d = ap is_distinct (sym (append_assoc before own parts)) ∙ d
-
-nothing_more : (before own : List ℕ) → is_distinct (before ++ own) ≡ true → is_distinct (before ++ (own ++ [])) ≡ true
-nothing_more before own d = ap (λ l. is_distinct (before ++ l)) (append-nil own) ∙ d
 
 -- what is so in any case
 in_any_case : {P : Type 0} (q : Result ℕ Stop) → P → OnOk q P

@@ -1,46 +1,38 @@
 -- A kept state is typed just where each of its states is good, and at most one of them is the first that isn't.
-use Rattle.std.proofs.Common.{◌≡◌, ◌∙◌, ◌<◌, ◌≤◌, ◌⊎◌, inl, inr, ℕ, zero, suc, Bool, true, false, true≢false, ◌&&◌, ◌||◌, not, List, [], ◌∷◌, ◌++◌, eqb, if◌then◌else◌, ap, refl, sym, subst, append_assoc, append-nil, arith}
-use Rattle.std.proofs.lemmas.Bool.{eqb-true}
+use Rattle.std.proofs.Common.{◌≡◌, ◌∙◌, ◌<◌, ◌≤◌, ◌⊎◌, inl, inr, ℕ, zero, suc, Bool, true, false, true≢false, not, List, [], ◌∷◌, ◌++◌, eqb, if◌then◌else◌, ap, refl, sym, subst, append_assoc, append-nil, arith}
+use Rattle.std.proofs.lemmas.Bool.{eqb-true, not-true, not_from_false, and_from}
 use Rattle.std.proofs.lemmas.List.Elements.{All-append, All-nil, All-cons, All-head, All-tail}
 use Rattle.std.specs.Prelude.{Option, Some, None, is_some, slice_get, IsSomeAnd}
 use Rattle.std.specs.List.{All}
 use Rattle.stream_type.specs.StreamType.{StreamType, cat, par, null_of}
-use Rattle.stream_prefix.specs.StreamPrefix.{der}
 use Rattle.bunch.specs.Names.{holds}
 use Rattle.bunch.specs.BunchTree.{leaf_names}
+use Rattle.bunch.proofs.Tests.{and_first, and_second}
 use Rattle.core_term.specs.CoreTerm.{CoreBody, CoreProgram}
 use Rattle.core_term.specs.FreeNames.{bound_names, is_distinct}
 use Rattle.core_term.specs.Inert.{is_inert_fun}
 use Rattle.core_term.specs.Parts.{par_left, par_right, cat_first, cat_second, sum_left, sum_right, star_item, star_items}
 use Rattle.core_term.specs.Typing.{Context, type_at, with_name_like, with_fact, with_parts}
-use Rattle.core_term.proofs.Sides.{and_first, and_second, holds-head, holds-left, holds-right}
+use Rattle.core_term.proofs.Sides.{holds-head, holds-left, holds-right}
 use Rattle.core_term.proofs.BoundOnce.{not_again, distinct_tail, distinct_left, distinct_right, distinct_apart}
 use Rattle.delta_state.specs.Apart.{IsApart}
-use Rattle.delta_state.specs.StateTree.{LaterTree, HeldName, StateTree, ArgumentTrees, sink, var_state, par_state, cat_state, let_state, let_par_state, let_cat_state, sum_state, star_state, wait_state, frame_state, no_arguments, argument_before, argument_names, laters_of, laters_in}
-use Rattle.delta_state.specs.StateTyping.{HasStateType, HaveArgumentTypes, IsTypedLater, with_known, with_past, marks_held, marks_of_arguments, context_held, context_of_arguments}
+use Rattle.delta_state.specs.StateTree.{LaterTree, StateTree, ArgumentTrees, sink, var_state, par_state, cat_state, let_state, let_par_state, let_cat_state, sum_state, star_state, wait_state, frame_state, no_arguments, argument_before, argument_names, laters_of, laters_in}
+use Rattle.delta_state.specs.StateTyping.{HasStateType, HaveArgumentTypes, IsTypedLater, with_known, with_past, marks_held, context_held, context_of_arguments}
 use Rattle.delta_state.specs.Settled.{is_settled, are_settled}
 use Rattle.delta_state.specs.Stands.{depth_after}
 use Rattle.delta_state.proofs.WholeStates.{all_left, all_right}
 use Rattle.state_steps.proofs.KnownNames.{past_types-same}
+use Rattle.state_steps.proofs.StateSteps.{parameter_there}
 use Rattle.kept_state.specs.KeptTree.{KeptTree}
 use Rattle.kept_state.specs.KeptNames.{BodiesOnce, BodiesOnceIn, PastsApart, PastsApartIn, IsPastApart}
 use Rattle.kept_state.specs.KeptTyping.{IsTypedKept, context_kept, types_kept}
 use Rattle.kept_state.proofs.BoundApart.{typed_once_is_apart}
 use Rattle.kept_state.proofs.TypedWaits.{NotBound, not_bound_put, not_left, not_right, not_tail, not_bound_two}
+use Rattle.kept_state.proofs.TidyKeptStates.{held_there}
 use Rattle.kept_rules.specs.InTurn.{StateAt, names_in_turn, names_of_arguments, states_of, states_of_arguments, states_kept}
 use Rattle.kept_rules.specs.StateRules.{IsGoodLater, IsGood, AreGood, IsGoodAt}
 use Rattle.kept_rules.specs.Laws.{TypedIsGood, UntypedIsNotTyped, OneFirst}
 use Rattle.kept_rules.proofs.NamesInTurn.{distinct_in_turn, distinct_bound}
-
-and_both : (a b : Bool) → a ≡ true → b ≡ true → (a && b) ≡ true
-and_both a b h k = ap (λ c. c && b) h ∙ k
-
-is_not : (b : Bool) → b ≡ false → not b ≡ true
-is_not b h = ap not h
-
-not_it : (b : Bool) → not b ≡ true → b ≡ false
-not_it true h = absurd (true≢false (sym h))
-not_it false h = refl
 
 -- names that are bound before a form, by it and in its parts
 first_of : (before own parts : List ℕ) → is_distinct (before ++ (own ++ parts)) ≡ true → is_distinct (before ++ own) ≡ true
@@ -49,10 +41,10 @@ first_of before own parts d = distinct_left (before ++ own) parts (ap is_distinc
 rest_of : (before own parts : List ℕ) → is_distinct (before ++ (own ++ parts)) ≡ true → is_distinct ((before ++ own) ++ parts) ≡ true
 rest_of before own parts d = ap is_distinct (append_assoc before own parts) ∙ d
 
-whole_of : (before own parts : List ℕ) → is_distinct ((before ++ own) ++ parts) ≡ true → is_distinct (before ++ (own ++ parts)) ≡ true
+pub whole_of : (before own parts : List ℕ) → is_distinct ((before ++ own) ++ parts) ≡ true → is_distinct (before ++ (own ++ parts)) ≡ true
 whole_of before own parts d = ap is_distinct (sym (append_assoc before own parts)) ∙ d
 
-nothing_more : (before own : List ℕ) → is_distinct (before ++ own) ≡ true → is_distinct (before ++ (own ++ [])) ≡ true
+pub nothing_more : (before own : List ℕ) → is_distinct (before ++ own) ≡ true → is_distinct (before ++ (own ++ [])) ≡ true
 nothing_more before own d = ap (λ l. is_distinct (before ++ l)) (append-nil own) ∙ d
 
 -- each stream of a context is bound before
@@ -72,25 +64,6 @@ within_put x s types before h w y i = go (eqb y x) refl i
 -- so none is bound after
 not_after : (types : ℕ → Option StreamType) (before own : List ℕ) → Within types before → is_distinct (before ++ own) ≡ true → NotBound types own
 not_after types before own w d x i m = distinct_apart before own d x (w x i) m
-
--- a name of which something is held is a stream of the context
-held_there : (c : Context) (held : List HeldName) → All (λ h. c.types h.name ≡ Some (der h.prefix h.type)) held → (x : ℕ) → is_some (marks_held held x) ≡ true → is_some (c.types x) ≡ true
-held_there c [] a x m = absurd (true≢false (sym m))
-held_there c (h ∷ held) a x m =
-    go (eqb x h.name) refl m (All-head (λ h. c.types h.name ≡ Some (der h.prefix h.type)) h held a) (held_there c held (All-tail (λ h. c.types h.name ≡ Some (der h.prefix h.type)) h held a) x)
-  where
-    go : (i : Bool) → eqb x h.name ≡ i → is_some (if i then Some h.type else marks_held held x) ≡ true → c.types h.name ≡ Some (der h.prefix h.type) → (is_some (marks_held held x) ≡ true → is_some (c.types x) ≡ true) → is_some (c.types x) ≡ true
-    go true e k o f = subst (λ z. is_some (c.types z) ≡ true) (sym (eqb-true x h.name e)) (ap is_some o)
-    go false e k o f = f k
-
--- a parameter is one of the names of the arguments
-argument_there : (args : ArgumentTrees) (x : ℕ) → is_some (marks_of_arguments args x) ≡ true → holds x (argument_names args) ≡ true
-argument_there no_arguments x m = absurd (true≢false (sym m))
-argument_there (argument_before y t s args) x m = go (eqb x y) m (argument_there args x)
-  where
-    go : (i : Bool) → is_some (if i then Some t else marks_of_arguments args x) ≡ true → (is_some (marks_of_arguments args x) ≡ true → holds x (argument_names args) ≡ true) → (i || holds x (argument_names args)) ≡ true
-    go true k f = refl
-    go false k f = f k
 
 module _ (funs : List CoreBody) (d : ℕ) where
   abbrev Deep : LaterTree → Type 0
@@ -138,7 +111,7 @@ module _ (funs : List CoreBody) (d : ℕ) where
     goods (cat_state a l) c (cat s t) before h i o p e n =
         let own = bound_names l.term in (
           record {
-            rule = (refl, not_it (null_of s) (and_second (is_settled a s) (not (null_of s)) i), later_good c (λ q. q) [] l t h.1 p.1 (All-head Deep l [] (all_right Deep (laters_of a) (l ∷ []) e)), h.2);
+            rule = (refl, not-true (null_of s) (and_second (is_settled a s) (not (null_of s)) i), later_good c (λ q. q) [] l t h.1 p.1 (All-head Deep l [] (all_right Deep (laters_of a) (l ∷ []) e)), h.2);
             once = first_of before own (names_in_turn a) n;
           },
           goods a c s (before ++ own) h.0 (and_first (is_settled a s) (not (null_of s)) i) o p.0 (all_left Deep (laters_of a) (l ∷ []) e) (rest_of before own (names_in_turn a) n),
@@ -164,7 +137,7 @@ module _ (funs : List CoreBody) (d : ℕ) where
             rule = (
               h.0,
               h.1,
-              not_it _ i,
+              not-true _ i,
               record {
                 subject = h.2.subject_typed;
                 left = later_good k (with_name_like x (sum_left (type_at k z)) z) (x ∷ []) l r h.2.left_typed p.0 (All-head Deep l (m ∷ []) e);
@@ -181,7 +154,7 @@ module _ (funs : List CoreBody) (d : ℕ) where
             rule = (
               h.0,
               h.1,
-              not_it _ i,
+              not-true _ i,
               record {
                 subject = h.2.subject_typed;
                 at_end = later_good k (λ q. q) [] l r h.2.end_typed p.0 (All-head Deep l (m ∷ []) e);
@@ -198,7 +171,7 @@ module _ (funs : List CoreBody) (d : ℕ) where
             rule = (
               h.0,
               h.1,
-              not_it _ i,
+              not-true _ i,
               record {
                 subject = h.2.subject_typed;
                 not_null = h.2.subject_not_null;
@@ -301,7 +274,7 @@ module _ (funs : List CoreBody) (d : ℕ) where
         let k = whole b c (par_right r) (u ++ names_in_turn a) (within_more c.types u (names_in_turn a) (within_more c.types before [] w)) (good_right ja jb g.1) in
         record {
           typed = subst (λ t. HasStateType funs (is_inert_fun funs) c (par_state a b) t) (sym g.0.rule) (f.typed, k.typed);
-          settled = and_both (is_settled a (par_left r)) (is_settled b (par_right r)) f.settled k.settled;
+          settled = and_from (is_settled a (par_left r)) (is_settled b (par_right r)) f.settled k.settled;
           bodies = (f.bodies, k.bodies);
           pasts = (f.pasts, k.pasts);
           deep = All-append Deep (laters_of a) (laters_of b) f.deep k.deep;
@@ -313,7 +286,7 @@ module _ (funs : List CoreBody) (d : ℕ) where
         record {
           typed = subst (λ t. HasStateType funs (is_inert_fun funs) c (cat_state a l) t) (sym g.0.rule.0)
               (f.typed, later_none l c (cat_second r) [] g.0.rule.2 (not_after c.types before own w g.0.once) (distinct_right before own g.0.once), g.0.rule.3);
-          settled = and_both (is_settled a (cat_first r)) (not (null_of (cat_first r))) f.settled (is_not (null_of (cat_first r)) g.0.rule.1);
+          settled = and_from (is_settled a (cat_first r)) (not (null_of (cat_first r))) f.settled (not_from_false (null_of (cat_first r)) g.0.rule.1);
           bodies = f.bodies;
           pasts = (f.pasts, g.0.rule.2.is_apart);
           deep = All-append Deep (laters_of a) (l ∷ []) f.deep (All-cons Deep l [] g.0.rule.2.is_deep (All-nil Deep));
@@ -329,7 +302,7 @@ module _ (funs : List CoreBody) (d : ℕ) where
         let k = whole b _ r v (within_put x s c.types v there (within_more c.types u (names_in_turn a) (within_more c.types before (x ∷ []) w))) (good_right ja jb g.1) in
         record {
           typed = (f.typed, k.typed);
-          settled = and_both (is_settled a s) (is_settled b r) f.settled k.settled;
+          settled = and_from (is_settled a s) (is_settled b r) f.settled k.settled;
           bodies = (f.bodies, k.bodies);
           pasts = (f.pasts, k.pasts);
           deep = All-append Deep (laters_of a) (laters_of b) f.deep k.deep;
@@ -381,7 +354,7 @@ module _ (funs : List CoreBody) (d : ℕ) where
               right_typed = later_one m k r y (sum_right (type_at k z)) z (y ∷ []) h.right (not_right (marks_held held) (x ∷ bl) (y ∷ bm) n) (distinct_right (x ∷ bl) (y ∷ bm) o);
             },
           );
-          settled = is_not _ g.0.rule.2;
+          settled = not_from_false _ g.0.rule.2;
           bodies = tt;
           pasts = (h.left.is_apart, h.right.is_apart);
           deep = All-cons Deep l (m ∷ []) h.left.is_deep (All-cons Deep m [] h.right.is_deep (All-nil Deep));
@@ -407,7 +380,7 @@ module _ (funs : List CoreBody) (d : ℕ) where
               item_typed = later_two m k r y ys (star_item (type_at k z)) (star_items (type_at k z)) z (y ∷ (ys ∷ [])) h.at_item (not_right (marks_held held) bl (y ∷ (ys ∷ bm)) n) (distinct_right bl (y ∷ (ys ∷ bm)) o);
             },
           );
-          settled = is_not _ g.0.rule.2;
+          settled = not_from_false _ g.0.rule.2;
           bodies = tt;
           pasts = (h.at_end.is_apart, h.at_item.is_apart);
           deep = All-cons Deep l (m ∷ []) h.at_end.is_deep (All-cons Deep m [] h.at_item.is_deep (All-nil Deep));
@@ -428,7 +401,7 @@ module _ (funs : List CoreBody) (d : ℕ) where
               rest_typed = later_known l k r x (type_at k x) (x ∷ []) h.rest n (distinct_right before own g.0.once);
             },
           );
-          settled = is_not _ g.0.rule.2;
+          settled = not_from_false _ g.0.rule.2;
           bodies = tt;
           pasts = (h.rest.is_apart, h.not_used);
           deep = All-cons Deep l [] h.rest.is_deep (All-nil Deep);
@@ -439,10 +412,10 @@ module _ (funs : List CoreBody) (d : ℕ) where
         let ja = states_of_arguments c u args in
         let jb = states_of (context_of_arguments c args) r (argument_names args) s in
         let f = all_whole args c u (within_more c.types before [] w) (first_of before [] [] (nothing_more before [] g.0.once)) (good_left ja jb g.1) in
-        let k = whole s (context_of_arguments c args) r (argument_names args) (argument_there args) (good_right ja jb g.1) in
+        let k = whole s (context_of_arguments c args) r (argument_names args) (parameter_there args) (good_right ja jb g.1) in
         record {
           typed = (f.typed, k.typed);
-          settled = and_both (are_settled args) (is_settled s r) f.settled k.settled;
+          settled = and_from (are_settled args) (is_settled s r) f.settled k.settled;
           bodies = (f.bodies, distinct_bound (argument_names args) s k.once, k.bodies);
           pasts = (f.pasts, k.pasts);
           deep = All-append Deep (laters_in args) (laters_of s) f.deep k.deep;
@@ -459,7 +432,7 @@ module _ (funs : List CoreBody) (d : ℕ) where
         let k = all_whole args c u (within_more c.types before (names_in_turn s) w) f.once (good_right js ks g) in
         record {
           typed = (f.typed, k.typed);
-          settled = and_both (is_settled s t) (are_settled args) f.settled k.settled;
+          settled = and_from (is_settled s t) (are_settled args) f.settled k.settled;
           bodies = (f.bodies, k.bodies);
           pasts = (f.pasts, k.pasts);
           deep = All-append Deep (laters_of s) (laters_in args) f.deep k.deep;

@@ -91,7 +91,7 @@ fill_more_items item k a bs h s t =
     }
 
 -- the four bytes of a count make the number that was written
-count_made : (n : ℕ) → n < 2 ^ 32 → (((0 * 256 + byte_at 3 n) * 256 + byte_at 2 n) * 256 + byte_at 1 n) * 256 + byte_at 0 n ≡ n
+pub count_made : (n : ℕ) → n < 2 ^ 32 → (((0 * 256 + byte_at 3 n) * 256 + byte_at 2 n) * 256 + byte_at 1 n) * 256 + byte_at 0 n ≡ n
 count_made n h = omega (arith, from_be_bytes-to_be_bytes_4 n h)
 
 -- after a count so many items are awaited

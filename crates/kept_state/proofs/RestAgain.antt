@@ -23,11 +23,11 @@ use Rattle.kept_state.proofs.RestSplits.{rest_derives, split_left, left_same}
 use Rattle.kept_state.proofs.InputPlaces.{first_of_cuts, second_of_cuts, not_left, sides_of_rest, empty_by_side, input_rest, input_split}
 
 -- of the marks of a part and n more, as many are the part's as it has semicolons,
-first_length : (a : BunchTree) (n : ℕ) (cuts : List Bool) → length cuts ≡ semi_count a + n → length (first_cuts a cuts) ≡ semi_count a
+pub first_length : (a : BunchTree) (n : ℕ) (cuts : List Bool) → length cuts ≡ semi_count a + n → length (first_cuts a cuts) ≡ semi_count a
 first_length a n cuts e = length-take-le (semi_count a) cuts (let l : semi_count a ≤ length cuts = omega (arith, e) in l)
 
 -- and n are the others
-second_length : (a : BunchTree) (n : ℕ) (cuts : List Bool) → length cuts ≡ semi_count a + n → length (second_cuts a cuts) ≡ n
+pub second_length : (a : BunchTree) (n : ℕ) (cuts : List Bool) → length cuts ≡ semi_count a + n → length (second_cuts a cuts) ≡ n
 second_length a n cuts e = length-drop (semi_count a) cuts ∙ (let l : length cuts - semi_count a ≡ n = omega (arith, e) in l)
 
 -- behind a first mark there is one less

@@ -470,7 +470,7 @@ made_end (suc (suc zero)) bs h =
 made_end _ bs h = absurd h
 
 -- how many items a list has
-count-list_of : (vs : List HistValue) → item_count (list_of vs) ≡ length vs
+pub count-list_of : (vs : List HistValue) → item_count (list_of vs) ≡ length vs
 count-list_of [] = refl
 count-list_of (v ∷ vs) = ap suc (count-list_of vs)
 
@@ -488,12 +488,12 @@ good-list_of (v ∷ vs) n h =
     ((h.0.0, r.0, omega (arith, n, c)), (h.0.1, of-list_of vs, r.1))
 
 -- the bytes of its items
-items-list_of : (vs : List HistValue) → items_bytes (list_of vs) ≡ concat (map value_bytes vs)
+pub items-list_of : (vs : List HistValue) → items_bytes (list_of vs) ≡ concat (map value_bytes vs)
 items-list_of [] = refl
 items-list_of (v ∷ vs) = ap (λ x. value_bytes v ++ x) (items-list_of vs)
 
 -- its own
-bytes-list_of : (vs : List HistValue) → value_bytes (list_of vs) ≡ 5 ∷ list_bytes value_bytes vs
+pub bytes-list_of : (vs : List HistValue) → value_bytes (list_of vs) ≡ 5 ∷ list_bytes value_bytes vs
 bytes-list_of [] = refl
 bytes-list_of (v ∷ vs) = ap₂ (λ n x. 5 ∷ short_bytes n ++ x) (count-list_of (v ∷ vs)) (items-list_of (v ∷ vs))
 

@@ -1,12 +1,11 @@
 -- A typed kept state is tidy: what its types say of streams and binders keeps the waits of its code apart.
-use Rattle.std.proofs.Common.{◌≡◌, ℕ, Bool, true, false, true≢false, ◌||◌, List, [], ◌∷◌, ◌++◌, eqb, if◌then◌else◌, ap, refl, subst, sym}
+use Rattle.std.proofs.Common.{◌≡◌, ℕ, Bool, true, false, true≢false, List, [], ◌∷◌, ◌++◌, eqb, if◌then◌else◌, ap, refl, subst, sym}
 use Rattle.std.proofs.lemmas.Bool.{eqb-true}
 use Rattle.std.specs.Prelude.{Some, is_some}
 use Rattle.std.specs.List.{All}
 use Rattle.std.proofs.lemmas.List.Elements.{All-head, All-tail}
 use Rattle.stream_type.specs.StreamType.{StreamType, cat, par}
 use Rattle.stream_prefix.specs.StreamPrefix.{der}
-use Rattle.bunch.specs.Names.{holds}
 use Rattle.bunch.specs.BunchTree.{leaf_names}
 use Rattle.core_term.specs.CoreTerm.{CoreBody}
 use Rattle.core_term.specs.FreeNames.{bound_names, is_distinct}
@@ -16,8 +15,9 @@ use Rattle.core_term.specs.Typing.{Context, type_at, with_name_like, with_fact, 
 use Rattle.core_term.proofs.Sides.{holds-right}
 use Rattle.core_term.proofs.BoundOnce.{not_again, distinct_tail, distinct_left, distinct_right, distinct_apart}
 use Rattle.delta_state.specs.StateTree.{HeldName, LaterTree, StateTree, ArgumentTrees, sink, var_state, par_state, cat_state, let_state, let_par_state, let_cat_state, sum_state, star_state, wait_state, frame_state, no_arguments, argument_before, argument_names}
-use Rattle.delta_state.specs.StateTyping.{HasStateType, HaveArgumentTypes, IsTypedLater, with_known, with_past, marks_held, context_held, marks_of_arguments, context_of_arguments}
+use Rattle.delta_state.specs.StateTyping.{HasStateType, HaveArgumentTypes, IsTypedLater, with_known, with_past, marks_held, context_held, context_of_arguments}
 use Rattle.state_steps.proofs.KnownNames.{past_types-same}
+use Rattle.state_steps.proofs.StateSteps.{parameter_there}
 use Rattle.kept_state.specs.KeptNames.{bound_in_state, bound_in_arguments, BodiesOnce, BodiesOnceIn, WaitsApart, CodeWaitsApart, CodeWaitsApartIn}
 use Rattle.kept_state.specs.KeptTyping.{types_kept, context_kept}
 use Rattle.kept_state.specs.Laws.{TypedIsTidy}
@@ -25,7 +25,7 @@ use Rattle.kept_state.proofs.TidyPrograms.{there}
 use Rattle.kept_state.proofs.TypedWaits.{NotBound, not_bound_put, not_left, not_right, not_tail, not_bound_there, not_bound_two, typed_waits}
 
 -- a name of which something is held is a stream of the context
-held_there : (c : Context) (held : List HeldName) → All (λ h. c.types h.name ≡ Some (der h.prefix h.type)) held → (x : ℕ) → is_some (marks_held held x) ≡ true → is_some (c.types x) ≡ true
+pub held_there : (c : Context) (held : List HeldName) → All (λ h. c.types h.name ≡ Some (der h.prefix h.type)) held → (x : ℕ) → is_some (marks_held held x) ≡ true → is_some (c.types x) ≡ true
 held_there c [] a x m = absurd (true≢false (sym m))
 held_there c (h ∷ held) a x m =
     go (eqb x h.name) refl m (All-head (λ h. c.types h.name ≡ Some (der h.prefix h.type)) h held a) (held_there c held (All-tail (λ h. c.types h.name ≡ Some (der h.prefix h.type)) h held a) x)
@@ -33,15 +33,6 @@ held_there c (h ∷ held) a x m =
     go : (i : Bool) → eqb x h.name ≡ i → is_some (if i then Some h.type else marks_held held x) ≡ true → c.types h.name ≡ Some (der h.prefix h.type) → (is_some (marks_held held x) ≡ true → is_some (c.types x) ≡ true) → is_some (c.types x) ≡ true
     go true e k o f = subst (λ z. is_some (c.types z) ≡ true) (sym (eqb-true x h.name e)) (ap is_some o)
     go false e k o f = f k
-
--- a parameter is one of the names of the arguments
-argument_there : (args : ArgumentTrees) (x : ℕ) → is_some (marks_of_arguments args x) ≡ true → holds x (argument_names args) ≡ true
-argument_there no_arguments x m = absurd (true≢false (sym m))
-argument_there (argument_before y t s args) x m = go (eqb x y) m (argument_there args x)
-  where
-    go : (i : Bool) → is_some (if i then Some t else marks_of_arguments args x) ≡ true → (is_some (marks_of_arguments args x) ≡ true → holds x (argument_names args) ≡ true) → (i || holds x (argument_names args)) ≡ true
-    go true k f = refl
-    go false k f = f k
 
 module _ (funs : List CoreBody) (counts : ℕ → Bool) where
   -- the waits of code that isn't reached are apart, where its form binds no name for it,
@@ -113,7 +104,7 @@ module _ (funs : List CoreBody) (counts : ℕ → Bool) where
         )
     state_waits (frame_state args s) c r h o n d = (
       arguments_wait args c h.0 o.0 n d,
-      state_waits s (context_of_arguments c args) r h.1 o.2 (λ w i j. distinct_apart (argument_names args) (bound_in_state s) o.1 w (argument_there args w i) j) (distinct_right (argument_names args) (bound_in_state s) o.1),
+      state_waits s (context_of_arguments c args) r h.1 o.2 (λ w i j. distinct_apart (argument_names args) (bound_in_state s) o.1 w (parameter_there args w i) j) (distinct_right (argument_names args) (bound_in_state s) o.1),
     )
 
     -- the same of the arguments of a frame

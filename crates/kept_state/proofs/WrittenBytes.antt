@@ -30,7 +30,7 @@ no_fault : (k : KeptTree) (places : List ℕ) → length (kept_bytes k places) �
 no_fault k places l = ap (fault_from body_parts 4) (sym (append-nil (body_bytes k places))) ∙ (body_fills k places).at (omega (arith, l)) [] 4 []
 
 -- a number within the limit isn't past it
-not_many : (n : ℕ) → n ≤ most_bytes → nat_lt most_bytes n ≡ false
+pub not_many : (n : ℕ) → n ≤ most_bytes → nat_lt most_bytes n ≡ false
 not_many n h = go (nat_lt most_bytes n) refl
   where
     go : (b : Bool) → nat_lt most_bytes n ≡ b → b ≡ false

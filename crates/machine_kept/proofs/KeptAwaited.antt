@@ -1,8 +1,8 @@
 -- What is awaited after a kept state: the names with what comes on them are those over which its input is split, its
 -- type is that of the input, and its place is the kept state's own, gone on by what came.
 use Rattle.std.proofs.Common.{◌≡◌, ◌∙◌, ◌+◌, ℕ, suc, Bool, true, false, List, [], ◌∷◌, ◌++◌, map, length, eqb, if◌then◌else◌, ap, ap₂, refl, sym, subst, arith}
-use Rattle.std.proofs.lemmas.Bool.{eqb-true}
-use Rattle.std.proofs.lemmas.List.{length-take-le, length-drop, take-append-drop}
+use Rattle.std.proofs.lemmas.Bool.{eqb-true, or_right}
+use Rattle.std.proofs.lemmas.List.{take-append-drop}
 use Rattle.stream_type.specs.StreamType.{eps, par, cat}
 use Rattle.stream_prefix.specs.StreamPrefix.{StreamPrefix, emp, der, join}
 use Rattle.stream_prefix.proofs.Derivations.{Derives, eps_has_emp, par_has_both, cat_has_fst, cat_has_both}
@@ -14,7 +14,7 @@ use Rattle.core_term.specs.Agreement.{types_in}
 use Rattle.core_term.specs.FreeNames.{is_distinct}
 use Rattle.core_term.specs.Split.{split}
 use Rattle.core_term.proofs.BoundOnce.{not_again, distinct_tail}
-use Rattle.core_term.proofs.Sides.{or_second, eqb-same, holds-head}
+use Rattle.core_term.proofs.Sides.{eqb-same, holds-head}
 use Rattle.delta_state.specs.StateTree.{HeldName}
 use Rattle.delta_state.specs.StateMeaning.{types_held, prefixes_held}
 use Rattle.main_steps.specs.Splitting.{empty_entries, split_entries, over_entries, later_entries}
@@ -23,19 +23,10 @@ use Rattle.machine_parts.specs.AwaitedTree.{stream_awaited, both_awaited, turns_
 use Rattle.kept_state.specs.KeptPlace.{semi_count, first_cuts, second_cuts, rest_bunch, split_rest, split_rest_after}
 use Rattle.kept_state.proofs.RestBunches.{outside, rest_types, rest_names}
 use Rattle.kept_state.specs.KeptSince.{cuts_since}
+use Rattle.kept_state.proofs.RestAgain.{first_length, second_length}
+use Rattle.kept_state.proofs.SameNumbers.{pred_same}
 use Rattle.machine_kept.specs.KeptAwaiting.{awaited_left, awaited_type}
 use Rattle.machine_kept.proofs.PaddedLists.{Padded, no_name, same_name, left_out, padded_both, padded_names, types_outside_both, prefixes_outside_both, types_padded, prefixes_padded}
-
--- as many marks as the first part has semicolons, and the others
-first_many : (a : BunchTree) (n : ℕ) (cuts : List Bool) → length cuts ≡ semi_count a + n → length (first_cuts a cuts) ≡ semi_count a
-first_many a n cuts h = length-take-le (semi_count a) cuts (omega (arith, h))
-
-second_many : (a : BunchTree) (n : ℕ) (cuts : List Bool) → length cuts ≡ semi_count a + n → length (second_cuts a cuts) ≡ n
-second_many a n cuts h = let e = length-drop (semi_count a) cuts in omega (arith, h, e)
-
--- one mark fewer
-one_fewer : (n m : ℕ) → suc n ≡ suc m → n ≡ m
-one_fewer n m h = omega (arith, h)
 
 -- a semicolon has a mark
 none_left : {A : Type 0} (n : ℕ) → 0 ≡ suc n → A
@@ -54,76 +45,76 @@ type_awaited (semi a b) T (false ∷ cuts) = ap₂ cat (type_awaited a T (first_
 pub dropped : (b : BunchTree) (T : NameTypes) (cuts : List Bool) → length cuts ≡ semi_count b → Padded T (leaf_names b) (still_entries (awaited_left b T cuts)) []
 dropped empty T cuts l = no_name
 dropped (leaf y t) T cuts l = left_out no_name
-dropped (comma a b) T cuts l = padded_both (dropped a T (first_cuts a cuts) (first_many a (semi_count b) cuts l)) (dropped b T (second_cuts a cuts) (second_many a (semi_count b) cuts l))
+dropped (comma a b) T cuts l = padded_both (dropped a T (first_cuts a cuts) (first_length a (semi_count b) cuts l)) (dropped b T (second_cuts a cuts) (second_length a (semi_count b) cuts l))
 dropped (semi a b) T [] l = none_left (semi_count a + semi_count b) l
 dropped (semi a b) T (cut ∷ cuts) l =
-    let k = one_fewer (length cuts) (semi_count a + semi_count b) l in
-    padded_both (dropped a T (first_cuts a cuts) (first_many a (semi_count b) cuts k)) (dropped b T (second_cuts a cuts) (second_many a (semi_count b) cuts k))
+    let k = pred_same (length cuts) (semi_count a + semi_count b) l in
+    padded_both (dropped a T (first_cuts a cuts) (first_length a (semi_count b) cuts k)) (dropped b T (second_cuts a cuts) (second_length a (semi_count b) cuts k))
 
 -- the names of what is awaited: with nothing on them, or what comes first,
 pads_still : (b : BunchTree) (T : NameTypes) (cuts : List Bool) → length cuts ≡ semi_count b → Padded T (leaf_names b) (still_entries (awaited_left b T cuts)) (empty_entries (rest_bunch b T cuts))
 pads_still empty T cuts l = no_name
 pads_still (leaf y t) T cuts l = same_name no_name
-pads_still (comma a b) T cuts l = padded_both (pads_still a T (first_cuts a cuts) (first_many a (semi_count b) cuts l)) (pads_still b T (second_cuts a cuts) (second_many a (semi_count b) cuts l))
+pads_still (comma a b) T cuts l = padded_both (pads_still a T (first_cuts a cuts) (first_length a (semi_count b) cuts l)) (pads_still b T (second_cuts a cuts) (second_length a (semi_count b) cuts l))
 pads_still (semi a b) T [] l = none_left (semi_count a + semi_count b) l
 pads_still (semi a b) T (true ∷ cuts) l =
-    let k = one_fewer (length cuts) (semi_count a + semi_count b) l in
-    padded_both (dropped a T (first_cuts a cuts) (first_many a (semi_count b) cuts k)) (pads_still b T (second_cuts a cuts) (second_many a (semi_count b) cuts k))
+    let k = pred_same (length cuts) (semi_count a + semi_count b) l in
+    padded_both (dropped a T (first_cuts a cuts) (first_length a (semi_count b) cuts k)) (pads_still b T (second_cuts a cuts) (second_length a (semi_count b) cuts k))
 pads_still (semi a b) T (false ∷ cuts) l =
-    let k = one_fewer (length cuts) (semi_count a + semi_count b) l in
-    padded_both (pads_still a T (first_cuts a cuts) (first_many a (semi_count b) cuts k)) (pads_still b T (second_cuts a cuts) (second_many a (semi_count b) cuts k))
+    let k = pred_same (length cuts) (semi_count a + semi_count b) l in
+    padded_both (pads_still a T (first_cuts a cuts) (first_length a (semi_count b) cuts k)) (pads_still b T (second_cuts a cuts) (second_length a (semi_count b) cuts k))
 
 pads_split : (b : BunchTree) (T : NameTypes) (cuts : List Bool) → length cuts ≡ semi_count b → {p : StreamPrefix} → Derives (as_type (rest_bunch b T cuts)) p → Padded T (leaf_names b) (entries_on (awaited_left b T cuts) p) (split_entries (rest_bunch b T cuts) p)
 pads_split empty T cuts l eps_has_emp = no_name
 pads_split (leaf y t) T cuts l h = same_name no_name
-pads_split (comma a b) T cuts l (par_has_both h k) = padded_both (pads_split a T (first_cuts a cuts) (first_many a (semi_count b) cuts l) h) (pads_split b T (second_cuts a cuts) (second_many a (semi_count b) cuts l) k)
+pads_split (comma a b) T cuts l (par_has_both h k) = padded_both (pads_split a T (first_cuts a cuts) (first_length a (semi_count b) cuts l) h) (pads_split b T (second_cuts a cuts) (second_length a (semi_count b) cuts l) k)
 pads_split (semi a b) T [] l h = none_left (semi_count a + semi_count b) l
 pads_split (semi a b) T (true ∷ cuts) l h =
-    let n = one_fewer (length cuts) (semi_count a + semi_count b) l in
-    padded_both (dropped a T (first_cuts a cuts) (first_many a (semi_count b) cuts n)) (pads_split b T (second_cuts a cuts) (second_many a (semi_count b) cuts n) h)
+    let n = pred_same (length cuts) (semi_count a + semi_count b) l in
+    padded_both (dropped a T (first_cuts a cuts) (first_length a (semi_count b) cuts n)) (pads_split b T (second_cuts a cuts) (second_length a (semi_count b) cuts n) h)
 pads_split (semi a b) T (false ∷ cuts) l (cat_has_fst h) =
-    let n = one_fewer (length cuts) (semi_count a + semi_count b) l in
-    padded_both (pads_split a T (first_cuts a cuts) (first_many a (semi_count b) cuts n) h) (pads_still b T (second_cuts a cuts) (second_many a (semi_count b) cuts n))
+    let n = pred_same (length cuts) (semi_count a + semi_count b) l in
+    padded_both (pads_split a T (first_cuts a cuts) (first_length a (semi_count b) cuts n) h) (pads_still b T (second_cuts a cuts) (second_length a (semi_count b) cuts n))
 pads_split (semi a b) T (false ∷ cuts) l (cat_has_both h m k) =
-    let n = one_fewer (length cuts) (semi_count a + semi_count b) l in
-    padded_both (pads_split a T (first_cuts a cuts) (first_many a (semi_count b) cuts n) h) (pads_split b T (second_cuts a cuts) (second_many a (semi_count b) cuts n) k)
+    let n = pred_same (length cuts) (semi_count a + semi_count b) l in
+    padded_both (pads_split a T (first_cuts a cuts) (first_length a (semi_count b) cuts n) h) (pads_split b T (second_cuts a cuts) (second_length a (semi_count b) cuts n) k)
 
 -- and after a prefix: with nothing more on them, or what comes behind it
 pub pads_over : (b : BunchTree) (T : NameTypes) (cuts : List Bool) → length cuts ≡ semi_count b → {p : StreamPrefix} → Derives (as_type (rest_bunch b T cuts)) p
     → Padded T (leaf_names b) (still_entries (awaited_after (awaited_left b T cuts) p)) (over_entries (rest_bunch b T cuts) p)
 pads_over empty T cuts l eps_has_emp = no_name
 pads_over (leaf y t) T cuts l h = same_name no_name
-pads_over (comma a b) T cuts l (par_has_both h k) = padded_both (pads_over a T (first_cuts a cuts) (first_many a (semi_count b) cuts l) h) (pads_over b T (second_cuts a cuts) (second_many a (semi_count b) cuts l) k)
+pads_over (comma a b) T cuts l (par_has_both h k) = padded_both (pads_over a T (first_cuts a cuts) (first_length a (semi_count b) cuts l) h) (pads_over b T (second_cuts a cuts) (second_length a (semi_count b) cuts l) k)
 pads_over (semi a b) T [] l h = none_left (semi_count a + semi_count b) l
 pads_over (semi a b) T (true ∷ cuts) l h =
-    let n = one_fewer (length cuts) (semi_count a + semi_count b) l in
-    padded_both (dropped a T (first_cuts a cuts) (first_many a (semi_count b) cuts n)) (pads_over b T (second_cuts a cuts) (second_many a (semi_count b) cuts n) h)
+    let n = pred_same (length cuts) (semi_count a + semi_count b) l in
+    padded_both (dropped a T (first_cuts a cuts) (first_length a (semi_count b) cuts n)) (pads_over b T (second_cuts a cuts) (second_length a (semi_count b) cuts n) h)
 pads_over (semi a b) T (false ∷ cuts) l (cat_has_fst h) =
-    let n = one_fewer (length cuts) (semi_count a + semi_count b) l in
-    padded_both (pads_over a T (first_cuts a cuts) (first_many a (semi_count b) cuts n) h) (pads_still b T (second_cuts a cuts) (second_many a (semi_count b) cuts n))
+    let n = pred_same (length cuts) (semi_count a + semi_count b) l in
+    padded_both (pads_over a T (first_cuts a cuts) (first_length a (semi_count b) cuts n) h) (pads_still b T (second_cuts a cuts) (second_length a (semi_count b) cuts n))
 pads_over (semi a b) T (false ∷ cuts) l (cat_has_both h m k) =
-    let n = one_fewer (length cuts) (semi_count a + semi_count b) l in
-    padded_both (pads_over a T (first_cuts a cuts) (first_many a (semi_count b) cuts n) h) (pads_over b T (second_cuts a cuts) (second_many a (semi_count b) cuts n) k)
+    let n = pred_same (length cuts) (semi_count a + semi_count b) l in
+    padded_both (pads_over a T (first_cuts a cuts) (first_length a (semi_count b) cuts n) h) (pads_over b T (second_cuts a cuts) (second_length a (semi_count b) cuts n) k)
 
 pub pads_later : (b : BunchTree) (T : NameTypes) (cuts : List Bool) → length cuts ≡ semi_count b → {p d : StreamPrefix} → Derives (as_type (rest_bunch b T cuts)) p → Derives (der p (as_type (rest_bunch b T cuts))) d
     → Padded T (leaf_names b) (entries_on (awaited_after (awaited_left b T cuts) p) d) (later_entries (rest_bunch b T cuts) p d)
 pads_later empty T cuts l eps_has_emp eps_has_emp = no_name
 pads_later (leaf y t) T cuts l h i = same_name no_name
 pads_later (comma a b) T cuts l (par_has_both h k) (par_has_both i j) =
-    padded_both (pads_later a T (first_cuts a cuts) (first_many a (semi_count b) cuts l) h i) (pads_later b T (second_cuts a cuts) (second_many a (semi_count b) cuts l) k j)
+    padded_both (pads_later a T (first_cuts a cuts) (first_length a (semi_count b) cuts l) h i) (pads_later b T (second_cuts a cuts) (second_length a (semi_count b) cuts l) k j)
 pads_later (semi a b) T [] l h i = none_left (semi_count a + semi_count b) l
 pads_later (semi a b) T (true ∷ cuts) l h i =
-    let n = one_fewer (length cuts) (semi_count a + semi_count b) l in
-    padded_both (dropped a T (first_cuts a cuts) (first_many a (semi_count b) cuts n)) (pads_later b T (second_cuts a cuts) (second_many a (semi_count b) cuts n) h i)
+    let n = pred_same (length cuts) (semi_count a + semi_count b) l in
+    padded_both (dropped a T (first_cuts a cuts) (first_length a (semi_count b) cuts n)) (pads_later b T (second_cuts a cuts) (second_length a (semi_count b) cuts n) h i)
 pads_later (semi a b) T (false ∷ cuts) l (cat_has_fst h) (cat_has_fst i) =
-    let n = one_fewer (length cuts) (semi_count a + semi_count b) l in
-    padded_both (pads_later a T (first_cuts a cuts) (first_many a (semi_count b) cuts n) h i) (pads_still b T (second_cuts a cuts) (second_many a (semi_count b) cuts n))
+    let n = pred_same (length cuts) (semi_count a + semi_count b) l in
+    padded_both (pads_later a T (first_cuts a cuts) (first_length a (semi_count b) cuts n) h i) (pads_still b T (second_cuts a cuts) (second_length a (semi_count b) cuts n))
 pads_later (semi a b) T (false ∷ cuts) l (cat_has_fst h) (cat_has_both i m j) =
-    let n = one_fewer (length cuts) (semi_count a + semi_count b) l in
-    padded_both (pads_later a T (first_cuts a cuts) (first_many a (semi_count b) cuts n) h i) (pads_split b T (second_cuts a cuts) (second_many a (semi_count b) cuts n) j)
+    let n = pred_same (length cuts) (semi_count a + semi_count b) l in
+    padded_both (pads_later a T (first_cuts a cuts) (first_length a (semi_count b) cuts n) h i) (pads_split b T (second_cuts a cuts) (second_length a (semi_count b) cuts n) j)
 pads_later (semi a b) T (false ∷ cuts) l (cat_has_both h m k) i =
-    let n = one_fewer (length cuts) (semi_count a + semi_count b) l in
-    padded_both (pads_over a T (first_cuts a cuts) (first_many a (semi_count b) cuts n) h) (pads_later b T (second_cuts a cuts) (second_many a (semi_count b) cuts n) k i)
+    let n = pred_same (length cuts) (semi_count a + semi_count b) l in
+    padded_both (pads_over a T (first_cuts a cuts) (first_length a (semi_count b) cuts n) h) (pads_later b T (second_cuts a cuts) (second_length a (semi_count b) cuts n) k i)
 
 -- after nothing the same is awaited,
 pub after_nothing : (b : BunchTree) (T : NameTypes) (cuts : List Bool) → awaited_after (awaited_left b T cuts) (emp (as_type (rest_bunch b T cuts))) ≡ awaited_left b T cuts
@@ -153,12 +144,12 @@ marks_left empty T (cut ∷ cuts) l = none_left (length cuts) (sym l)
 marks_left (leaf y t) T [] l = refl
 marks_left (leaf y t) T (cut ∷ cuts) l = none_left (length cuts) (sym l)
 marks_left (comma a b) T cuts l =
-    ap₂ ◌++◌ (marks_left a T (first_cuts a cuts) (first_many a (semi_count b) cuts l)) (marks_left b T (second_cuts a cuts) (second_many a (semi_count b) cuts l)) ∙ take-append-drop (semi_count a) cuts
+    ap₂ ◌++◌ (marks_left a T (first_cuts a cuts) (first_length a (semi_count b) cuts l)) (marks_left b T (second_cuts a cuts) (second_length a (semi_count b) cuts l)) ∙ take-append-drop (semi_count a) cuts
 marks_left (semi a b) T [] l = none_left (semi_count a + semi_count b) l
 marks_left (semi a b) T (cut ∷ cuts) l =
-    let k = one_fewer (length cuts) (semi_count a + semi_count b) l in
+    let k = pred_same (length cuts) (semi_count a + semi_count b) l in
     ap (λ cs. cut ∷ cs)
-    (ap₂ ◌++◌ (marks_left a T (first_cuts a cuts) (first_many a (semi_count b) cuts k)) (marks_left b T (second_cuts a cuts) (second_many a (semi_count b) cuts k)) ∙ take-append-drop (semi_count a) cuts)
+    (ap₂ ◌++◌ (marks_left a T (first_cuts a cuts) (first_length a (semi_count b) cuts k)) (marks_left b T (second_cuts a cuts) (second_length a (semi_count b) cuts k)) ∙ take-append-drop (semi_count a) cuts)
 
 -- and those that came since
 pub marks_since : (b : BunchTree) (T : NameTypes) (cuts : List Bool) → length cuts ≡ semi_count b → {p : StreamPrefix} → Derives (as_type (rest_bunch b T cuts)) p → marks_of (awaited_after (awaited_left b T cuts) p) ≡ cuts_since b cuts p
@@ -166,17 +157,17 @@ marks_since empty T [] l eps_has_emp = refl
 marks_since empty T (cut ∷ cuts) l h = none_left (length cuts) (sym l)
 marks_since (leaf y t) T [] l h = refl
 marks_since (leaf y t) T (cut ∷ cuts) l h = none_left (length cuts) (sym l)
-marks_since (comma a b) T cuts l (par_has_both h k) = ap₂ ◌++◌ (marks_since a T (first_cuts a cuts) (first_many a (semi_count b) cuts l) h) (marks_since b T (second_cuts a cuts) (second_many a (semi_count b) cuts l) k)
+marks_since (comma a b) T cuts l (par_has_both h k) = ap₂ ◌++◌ (marks_since a T (first_cuts a cuts) (first_length a (semi_count b) cuts l) h) (marks_since b T (second_cuts a cuts) (second_length a (semi_count b) cuts l) k)
 marks_since (semi a b) T [] l h = none_left (semi_count a + semi_count b) l
 marks_since (semi a b) T (true ∷ cuts) l h =
-    let n = one_fewer (length cuts) (semi_count a + semi_count b) l in
-    ap₂ (λ xs ys. true ∷ (xs ++ ys)) (marks_left a T (first_cuts a cuts) (first_many a (semi_count b) cuts n)) (marks_since b T (second_cuts a cuts) (second_many a (semi_count b) cuts n) h)
+    let n = pred_same (length cuts) (semi_count a + semi_count b) l in
+    ap₂ (λ xs ys. true ∷ (xs ++ ys)) (marks_left a T (first_cuts a cuts) (first_length a (semi_count b) cuts n)) (marks_since b T (second_cuts a cuts) (second_length a (semi_count b) cuts n) h)
 marks_since (semi a b) T (false ∷ cuts) l (cat_has_fst h) =
-    let n = one_fewer (length cuts) (semi_count a + semi_count b) l in
-    ap₂ (λ xs ys. false ∷ (xs ++ ys)) (marks_since a T (first_cuts a cuts) (first_many a (semi_count b) cuts n) h) (marks_left b T (second_cuts a cuts) (second_many a (semi_count b) cuts n))
+    let n = pred_same (length cuts) (semi_count a + semi_count b) l in
+    ap₂ (λ xs ys. false ∷ (xs ++ ys)) (marks_since a T (first_cuts a cuts) (first_length a (semi_count b) cuts n) h) (marks_left b T (second_cuts a cuts) (second_length a (semi_count b) cuts n))
 marks_since (semi a b) T (false ∷ cuts) l (cat_has_both h m k) =
-    let n = one_fewer (length cuts) (semi_count a + semi_count b) l in
-    ap₂ (λ xs ys. true ∷ (xs ++ ys)) (marks_since a T (first_cuts a cuts) (first_many a (semi_count b) cuts n) h) (marks_since b T (second_cuts a cuts) (second_many a (semi_count b) cuts n) k)
+    let n = pred_same (length cuts) (semi_count a + semi_count b) l in
+    ap₂ (λ xs ys. true ∷ (xs ++ ys)) (marks_since a T (first_cuts a cuts) (first_length a (semi_count b) cuts n) h) (marks_since b T (second_cuts a cuts) (second_length a (semi_count b) cuts n) k)
 
 -- the values at the names of a list, in turn, are the list of the values
 pub values_in_turn : {A : Type 0} (d : A) (xs : List ℕ) (vs : List A) → is_distinct xs ≡ true → length vs ≡ length xs → map (value_at d xs vs) xs ≡ vs
@@ -185,7 +176,7 @@ values_in_turn d [] (v ∷ vs) h l = none_left (length vs) (sym l)
 values_in_turn d (x ∷ xs) [] h l = none_left (length xs) l
 values_in_turn {A} d (x ∷ xs) (v ∷ vs) h l =
     ap₂ (λ w ws. w ∷ ws) (ap (λ c. if c then v else value_at d xs vs x) (eqb-same x))
-    (others xs (λ y m. go y m (eqb y x) refl) ∙ values_in_turn d xs vs (distinct_tail x xs h) (one_fewer (length vs) (length xs) l))
+    (others xs (λ y m. go y m (eqb y x) refl) ∙ values_in_turn d xs vs (distinct_tail x xs h) (pred_same (length vs) (length xs) l))
   where
     go : (y : ℕ) → holds y xs ≡ true → (c : Bool) → eqb y x ≡ c → (if c then v else value_at d xs vs y) ≡ value_at d xs vs y
     go y m true e = absurd (not_again x xs h (subst (λ z. holds z xs ≡ true) (eqb-true y x e) m))
@@ -193,7 +184,7 @@ values_in_turn {A} d (x ∷ xs) (v ∷ vs) h l =
 
     others : (ys : List ℕ) → ((y : ℕ) → holds y ys ≡ true → value_at d (x ∷ xs) (v ∷ vs) y ≡ value_at d xs vs y) → map (value_at d (x ∷ xs) (v ∷ vs)) ys ≡ map (value_at d xs vs) ys
     others [] f = refl
-    others (y ∷ ys) f = ap₂ (λ w ws. w ∷ ws) (f y (holds-head y ys)) (others ys (λ z m. f z (or_second (eqb z y) (holds z ys) m)))
+    others (y ∷ ys) f = ap₂ (λ w ws. w ∷ ws) (f y (holds-head y ys)) (others ys (λ z m. f z (or_right (eqb z y) (holds z ys) m)))
 
 -- a bunch whose names are distinct, the types left of them, of which no other name has one, and its marks
 module _ (b : BunchTree) (T : NameTypes) (cuts : List Bool) (distinct : is_distinct (leaf_names b) ≡ true) (none : (x : ℕ) → holds x (leaf_names b) ≡ false → T x ≡ eps) where
@@ -260,4 +251,4 @@ module _ (b : BunchTree) (T : NameTypes) (cuts : List Bool) (distinct : is_disti
       where
         mapped : (xs : List ℕ) → ((x : ℕ) → holds x xs ≡ true → types_held (still_entries (awaited_left b T cuts)) x ≡ T x) → map (types_held (still_entries (awaited_left b T cuts))) xs ≡ map T xs
         mapped [] f = refl
-        mapped (x ∷ xs) f = ap₂ (λ t ts. t ∷ ts) (f x (holds-head x xs)) (mapped xs (λ y m. f y (or_second (eqb y x) (holds y xs) m)))
+        mapped (x ∷ xs) f = ap₂ (λ t ts. t ∷ ts) (f x (holds-head x xs)) (mapped xs (λ y m. f y (or_right (eqb y x) (holds y xs) m)))

@@ -19,11 +19,11 @@ use Rattle.delta_state.specs.Rest.{known_of, rest_at, rest_with, call_rest_at}
 use Rattle.machine_parts.specs.Parameters.{bound_to, names_in, types_listed}
 use Rattle.machine_parts.proofs.Runs.{call_runs, call_rests}
 
-names_typed : (ps : List (Name × Ty)) → map (λ e. e.0) (typed_names_of ps) ≡ names_in ps
+pub names_typed : (ps : List (Name × Ty)) → map (λ e. e.0) (typed_names_of ps) ≡ names_in ps
 names_typed [] = refl
 names_typed (p ∷ ps) = ap (λ (l : List ℕ). p.0.0 ∷ l) (names_typed ps)
 
-types_typed : (ps : List (Name × Ty)) → map (λ e. e.1) (typed_names_of ps) ≡ types_listed ps
+pub types_typed : (ps : List (Name × Ty)) → map (λ e. e.1) (typed_names_of ps) ≡ types_listed ps
 types_typed [] = refl
 types_typed (p ∷ ps) = ap (λ (l : List StreamType). type_of p.1 ∷ l) (types_typed ps)
 

@@ -17,6 +17,7 @@ use Rattle.delta_state.specs.StateMeaning.{past_in, types_held, prefixes_held}
 use Rattle.delta_state.specs.Rest.{known_of, rest_at, rest_all, call_rest_at}
 use Rattle.machine_parts.specs.Parameters.{bound_to}
 use Rattle.machine_parts.specs.Weights.{weight, heaviest}
+use Rattle.state_steps.proofs.CalledBodies.{past_known}
 
 -- what is left of both
 pub rest_waits : (a x : Run) (s t : StateTree) → a ≡ x → is_maximal a.out ≡ false → t ≡ (if is_maximal x.out then s else t)
@@ -39,12 +40,12 @@ rest_all-none funs k call no_terms ts T d past = refl
 rest_all-none funs k call (term_before e es) ts T d past = refl
 
 -- the parameters of a body with what comes on each
-bound_types : (xs : List (ℕ × StreamType)) (ps : List StreamPrefix) (x : ℕ) → types_held (bound_to xs ps) x ≡ value_at eps (map (λ e. e.0) xs) (map (λ e. e.1) xs) x
+pub bound_types : (xs : List (ℕ × StreamType)) (ps : List StreamPrefix) (x : ℕ) → types_held (bound_to xs ps) x ≡ value_at eps (map (λ e. e.0) xs) (map (λ e. e.1) xs) x
 bound_types [] ps x = refl
 bound_types (e ∷ xs) [] x = ap (λ t. if x == e.0 then e.1 else t) (bound_types xs [] x)
 bound_types (e ∷ xs) (p ∷ ps) x = ap (λ t. if x == e.0 then e.1 else t) (bound_types xs ps x)
 
-bound_nothing : (xs : List (ℕ × StreamType)) (x : ℕ) → prefixes_held (bound_to xs []) x ≡ eps_emp
+pub bound_nothing : (xs : List (ℕ × StreamType)) (x : ℕ) → prefixes_held (bound_to xs []) x ≡ eps_emp
 bound_nothing [] x = refl
 bound_nothing (e ∷ xs) x = ap (λ t. if x == e.0 then eps_emp else t) (bound_nothing xs x) ∙ go (x == e.0)
   where
@@ -52,16 +53,10 @@ bound_nothing (e ∷ xs) x = ap (λ t. if x == e.0 then eps_emp else t) (bound_n
     go true = refl
     go false = refl
 
-bound_prefixes : (xs : List (ℕ × StreamType)) (ps : List StreamPrefix) (x : ℕ) → prefixes_held (bound_to xs ps) x ≡ value_at eps_emp (map (λ e. e.0) xs) ps x
+pub bound_prefixes : (xs : List (ℕ × StreamType)) (ps : List StreamPrefix) (x : ℕ) → prefixes_held (bound_to xs ps) x ≡ value_at eps_emp (map (λ e. e.0) xs) ps x
 bound_prefixes [] ps x = refl
 bound_prefixes (e ∷ xs) [] x = bound_nothing (e ∷ xs) x
 bound_prefixes (e ∷ xs) (p ∷ ps) x = ap (λ t. if x == e.0 then p else t) (bound_prefixes xs ps x)
-
--- the values of the historical parameters of a body
-past_known : (es : List (ℕ × StreamType)) (vs : List HistValue) (x : ℕ) → past_in (known_of es vs) x ≡ value_at unit_value (map (λ e. e.0) es) vs x
-past_known [] vs x = refl
-past_known (e ∷ es) [] x = refl
-past_known (e ∷ es) (v ∷ vs) x = ap (λ w. if x == e.0 then v else w) (past_known es vs x)
 
 -- a call, where there is depth for it: its body, with its parameters bound
 module _ (funs : ℕ → CoreBody) (f : ℕ) (vs : List HistValue) (ps : List StreamPrefix) (xs : List (ℕ × StreamType)) (names : map (λ e. e.0) xs ≡ leaf_names (funs f).params) (types : map (λ e. e.1) xs ≡ leaf_types (funs f).params) where

@@ -4,9 +4,8 @@ use Rattle.std.proofs.Common.{◌≡◌, ℕ, ◌+◌, ◌≤◌, Bool, true, fa
 use Rattle.std.proofs.lemmas.Bool.{eqb-true}
 use Rattle.bunch.specs.Names.{holds}
 use Rattle.core_term.specs.FreeNames.{is_distinct}
-use Rattle.core_term.proofs.BoundOnce.{not_again, distinct_tail}
+use Rattle.core_term.proofs.BoundOnce.{not_again, distinct_tail, distinct_head}
 use Rattle.core_term.proofs.Sides.{eqb-same}
-use Rattle.kept_state.proofs.Sublists.{distinct_before}
 
 -- how often a name stands in a list
 abbrev pub times : ℕ → List ℕ → ℕ
@@ -56,7 +55,7 @@ distinct_times x (y ∷ ys) d = go (eqb x y) refl (distinct_times x ys (distinct
 -- names of which each stands once at most are distinct
 pub times_distinct : (xs : List ℕ) → ((x : ℕ) → times x xs ≤ 1) → is_distinct xs ≡ true
 times_distinct [] h = refl
-times_distinct (y ∷ ys) h = distinct_before y ys alone (times_distinct ys (λ x. let all = h x in omega (arith, all)))
+times_distinct (y ∷ ys) h = distinct_head y ys alone (times_distinct ys (λ x. let all = h x in omega (arith, all)))
   where
     here : times y (y ∷ ys) ≡ 1 + times y ys
     here = ap (λ b. (if b then 1 else 0) + times y ys) (eqb-same y)

@@ -3,8 +3,9 @@
 use Rattle.std.proofs.Common.{◌≡◌, ◌∙◌, ℕ, ◌+◌, ◌≤◌, Bool, true, false, true≢false, not, ◌&&◌, ◌||◌, ◌⊎◌, inl, inr, ⊎_elim, List, [], ◌∷◌, eqb, if◌then◌else◌, ap, refl, sym, arith}
 use Rattle.std.proofs.lemmas.Bool.{eqb-true}
 use Rattle.bunch.specs.Names.{holds}
+use Rattle.bunch.proofs.Tests.{and_first, and_second, or_split}
 use Rattle.core_term.specs.FreeNames.{without}
-use Rattle.core_term.proofs.Sides.{and_first, and_second, or_split, eqb-same}
+use Rattle.core_term.proofs.Sides.{eqb-same}
 use Rattle.delta_state.specs.StateTree.{StateTree, ArgumentTrees, sink, var_state, no_arguments, argument_before, argument_names, argument_at}
 use Rattle.kept_state.specs.KeptNames.{bound_in_state, bound_in_arguments}
 use Rattle.state_rewriting.specs.Rewriting.{is_plain, are_plain, names_passed, at_most_once, stand_once, passed_on, composed, without_argument}
@@ -37,11 +38,6 @@ fewer_well u (argument_before x t s args) w = go (eqb x u) (fewer_well u args (r
     go : (b : Bool) → AreWell (without_argument u args) → AreWell (if b then without_argument u args else argument_before x t s (without_argument u args))
     go true v = v
     go false v = record { bodies = (w.bodies.0, v.bodies); pasts = (w.pasts.0, v.pasts); waits = (w.waits.0, v.waits) }
-
--- composed arguments are those of the inner parameters
-pub composed_names : (args inner : ArgumentTrees) → argument_names (composed args inner) ≡ argument_names inner
-composed_names args no_arguments = refl
-composed_names args (argument_before x t s inner) = ap (λ us. x ∷ us) (composed_names args inner)
 
 -- what stands as the argument of a parameter is well made,
 pub well_at : (args : ArgumentTrees) (u : ℕ) → AreWell args → IsWell (argument_at args u)

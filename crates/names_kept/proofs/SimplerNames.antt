@@ -7,10 +7,11 @@ use Rattle.delta_state.specs.StateTree.{StateTree, ArgumentTrees, frame_state, a
 use Rattle.kept_state.specs.KeptNames.{bound_in_state, bound_in_arguments, IsTidy}
 use Rattle.state_rewriting.specs.Rewriting.{Rewritten, finished, unused, unused_pair, unused_row, unused_argument, alias, pair, renamed, frames, returned, SimplerBy, as_it_is, one_more, IsAlias, IsPair, composed, without_argument, are_plain, stand_once, names_passed, row}
 use Rattle.state_rewriting.proofs.SimplerStates.{simpler_stands_for}
+use Rattle.state_rewriting.proofs.FramesJoined.{composed_names}
 use Rattle.names_kept.specs.Laws.{SimplerIsTidy, SimplerStaysTidy}
 use Rattle.names_kept.proofs.NameCounts.{Fewer, fewer_distinct, fewer_same, fewer_nothing, fewer_next, fewer_both, fewer_behind, fewer_than_more, fewer_left, fewer_right}
 use Rattle.names_kept.proofs.NoWorseStates.{IsWell, AreWell, NoWorse, replaced_no_worse, alias_no_worse, pair_no_worse}
-use Rattle.names_kept.proofs.NoWorseArguments.{fewer_names, fewer_bound, fewer_well, composed_names, composed_well, composed_fewer, well_at, fewer_at}
+use Rattle.names_kept.proofs.NoWorseArguments.{fewer_names, fewer_bound, fewer_well, composed_well, composed_fewer, well_at, fewer_at}
 
 -- a call less the arguments of a parameter
 dropped_well : (u : ℕ) (args : ArgumentTrees) (a : StateTree) → IsWell (frame_state args a) → IsWell (frame_state (without_argument u args) a)

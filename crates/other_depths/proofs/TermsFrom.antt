@@ -5,6 +5,7 @@ use Rattle.stream_type.specs.StreamType.{StreamType}
 use Rattle.stream_prefix.specs.StreamPrefix.{StreamPrefix, eps_emp, is_maximal}
 use Rattle.bunch.specs.Names.{put, holds, value_at}
 use Rattle.bunch.specs.BunchTree.{leaf_names}
+use Rattle.bunch.proofs.NameLists.{one_name}
 use Rattle.hist_value.specs.HistValue.{HistValue, unit_value}
 use Rattle.hist_value.specs.Wholes.{value_of}
 use Rattle.core_term.specs.CoreTerm.{CoreTerm, CoreTerms, CoreBody, var_term, eps_term, unit_term, nil_term, past_term, par_term, cat_term, cons_term, inl_term, inr_term, let_term, let_par_term, let_cat_term, case_sum_term, case_star_term, wait_term, call_term, no_terms, term_before, leaf_types, past_names}
@@ -17,7 +18,6 @@ use Rattle.delta_state.specs.StateTree.{Known, StateTree, laters_of, laters_in}
 use Rattle.delta_state.specs.StateMeaning.{past_in}
 use Rattle.delta_state.specs.Rest.{known_of, rest_with, rest_all, rest_at, call_rest_at}
 use Rattle.state_steps.proofs.CalledBodies.{past_known}
-use Rattle.state_rewriting.proofs.OtherNames.{the_one}
 use Rattle.other_depths.specs.Suits.{ComesFrom}
 use Rattle.other_depths.proofs.FormsFrom.{AllFrom, none_from, both_from, last_from, one_from, two_from, cat_from, wait_from, cut_from, sum_from, star_from}
 
@@ -71,13 +71,13 @@ module _ (depths : List ℕ) (funs : ℕ → CoreBody) (k : ℕ) (there : holds 
 -- what comes from one depth comes from depths among which it is
 pub among_from : (depths : List ℕ) (n k d : ℕ) → holds k depths ≡ true → ComesFrom (k ∷ []) n d → ComesFrom depths n d
 among_from depths n k d there w =
-    let e : w.before ≡ k = the_one w.before k w.is_there in
+    let e : w.before ≡ k = one_name w.before k w.is_there in
     record { before = k; is_there = there; steps = w.steps; in_calls = w.in_calls; is_less = omega (arith, e, w.is_less) }
 
 -- what comes from a depth comes from the one above with one call more
 pub above_from : (n k d : ℕ) → ComesFrom (k ∷ []) n d → ComesFrom (suc k ∷ []) (1 + n) d
 above_from n k d w =
-    let e : w.before ≡ k = the_one w.before k w.is_there in
+    let e : w.before ≡ k = one_name w.before k w.is_there in
     record { before = suc k; is_there = holds-head (suc k) []; steps = suc w.steps; in_calls = omega (arith, w.in_calls); is_less = omega (arith, e, w.is_less) }
 
 module _ (funs : ℕ → CoreBody) where

@@ -1,11 +1,11 @@
 -- Expressions that only move numbers about: at other numbers they have the value that they had, with these in it.
 use Rattle.std.proofs.Common.{◌≡◌, ◌∙◌, ℤ, true, true≢false, ◌&&◌, ap, ap₂, refl, sym}
 use Rattle.bunch.specs.Names.{put}
+use Rattle.bunch.proofs.Tests.{and_first, and_second}
 use Rattle.hist_value.specs.HistExpr.{HistExpr, variable, literal, unit_expr, reckoned, pair_expr, first_expr, second_expr, left_expr, right_expr, choice, nil_expr, cons_expr, fold_expr}
 use Rattle.hist_value.specs.HistValue.{HistValue, pair_of, left_of, right_of, item_before}
 use Rattle.hist_value.specs.Evaluate.{value, first_of, second_of, choose, cons_of, gather, gathering}
 use Rattle.core_term.specs.Meaning.{Past}
-use Rattle.core_term.proofs.Sides.{and_first, and_second}
 use Rattle.other_numbers.specs.Numbers.{exchanged_value, exchanged_past}
 use Rattle.other_numbers.specs.Commutes.{only_moves}
 use Rattle.other_numbers.specs.Laws.{MovesCommute}

@@ -1,6 +1,6 @@
 -- A settled state holds no more events than its bound says.
 use Rattle.std.proofs.Common.{◌≡◌, ◌∙◌, ◌+◌, ⊎_elim, ◌⊎◌, inl, inr, ℕ, Bool, true, false, true≢false, not, ◌&&◌, ◌||◌, List, [], ◌∷◌, eqb, if◌then◌else◌, ap, ap₂, refl, subst, sym, arith}
-use Rattle.std.proofs.lemmas.Bool.{eqb-true}
+use Rattle.std.proofs.lemmas.Bool.{eqb-true, not-true}
 use Rattle.std.specs.Prelude.{Some, length}
 use Rattle.std.proofs.lemmas.List.Elements.{All-head, All-tail}
 use Rattle.std.specs.List.{All}
@@ -10,12 +10,13 @@ use Rattle.stream_prefix.specs.StreamPrefix.{is_maximal, IsPrefix}
 use Rattle.stream_prefix.proofs.Derivations.{derives}
 use Rattle.bunch.specs.Names.{holds}
 use Rattle.bunch.specs.Facts.{place_let}
+use Rattle.bunch.proofs.Tests.{and_first, and_second, or_split}
 use Rattle.event_word.specs.Canon.{canon}
 use Rattle.core_term.specs.CoreTerm.{CoreBody}
 use Rattle.core_term.specs.FreeNames.{without, once}
 use Rattle.core_term.specs.Parts.{par_left, par_right, cat_first, cat_second}
 use Rattle.core_term.specs.Typing.{Context, type_at, with_name, with_fact, with_parts}
-use Rattle.core_term.proofs.Sides.{and_first, and_second, or_split, holds-head}
+use Rattle.core_term.proofs.Sides.{holds-head}
 use Rattle.core_term.proofs.Without.{holds-without, holds-kept}
 use Rattle.core_term.proofs.OnceEach.{holds-once}
 use Rattle.delta_state.specs.StateTree.{HeldName, StateTree, ArgumentTrees, sink, var_state, par_state, cat_state, let_state, let_par_state, let_cat_state, sum_state, star_state, wait_state, frame_state, no_arguments, argument_before, held_names, free_in_state, free_in_sum, free_in_star, free_in_wait}
@@ -24,7 +25,7 @@ use Rattle.delta_state.specs.StateTyping.{HasStateType, HaveArgumentTypes, IsHel
 use Rattle.delta_state.specs.Settled.{has_tag, is_settled, are_settled}
 use Rattle.delta_state.specs.PlainState.{without_marks, arguments_without_marks, plain_held, events_in, events_held, events_held_by}
 use Rattle.delta_state.proofs.HeldNames.{held_at, mark_is}
-use Rattle.delta_state.proofs.SettledStates.{is_not, sum_untagged, star_untagged}
+use Rattle.delta_state.proofs.SettledStates.{sum_untagged, star_untagged}
 use Rattle.state_bounds.specs.Bounds.{Bound, ◌⊑◌, size_of}
 use Rattle.state_bounds.specs.TermBounds.{room_of, case_room, wait_room}
 use Rattle.state_bounds.specs.StateBounds.{state_bound, argument_bounds}
@@ -100,14 +101,14 @@ module _ (funs : List CoreBody) (counts : ℕ → Bool) (numbers : ℕ → Bound
     settled_counted (let_cat_state x y z a) c r h i = settled_counted a (with_fact x y (with_parts x (cat_first (type_at c z)) y (cat_second (type_at c z)) z c)) r h.2 i
     settled_counted (sum_state z t held x l y m) c r h i =
         let typed = mark_is held z _ h.2.subject_typed in
-        let none = sum_untagged _ _ (prefixes_held held z) (subst (λ s. IsPrefix s (prefixes_held held z)) typed (held_at (λ x t p. IsPrefix t p) held h.1.are_prefixes z (h.1.are_free z ∙ holds-head z _))) (is_not (has_tag (prefixes_held held z)) i) in
+        let none = sum_untagged _ _ (prefixes_held held z) (subst (λ s. IsPrefix s (prefixes_held held z)) typed (held_at (λ x t p. IsPrefix t p) held h.1.are_prefixes z (h.1.are_free z ∙ holds-head z _))) (not-true (has_tag (prefixes_held held z)) i) in
         at_most_left (counted (events_in (plain_held held))) (case_room (types_held held) (facts_held held c.order) z (free_in_sum z x l y m)) _ (case_events c (free_in_sum z x l y m) held h.1 z (ap is_maximal none) (ap (λ p. length (canon p)) none))
     settled_counted (star_state z t held l y ys m) c r h i =
         let typed = mark_is held z _ h.2.subject_typed in
-        let none = star_untagged _ (prefixes_held held z) (subst (λ s. IsPrefix s (prefixes_held held z)) typed (held_at (λ x t p. IsPrefix t p) held h.1.are_prefixes z (h.1.are_free z ∙ holds-head z _))) (is_not (has_tag (prefixes_held held z)) i) in
+        let none = star_untagged _ (prefixes_held held z) (subst (λ s. IsPrefix s (prefixes_held held z)) typed (held_at (λ x t p. IsPrefix t p) held h.1.are_prefixes z (h.1.are_free z ∙ holds-head z _))) (not-true (has_tag (prefixes_held held z)) i) in
         at_most_left (counted (events_in (plain_held held))) (case_room (types_held held) (facts_held held c.order) z (free_in_star z l y ys m)) _ (case_events c (free_in_star z l y ys m) held h.1 z (ap is_maximal none) (ap (λ p. length (canon p)) none))
     settled_counted (wait_state x t held l) c r h i =
-        at_most_left (counted (events_in (plain_held held))) (wait_room (types_held held) (facts_held held c.order) x (free_in_wait x l)) _ (waiting_events c (free_in_wait x l) held h.1 x (is_not (is_maximal (prefixes_held held x)) i))
+        at_most_left (counted (events_in (plain_held held))) (wait_room (types_held held) (facts_held held c.order) x (free_in_wait x l)) _ (waiting_events c (free_in_wait x l) held h.1 x (not-true (is_maximal (prefixes_held held x)) i))
     settled_counted (frame_state args s) c r h i =
         counted_both (events_held_by (arguments_without_marks args)) (events_held (without_marks s)) _ _ (arguments_counted args c h.0 (and_first (are_settled args) (is_settled s r) i)) (settled_counted s (context_of_arguments c args) r h.1 (and_second (are_settled args) (is_settled s r) i))
 

@@ -8,6 +8,7 @@ use Rattle.bunch.specs.BunchTree.{BunchTree, leaf_names, stands_before}
 use Rattle.bunch.specs.Facts.{Facts}
 use Rattle.bunch.specs.Names.{put, holds, value_at}
 use Rattle.bunch.proofs.Bunches.{first_is_there, second_is_there}
+use Rattle.bunch.proofs.Tests.{and_first, and_second}
 use Rattle.core_term.specs.Agreement.{types_in}
 use Rattle.core_term.specs.CoreTerm.{CoreBody, fun_at, CoreTerms, leaf_types, no_body}
 use Rattle.core_term.specs.Environment.{Environment, NameTypes}
@@ -16,7 +17,7 @@ use Rattle.core_term.specs.Inert.{is_inert_fun}
 use Rattle.core_term.specs.Meaning.{call_at, run_all, run_at}
 use Rattle.core_term.specs.Typing.{Context, is_before, IsTypedBody, context_of, passed, argument_of}
 use Rattle.core_term.proofs.Parameters.{length-leaf_types, value_at-leaf_types}
-use Rattle.core_term.proofs.Sides.{and_first, and_second, holds-all}
+use Rattle.core_term.proofs.Sides.{holds-all}
 use Rattle.core_term.proofs.TypedRuns.{Any, free_are_streams, at_index}
 use Rattle.core_term.proofs.TypedTerms.{PastTypes, TypedAll, none_typed, more_typed, StandBefore, PassedInOrder}
 use Rattle.core_term.proofs.Retyping.{Among}

@@ -10,6 +10,7 @@ use Rattle.stream_prefix.proofs.Joins.{emp_is_prefix, der-join}
 use Rattle.stream_prefix.proofs.Parts.{part_refl}
 use Rattle.bunch.specs.Names.{put, holds, value_at}
 use Rattle.bunch.specs.Facts.{Facts, place_like, place_let, put_before}
+use Rattle.bunch.proofs.Tests.{and_first, and_second}
 use Rattle.hist_value.specs.HistType.{past as past_type}
 use Rattle.hist_value.specs.Wholes.{value_of}
 use Rattle.hist_value.specs.Laws.{HasTypes}
@@ -22,7 +23,7 @@ use Rattle.core_term.specs.Inert.{is_inert_fun}
 use Rattle.core_term.specs.Parts.{par_left, par_right, cat_first, cat_second, sum_left, sum_right, star_item, star_items, left_part, right_part, first_part, second_part}
 use Rattle.core_term.specs.Run.{sum_run, star_run, wait_run}
 use Rattle.core_term.specs.Typing.{Context, type_at, types_of, HasType, IsTypedBody, with_name, with_fact, with_parts}
-use Rattle.core_term.proofs.Sides.{and_first, and_second, holds-head}
+use Rattle.core_term.proofs.Sides.{holds-head}
 use Rattle.core_term.proofs.Placing.{like_agrees, let_agrees, pair_agrees, row_agrees}
 use Rattle.core_term.proofs.Agreements.{whole_or_empty}
 use Rattle.core_term.proofs.GrowingRuns.{Streams, continues_same, streams_put, streams_put_two, par_parts, cat_parts, par_parts_whole, cat_parts_whole}

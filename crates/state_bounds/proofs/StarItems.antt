@@ -5,8 +5,8 @@ use Rattle.stream_type.specs.StreamType.{StreamType, star}
 use Rattle.stream_prefix.specs.StreamPrefix.{StreamPrefix, star_emp, star_first, star_rest, emp, is_maximal}
 use Rattle.stream_prefix.proofs.Derivations.{Derives, star_has_emp, star_has_first, star_has_rest}
 use Rattle.core_term.specs.Run.{Run, star_run}
-use Rattle.core_term.proofs.Sides.{and_second}
 use Rattle.state_steps.proofs.Steps.{first_emp, rest_emp}
+use Rattle.bunch.proofs.Tests.{and_second}
 
 -- p came of an item, and q of the items behind it: a first item that isn't ended has none behind it
 abbrev pub CameItem : StreamPrefix → StreamPrefix → StreamPrefix → Type 0

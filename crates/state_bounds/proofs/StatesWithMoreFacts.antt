@@ -6,12 +6,13 @@ use Rattle.std.specs.List.{list_all}
 use Rattle.stream_type.specs.StreamType.{eps}
 use Rattle.bunch.specs.Names.{holds}
 use Rattle.bunch.specs.Facts.{place_let}
+use Rattle.bunch.proofs.Tests.{and_first, and_second}
 use Rattle.core_term.specs.CoreTerm.{CoreBody, case_sum_term, case_star_term, wait_term, fun_at}
 use Rattle.core_term.specs.FreeNames.{without, free_names}
 use Rattle.core_term.specs.Inert.{is_inert_fun}
 use Rattle.core_term.specs.Parts.{par_left, par_right, cat_first, cat_second}
 use Rattle.core_term.specs.Typing.{Context, type_at, types_of, is_before, with_name, with_fact, with_parts}
-use Rattle.core_term.proofs.Sides.{and_first, and_second, holds-head}
+use Rattle.core_term.proofs.Sides.{holds-head}
 use Rattle.core_term.proofs.Retyping.{among_same}
 use Rattle.delta_state.specs.StateTree.{HeldName, StateTree, ArgumentTrees, sink, var_state, par_state, cat_state, let_state, let_par_state, let_cat_state, sum_state, star_state, wait_state, frame_state, no_arguments, argument_before, argument_names, argument_at, free_in_state, free_in_arguments, free_in_sum, free_in_star, free_in_wait}
 use Rattle.delta_state.specs.StateMeaning.{types_held}

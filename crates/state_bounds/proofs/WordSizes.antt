@@ -9,10 +9,10 @@ use Rattle.event_word.specs.Canon.{canon}
 use Rattle.event_word.specs.StreamEvent.{leaf_of, under}
 use Rattle.event_word.specs.declared.event.Leaf.TheVariants.{Cut}
 use Rattle.event_word.specs.declared.event.Step.TheVariants.{Left, Right, First}
-use Rattle.core_term.proofs.Sides.{and_first, and_second}
 use Rattle.delta_state.specs.StateTyping.{is_empty}
 use Rattle.state_bounds.specs.Bounds.{Bound, both, greater, ◌⊑◌, size_of, limit}
 use Rattle.state_bounds.proofs.BoundOrder.{at_most_left, at_most_right, nothing_at_most}
+use Rattle.bunch.proofs.Tests.{and_first, and_second}
 
 -- so many events, as sums stop
 abbrev pub counted : ℕ → Bound

@@ -6,12 +6,13 @@ use Rattle.std.specs.List.{All, list_all}
 use Rattle.stream_type.specs.StreamType.{StreamType}
 use Rattle.stream_prefix.specs.StreamPrefix.{eps_emp, is_maximal}
 use Rattle.bunch.specs.Names.{holds, value_at}
+use Rattle.bunch.proofs.Tests.{and_first, and_second}
 use Rattle.core_term.specs.CoreTerm.{CoreBody, fun_at}
 use Rattle.core_term.specs.Environment.{Environment, NameTypes}
 use Rattle.core_term.specs.Inert.{is_inert_fun}
 use Rattle.core_term.specs.Run.{Run, Runs, run_before, frame_run}
 use Rattle.core_term.specs.Typing.{Context, is_before, IsTypedBody}
-use Rattle.core_term.proofs.Sides.{and_first, and_second, holds-left, holds-right, holds-split}
+use Rattle.core_term.proofs.Sides.{holds-left, holds-right, holds-split}
 use Rattle.core_term.proofs.TypedTerms.{Extends}
 use Rattle.core_term.proofs.GrowingRuns.{Streams, Continues}
 use Rattle.core_term.proofs.FreeRuns.{Alike}

@@ -2,6 +2,7 @@
 -- type is kept, and the runs are lighter.
 use Rattle.std.proofs.Common.{◌≡◌, ◌≤◌, ◌+◌, ℕ, Bool, true, false, ◌&&◌, ◌||◌, List, [], ◌∷◌, eqb, if◌then◌else◌, ap, ap₂, refl, arith}
 use Rattle.std.specs.List.{All}
+use Rattle.std.proofs.lemmas.Bool.{or_right}
 use Rattle.stream_type.specs.StreamType.{StreamType}
 use Rattle.stream_prefix.specs.StreamPrefix.{is_maximal}
 use Rattle.core_term.specs.CoreTerm.{CoreBody, fun_at}
@@ -9,7 +10,6 @@ use Rattle.core_term.specs.Environment.{Environment, NameTypes}
 use Rattle.core_term.specs.Inert.{is_inert_fun}
 use Rattle.core_term.specs.Run.{Run, Runs, quiet, frame_run}
 use Rattle.core_term.specs.Typing.{Context, IsTypedBody}
-use Rattle.core_term.proofs.Sides.{and_first, or_second}
 use Rattle.core_term.proofs.TypedTerms.{Extends}
 use Rattle.core_term.proofs.GrowingRuns.{Streams, Continues}
 use Rattle.delta_state.specs.StateTree.{ArgumentTrees, var_state, frame_state, no_arguments, argument_before, is_var_state, argument_at, free_in_state, free_in_arguments}
@@ -22,6 +22,7 @@ use Rattle.state_rewriting.proofs.FittingParts.{served_fewer, Fits}
 use Rattle.state_rewriting.proofs.LighterParts.{Lighter, lighter_from, LighterState}
 use Rattle.state_rewriting.proofs.BindingsLeftOut.{NoOther, deeper_up}
 use Rattle.state_rewriting.proofs.FramesJoined.{argument_typed, argument_settled, out_at, calls_are, level_at, shares}
+use Rattle.bunch.proofs.Tests.{and_first}
 
 module _ (funs : List CoreBody) (counts : ℕ → Bool) where
   -- the argument has the type that the parameter has in the body, and is settled
@@ -35,7 +36,7 @@ module _ (funs : List CoreBody) (counts : ℕ → Bool) where
 -- of no names each argument is passed on once at most,
 none_once : (args : ArgumentTrees) → stand_once args [] ≡ true
 none_once no_arguments = refl
-none_once (argument_before x t s args) = ap₂ ◌&&◌ (or_second (is_plain s) true refl) (none_once args)
+none_once (argument_before x t s args) = ap₂ ◌&&◌ (or_right (is_plain s) true refl) (none_once args)
 
 -- and so it is of one name
 alone_once : (args : ArgumentTrees) (u : ℕ) → stand_once args (u ∷ []) ≡ true
@@ -43,8 +44,8 @@ alone_once no_arguments u = refl
 alone_once (argument_before x t s args) u = go (eqb u x) (alone_once args u)
   where
     go : (b : Bool) → stand_once args (u ∷ []) ≡ true → ((is_plain s || (if b then true else true)) && stand_once args (if b then [] else u ∷ [])) ≡ true
-    go true k = ap₂ ◌&&◌ (or_second (is_plain s) true refl) (none_once args)
-    go false k = ap₂ ◌&&◌ (or_second (is_plain s) true refl) k
+    go true k = ap₂ ◌&&◌ (or_right (is_plain s) true refl) (none_once args)
+    go false k = ap₂ ◌&&◌ (or_right (is_plain s) true refl) k
 
 -- an argument is lighter than the frame that gives just what it gives; v says whether it is a name
 given_alone : (v : Bool) (i i' : Runs) (a a' : Run) → a.calls ≤ i.calls → a'.calls + i.calls ≤ i'.calls + a.calls → a.level ≤ i.level → a'.level ≤ i'.level → Lighter false v (frame_run i (quiet a.out)) (frame_run i' (quiet a'.out)) a a'
@@ -58,8 +59,8 @@ given_alone v i i' a a' h k l n =
       rise = omega (arith, k);
       level = omega (arith, l, up);
       next_level = omega (arith, n, next_up);
-      shut = λ e. or_second v (is_maximal a.out) e;
-      next_shut = λ e. or_second v (is_maximal a'.out) e;
+      shut = λ e. or_right v (is_maximal a.out) e;
+      next_shut = λ e. or_right v (is_maximal a'.out) e;
     }
 
 module _ (funs : List CoreBody) (typed : All (IsTypedBody funs) funs) where

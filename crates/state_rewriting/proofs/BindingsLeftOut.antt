@@ -3,19 +3,21 @@
 use Rattle.std.proofs.Common.{◌≡◌, ◌∙◌, ◌≤◌, ℕ, Bool, true, false, ◌||◌, List, [], ◌∷◌, ◌++◌, ap, refl, subst, sym, arith}
 use Rattle.std.specs.Prelude.{Some}
 use Rattle.std.specs.List.{All}
+use Rattle.std.proofs.lemmas.Bool.{or_right}
 use Rattle.stream_type.specs.StreamType.{StreamType, null_of}
 use Rattle.stream_prefix.specs.StreamPrefix.{StreamPrefix, is_maximal}
 use Rattle.stream_prefix.proofs.Joins.{is_maximal-emp}
 use Rattle.stream_prefix.proofs.MaximalPrefixes.{null_is_emp}
 use Rattle.bunch.specs.Names.{put, holds}
 use Rattle.bunch.specs.Facts.{Facts, place_let}
+use Rattle.bunch.proofs.Tests.{and_first, and_second}
 use Rattle.core_term.specs.CoreTerm.{CoreBody, fun_at}
 use Rattle.core_term.specs.FreeNames.{without}
 use Rattle.core_term.specs.Environment.{Environment, NameTypes}
 use Rattle.core_term.specs.Inert.{is_inert_fun}
 use Rattle.core_term.specs.Run.{Run, quiet, deeper, let_run}
 use Rattle.core_term.specs.Typing.{Context, IsTypedBody, with_name}
-use Rattle.core_term.proofs.Sides.{and_first, and_second, or_second, put-same}
+use Rattle.core_term.proofs.Sides.{put-same}
 use Rattle.core_term.proofs.Without.{holds-without}
 use Rattle.core_term.proofs.TypedTerms.{Extends}
 use Rattle.core_term.proofs.GrowingRuns.{Streams, Continues}
@@ -97,8 +99,8 @@ dropped v w a a' b b' h =
       rise = omega (arith, h);
       level = omega (arith, l);
       next_level = omega (arith, n);
-      shut = λ e. or_second w (is_maximal b.out) e;
-      next_shut = λ e. or_second w (is_maximal b'.out) e;
+      shut = λ e. or_right w (is_maximal b.out) e;
+      next_shut = λ e. or_right w (is_maximal b'.out) e;
     }
 
 -- the same runs are lighter
@@ -110,8 +112,8 @@ same_lighter w a a' = record {
   rise = omega arith;
   level = omega arith;
   next_level = omega arith;
-  shut = λ e. or_second w (is_maximal a.out) e;
-  next_shut = λ e. or_second w (is_maximal a'.out) e;
+  shut = λ e. or_right w (is_maximal a.out) e;
+  next_shut = λ e. or_right w (is_maximal a'.out) e;
 }
 
 -- what is bound is lighter than the let whose body is its name; v says whether it is a name itself
@@ -127,8 +129,8 @@ bound_alone v a a' b b' e e' =
       rise = omega arith;
       level = omega (arith, l);
       next_level = omega (arith, n);
-      shut = λ k. or_second v (is_maximal a.out) k;
-      next_shut = λ k. or_second v (is_maximal a'.out) k;
+      shut = λ k. or_right v (is_maximal a.out) k;
+      next_shut = λ k. or_right v (is_maximal a'.out) k;
     })
 
 module _ (funs : List CoreBody) (typed : All (IsTypedBody funs) funs) where

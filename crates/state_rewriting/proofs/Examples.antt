@@ -15,13 +15,13 @@ use Rattle.core_term.specs.CoreTerm.{CoreTerm, var_term, nil_term, cat_term, con
 use Rattle.core_term.specs.Environment.{Environment, nothing, IsTyped, IsPartAt}
 use Rattle.core_term.specs.Typing.{Context, types_of, is_before, with_name, with_parts, with_fact, IsTypedBody}
 use Rattle.bunch.specs.Facts.{place_let}
+use Rattle.bunch.proofs.NameLists.{one_name}
 use Rattle.delta_state.specs.StateTree.{HeldName, LaterTree, StateTree, ArgumentTrees, sink, var_state, par_state, cat_state, let_state, let_par_state, let_cat_state, star_state, wait_state, frame_state, no_arguments, argument_before, free_in_wait}
 use Rattle.delta_state.specs.StateTyping.{HasStateType, IsHeld, with_known, context_held, context_of_arguments, no_pasts}
 use Rattle.delta_state.specs.Laws.{IsTypedState}
 use Rattle.delta_state.specs.Settled.{is_settled}
 use Rattle.state_rewriting.specs.MarksAtOnce.{marks_at_once}
 use Rattle.state_rewriting.specs.Laws.{run_in}
-use Rattle.state_rewriting.proofs.OtherNames.{the_one}
 use Rattle.state_rewriting.specs.Rewriting.{here, in_left, in_bound, in_let, in_arguments, in_body, at_first, unused, unused_pair, alias, pair, renamed, frames, returned, finished, alias_for, pair_for, Simpler, SimplerBy, as_it_is, one_more, row}
 use Rattle.state_rewriting.proofs.SimplerStates.{simpler_keeps_run}
 
@@ -162,7 +162,7 @@ module _ (counts : ℕ → Bool) where
 
   -- and 5 stands before 6
   alias_in_order : (x y : ℕ) → holds x (5 ∷ []) ≡ true → holds y (6 ∷ []) ≡ true → is_before (in_code (var_state 2)) x y ≡ true
-  alias_in_order x y m n = subst (λ u. is_before (in_code (var_state 2)) u y ≡ true) (sym (the_one x 5 m)) (subst (λ u. is_before (in_code (var_state 2)) 5 u ≡ true) (sym (the_one y 6 n)) refl)
+  alias_in_order x y m n = subst (λ u. is_before (in_code (var_state 2)) u y ≡ true) (sym (one_name x 5 m)) (subst (λ u. is_before (in_code (var_state 2)) 5 u ≡ true) (sym (one_name y 6 n)) refl)
 
   -- so the state is typed with the alias,
   with_alias : HasStateType [] counts outside (apart (var_state 2)) (cat (par eps eps) eps)
@@ -272,7 +272,7 @@ abbrev in_pair : Context
 in_pair = with_fact 5 6 (with_parts 5 int 6 int 4 (with_name 4 (cat int int) (place_let 4 (9 ∷ []) true two_numbers.order) two_numbers))
 
 late_in_order : (x y : ℕ) → holds x (5 ∷ []) ≡ true → holds y (6 ∷ []) ≡ true → is_before in_pair x y ≡ true
-late_in_order x y m n = subst (λ u. is_before in_pair u y ≡ true) (sym (the_one x 5 m)) (subst (λ u. is_before in_pair 5 u ≡ true) (sym (the_one y 6 n)) refl)
+late_in_order x y m n = subst (λ u. is_before in_pair u y ≡ true) (sym (one_name x 5 m)) (subst (λ u. is_before in_pair 5 u ≡ true) (sym (one_name y 6 n)) refl)
 
 -- the pair is typed,
 late_typed : IsTypedState [] two_numbers late (cat int int)

@@ -6,11 +6,12 @@ use Rattle.std.specs.List.{list_all}
 use Rattle.stream_type.specs.StreamType.{StreamType, cat, par, null_of}
 use Rattle.bunch.specs.Names.{put, holds}
 use Rattle.bunch.specs.Facts.{Facts, place_let, after_let, before_let}
+use Rattle.bunch.proofs.Tests.{and_first, and_second}
 use Rattle.core_term.specs.CoreTerm.{CoreBody}
 use Rattle.core_term.specs.FreeNames.{without, free_names}
 use Rattle.core_term.specs.Parts.{par_left, par_right, cat_first, cat_second}
 use Rattle.core_term.specs.Typing.{Context, is_before, AllBefore, with_name, with_fact, with_parts}
-use Rattle.core_term.proofs.Sides.{and_first, and_second, holds-left, holds-right, holds-split, all-holds, holds-all}
+use Rattle.core_term.proofs.Sides.{holds-left, holds-right, holds-split, all-holds, holds-all}
 use Rattle.core_term.proofs.Without.{holds-without, holds-kept, differs-kept}
 use Rattle.core_term.proofs.Retyping.{Among}
 use Rattle.delta_state.specs.StateTree.{LaterTree, StateTree, ArgumentTrees, par_state, cat_state, argument_names, argument_at, free_in_state, free_in_arguments}

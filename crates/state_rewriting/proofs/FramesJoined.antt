@@ -11,13 +11,14 @@ use Rattle.stream_type.specs.StreamType.{StreamType}
 use Rattle.stream_prefix.specs.StreamPrefix.{StreamPrefix, eps_emp, emp, is_maximal}
 use Rattle.stream_prefix.proofs.Joins.{is_maximal-emp}
 use Rattle.bunch.specs.Names.{put, holds, value_at}
+use Rattle.bunch.proofs.Tests.{and_first, and_second, or_split}
 use Rattle.core_term.specs.CoreTerm.{CoreBody, fun_at}
 use Rattle.core_term.specs.FreeNames.{without}
 use Rattle.core_term.specs.Environment.{Environment, NameTypes}
 use Rattle.core_term.specs.Inert.{is_inert_fun}
 use Rattle.core_term.specs.Run.{Run, Runs, run_before, frame_run}
 use Rattle.core_term.specs.Typing.{Context, AllBefore, IsTypedBody}
-use Rattle.core_term.proofs.Sides.{and_first, and_second, or_split, holds-head, holds-split, eqb-same}
+use Rattle.core_term.proofs.Sides.{holds-head, holds-split, eqb-same}
 use Rattle.core_term.proofs.TypedTerms.{Extends}
 use Rattle.core_term.proofs.GrowingRuns.{Streams, Continues}
 use Rattle.core_term.proofs.Retyping.{Among}

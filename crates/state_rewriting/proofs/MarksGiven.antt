@@ -4,13 +4,13 @@ use Rattle.stream_type.specs.StreamType.{StreamType, cat, null_of}
 use Rattle.stream_prefix.specs.StreamPrefix.{StreamPrefix, cat_fst, in_left, in_right, star_emp, star_done, star_first, star_rest, emp, is_maximal}
 use Rattle.stream_prefix.proofs.Joins.{is_maximal-emp}
 use Rattle.bunch.specs.Names.{put}
+use Rattle.bunch.proofs.Tests.{and_first, and_second}
 use Rattle.hist_value.specs.Wholes.{value_of}
 use Rattle.core_term.specs.CoreTerm.{CoreTerm, CoreBody, cat_term, let_term, let_par_term, let_cat_term, case_sum_term, case_star_term, wait_term}
 use Rattle.core_term.specs.Environment.{Environment, NameTypes}
 use Rattle.core_term.specs.Meaning.{Past, Calls, run_with, call_at}
 use Rattle.core_term.specs.Parts.{cat_first, sum_left, sum_right, star_item, star_items}
 use Rattle.core_term.specs.Run.{Run, cat_run_at, cat_run, sum_run, star_run, wait_run}
-use Rattle.core_term.proofs.Sides.{and_first, and_second}
 use Rattle.delta_state.specs.StateTree.{LaterTree, StateTree, cat_state, let_state, let_par_state, let_cat_state, sum_state, star_state, wait_state, frame_state}
 use Rattle.delta_state.specs.StateMeaning.{knowing, types_held, with_held, run_later, run_sum, run_star, run_wait, run_state, past_in}
 use Rattle.state_rewriting.specs.MarksAtOnce.{term_marks_at_once, marks_at_once}

@@ -1,11 +1,13 @@
 -- A name that serves for another one still does under bindings of other names.
 use Rattle.std.proofs.Common.{◌≡◌, ◌∙◌, ℕ, Bool, true, false, true≢false, ◌&&◌, ◌||◌, ◌⊎◌, inl, inr, List, [], ◌∷◌, eqb, if◌then◌else◌, ap, refl, subst, sym}
+use Rattle.std.proofs.lemmas.Bool.{or_right}
 use Rattle.bunch.specs.Names.{holds}
 use Rattle.bunch.specs.Facts.{Facts, place_let, place_like, put_before, before_let, after_let, before_like, after_like}
+use Rattle.bunch.proofs.NameLists.{one_name}
 use Rattle.core_term.specs.Typing.{Context}
-use Rattle.core_term.proofs.Sides.{or_second, all-holds, holds-all, holds-head, eqb-same}
+use Rattle.core_term.proofs.Sides.{all-holds, holds-all, holds-head, eqb-same}
 use Rattle.core_term.proofs.Retyping.{Among}
-use Rattle.state_rewriting.proofs.OtherNames.{apart_from, the_one}
+use Rattle.state_rewriting.proofs.OtherNames.{apart_from}
 use Rattle.state_rewriting.proofs.FittingParts.{ServesFor, Serves, Served}
 
 -- x is neither w nor v
@@ -58,8 +60,8 @@ serves_like w v x z O n i k = record {
 -- and beside a fact between other names
 pub serves_fact : (w v x y : ℕ) (O : Facts) → Beside x w v → Beside y w v → ServesFor w v O → ServesFor w v (put_before x y O)
 serves_fact w v x y O n i k = record {
-  after = λ u h. or_second (eqb v x && eqb u y) (O v u) (k.after u (sym (ap (λ a. (a && eqb u y) || O w u) n.first) ∙ h));
-  before = λ u h. or_second (eqb u x && eqb v y) (O u v) (k.before u (before u (eqb u x) (sym (ap (λ b. (eqb u x && b) || O u w) i.first) ∙ h)));
+  after = λ u h. or_right (eqb v x && eqb u y) (O v u) (k.after u (sym (ap (λ a. (a && eqb u y) || O w u) n.first) ∙ h));
+  before = λ u h. or_right (eqb u x && eqb v y) (O u v) (k.before u (before u (eqb u x) (sym (ap (λ b. (eqb u x && b) || O u w) i.first) ∙ h)));
 }
   where
     before : (u : ℕ) (a : Bool) → ((a && false) || O u w) ≡ true → O u w ≡ true
@@ -81,7 +83,7 @@ module _ (y z : ℕ) where
 
   -- z stands in the place of what has y
   pub one_served : (xs : List ℕ) → Served (OneFor y z) (y ∷ xs) (z ∷ [])
-  one_served xs = record { at = λ u m. inr (y, (refl, the_one u z m), holds-head y xs) }
+  one_served xs = record { at = λ u m. inr (y, (refl, one_name u z m), holds-head y xs) }
 
   -- another name than z was there before
   pub one_other : (xs ys : List ℕ) → Served (OneFor y z) xs ys → (u : ℕ) → eqb u z ≡ false → holds u ys ≡ true → holds u xs ≡ true
@@ -97,4 +99,4 @@ behind_head z xs ys f = record { at = λ u m. go u (eqb u z) refl m }
   where
     go : (u : ℕ) (b : Bool) → eqb u z ≡ b → (b || holds u ys) ≡ true → (eqb u z || holds u xs) ≡ true
     go u true e m = ap (λ b. b || holds u xs) e
-    go u false e m = or_second (eqb u z) (holds u xs) (f u e m)
+    go u false e m = or_right (eqb u z) (holds u xs) (f u e m)

@@ -6,13 +6,15 @@ use Rattle.std.specs.List.{list_all}
 use Rattle.stream_type.specs.StreamType.{StreamType}
 use Rattle.bunch.specs.Names.{holds}
 use Rattle.bunch.specs.Facts.{Facts, place_let, place_like, before_let, after_let}
+use Rattle.bunch.proofs.Tests.{and_first, and_second}
 use Rattle.core_term.specs.FreeNames.{without}
 use Rattle.core_term.specs.Typing.{Context, is_before, AllBefore, with_name, with_name_like, with_fact, with_parts}
-use Rattle.core_term.proofs.Sides.{and_first, and_second, all-holds, holds-all, eqb-same}
+use Rattle.core_term.proofs.Sides.{all-holds, holds-all, eqb-same}
 use Rattle.core_term.proofs.Without.{holds-without, holds-kept, differs-kept}
+use Rattle.core_term.proofs.Placing.{held}
 use Rattle.delta_state.specs.StateTree.{ArgumentTrees}
 use Rattle.delta_state.specs.StateTyping.{context_of_arguments}
-use Rattle.state_rewriting.proofs.OtherNames.{apart_from, at_other_name, unless_chosen}
+use Rattle.state_rewriting.proofs.OtherNames.{apart_from, at_other_name}
 use Rattle.state_rewriting.proofs.NamesServing.{Beside, beside_both, let_at, like_at, serves_let, serves_like, serves_fact}
 use Rattle.state_steps.proofs.FactsWithin.{WithinOn}
 use Rattle.state_rewriting.proofs.FittingParts.{ServesFor, Serves, Served}
@@ -149,14 +151,14 @@ pair_serves x y z O n m o = record { after = after; before = before }
       where
         go : (b : Bool) → like_at z O x u true b ≡ true → like_at z O z u false b ≡ true
         go true k = absurd (true≢false (sym k))
-        go false k = unless_chosen (eqb u z) (O z u) k
+        go false k = held (eqb u z) (O z u) k
 
     before_part : (u : ℕ) → P u x ≡ true → P u z ≡ true
     before_part u h = ap (λ b. like_at z O u z (eqb u x) b) zx ∙ go (eqb u x) (sym (ap (λ b. like_at z O u x (eqb u x) b) (eqb-same x)) ∙ h)
       where
         go : (a : Bool) → like_at z O u x a true ≡ true → like_at z O u z a false ≡ true
         go true k = absurd (true≢false (sym k))
-        go false k = unless_chosen (eqb u z) (O u z) k
+        go false k = held (eqb u z) (O u z) k
 
     -- and once y is placed like z too
     after : (u : ℕ) → place_like y z P x u ≡ true → place_like y z P z u ≡ true

@@ -1,5 +1,5 @@
 -- Names that differ from others, and what stands at them.
-use Rattle.std.proofs.Common.{◌≡◌, ◌∙◌, ℕ, Bool, true, false, true≢false, ◌||◌, List, [], ◌∷◌, eqb, if◌then◌else◌, ap, refl, sym}
+use Rattle.std.proofs.Common.{◌≡◌, ◌∙◌, ℕ, Bool, true, false, true≢false, List, [], eqb, if◌then◌else◌, ap, refl, sym}
 use Rattle.std.proofs.lemmas.Bool.{eqb-true}
 use Rattle.stream_type.specs.StreamType.{StreamType}
 use Rattle.stream_prefix.specs.StreamPrefix.{StreamPrefix}
@@ -15,22 +15,9 @@ apart_from x y xs n m = go (eqb y x) refl
     go true e = absurd (true≢false (sym m ∙ (ap (λ w. holds w xs) (eqb-true y x e) ∙ n)))
     go false e = e
 
--- a list of one name has no other
-pub the_one : (x y : ℕ) → holds x (y ∷ []) ≡ true → x ≡ y
-the_one x y m = go (eqb x y) refl m
-  where
-    go : (b : Bool) → eqb x y ≡ b → (b || false) ≡ true → x ≡ y
-    go true e m = eqb-true x y e
-    go false e m = absurd (true≢false (sym m))
-
 -- what is put at one name leaves the others as they were
 pub at_other_name : {A : Type 0} (x y : ℕ) (a : A) (f : ℕ → A) → eqb y x ≡ false → put x a f y ≡ f y
 at_other_name x y a f e = ap (λ b. if b then a else f y) e
-
--- a choice that is true isn't the one that is false
-pub unless_chosen : (c b : Bool) → (if c then false else b) ≡ true → b ≡ true
-unless_chosen true b h = absurd (true≢false (sym h))
-unless_chosen false b h = h
 
 -- a name that isn't used may have any type and prefix
 pub unused_alike : (x : ℕ) (xs : List ℕ) (s : StreamType) (p : StreamPrefix) (T : NameTypes) (d : Environment) → holds x xs ≡ false → Alike xs (put x s T) T (put x p d) d

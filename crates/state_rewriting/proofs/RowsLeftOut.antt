@@ -1,5 +1,5 @@
 -- The rewriting of a let whose name is taken apart and put together again: the type is kept, and the runs are lighter.
-use Rattle.std.proofs.Common.{◌≡◌, ◌∙◌, ℕ, Bool, true, false, List, [], ◌∷◌, ◌++◌, eqb, ap, ap₂, refl, subst, sym}
+use Rattle.std.proofs.Common.{◌≡◌, ◌∙◌, ℕ, Bool, true, false, List, [], ◌++◌, eqb, ap, ap₂, subst, sym}
 use Rattle.std.proofs.lemmas.Bool.{ne_eqb}
 use Rattle.std.specs.Prelude.{Some, unwrap_or}
 use Rattle.std.specs.List.{All}
@@ -8,6 +8,7 @@ use Rattle.stream_prefix.specs.StreamPrefix.{StreamPrefix, emp}
 use Rattle.stream_prefix.proofs.Derivations.{Derives, cat_has_fst, cat_has_both}
 use Rattle.bunch.specs.Names.{put}
 use Rattle.bunch.specs.Facts.{place_let}
+use Rattle.bunch.proofs.Tests.{and_first}
 use Rattle.core_term.specs.CoreTerm.{CoreBody, var_term, fun_at}
 use Rattle.core_term.specs.FreeNames.{without}
 use Rattle.core_term.specs.Environment.{Environment, NameTypes}
@@ -16,16 +17,17 @@ use Rattle.core_term.specs.Meaning.{run_at}
 use Rattle.core_term.specs.Parts.{cat_first, cat_second, first_part, second_part}
 use Rattle.core_term.specs.Run.{quiet, cat_run_at, cat_run}
 use Rattle.core_term.specs.Typing.{Context, HasType, IsTypedBody, type_at, with_name, with_parts, with_fact}
-use Rattle.core_term.proofs.Sides.{and_first, put-same}
+use Rattle.core_term.proofs.Sides.{put-same}
 use Rattle.core_term.proofs.TypedTerms.{Extends}
 use Rattle.core_term.proofs.GrowingRuns.{Streams, Continues}
 use Rattle.core_term.proofs.Retyping.{among_same}
-use Rattle.delta_state.specs.StateTree.{Known, LaterTree, StateTree, var_state, cat_state, let_state, let_cat_state, is_var_state, free_in_state}
+use Rattle.delta_state.specs.StateTree.{LaterTree, StateTree, var_state, cat_state, let_state, let_cat_state, is_var_state, free_in_state}
 use Rattle.delta_state.specs.StateMeaning.{past_in, run_state}
 use Rattle.delta_state.specs.StateTyping.{HasStateType, with_past, no_pasts}
 use Rattle.delta_state.specs.Settled.{is_settled}
 use Rattle.delta_state.proofs.GrowingStates.{state_run_grows}
 use Rattle.state_steps.proofs.NamesAmong.{among_left}
+use Rattle.state_steps.proofs.KnownNames.{past_types-same}
 use Rattle.state_rewriting.specs.MarksAtOnce.{marks_at_once}
 use Rattle.state_rewriting.proofs.OtherNames.{at_other_name}
 use Rattle.state_rewriting.proofs.FittingParts.{served_fewer, Fits, IsCatTyped, cat_form}
@@ -41,11 +43,6 @@ row_of w x y s a l = let_state w s a (let_cat_state x y w (cat_state (var_state 
 parts_again : {s t : StreamType} {p : StreamPrefix} → Derives (cat s t) p → lacks_mark p ≡ false → cat_run (quiet (first_part p)) (quiet (second_part t p)) ≡ quiet p
 parts_again {t = t} (cat_has_fst {p = p} h) k = ap (λ c. cat_run_at c (quiet p) (quiet (emp t))) k
 parts_again (cat_has_both {p = p} {q = q} h m i) k = ap (λ c. cat_run_at c (quiet p) (quiet q)) m
-
--- values leave the types of streams as they are
-past_leaves : (es : List Known) (c : Context) → (with_past es c).types ≡ c.types
-past_leaves [] c = refl
-past_leaves (e ∷ es) c = past_leaves es c
 
 -- what the typing of the state tells
 record IsRowTyped (x y : ℕ) (r s : StreamType) : Type 0 where
@@ -89,7 +86,7 @@ module _ (funs : List CoreBody) (counts : ℕ → Bool) where
       seconds =
           let there : taken.types y ≡ Some (cat_second (type_at inside w)) = put-same y (Some (cat_second (type_at inside w))) (put x (Some (cat_first (type_at inside w))) inside.types) in
           let known : (with_past l.past taken).types y ≡ Some (cat_second r) = subst (λ u. HasType funs counts (with_past l.past taken) u (cat_second r)) k parts.second.has_type in
-          let e : Some (cat_second s) ≡ Some (cat_second r) = ap (λ u. Some (cat_second u)) (sym bound_type) ∙ (sym there ∙ (sym (ap (λ f. f y) (past_leaves l.past taken)) ∙ known)) in
+          let e : Some (cat_second s) ≡ Some (cat_second r) = ap (λ u. Some (cat_second u)) (sym bound_type) ∙ (sym there ∙ (sym (ap (λ f. f y) (past_types-same l.past taken)) ∙ known)) in
           cc e
 
   -- so what is bound fits in its place

@@ -3,19 +3,21 @@ use Rattle.std.proofs.Common.{◌≡◌, ◌∙◌, ℕ, Bool, true, false, not,
 use Rattle.std.specs.Prelude.{Some}
 use Rattle.std.specs.List.{All}
 use Rattle.std.proofs.lemmas.List.Elements.{All-head, All-tail}
+use Rattle.std.proofs.lemmas.Bool.{not-true}
 use Rattle.stream_type.specs.StreamType.{StreamType, cat, par, null_of}
 use Rattle.stream_prefix.specs.StreamPrefix.{par_both, cat_fst, sum_emp, star_emp, emp, is_maximal, der, join, IsPrefix}
 use Rattle.stream_prefix.proofs.Derivations.{derives}
 use Rattle.stream_prefix.proofs.Joins.{join-emp-der, der-emp, is_maximal-emp}
 use Rattle.bunch.specs.Names.{put, holds}
 use Rattle.bunch.specs.Facts.{place_let, place_like}
+use Rattle.bunch.proofs.Tests.{and_first, and_second}
 use Rattle.hist_value.specs.Wholes.{value_of}
 use Rattle.core_term.specs.CoreTerm.{CoreBody, fun_at}
 use Rattle.core_term.specs.FreeNames.{free_names, without}
 use Rattle.core_term.specs.Environment.{Environment, NameTypes}
 use Rattle.core_term.specs.Parts.{par_left, par_right, cat_first, cat_second, sum_left, sum_right, star_item, star_items, left_part, right_part, first_part, second_part}
 use Rattle.core_term.specs.Typing.{Context}
-use Rattle.core_term.proofs.Sides.{and_first, and_second, holds-head}
+use Rattle.core_term.proofs.Sides.{holds-head}
 use Rattle.core_term.proofs.Without.{holds-tail}
 use Rattle.core_term.proofs.TypedTerms.{PastTypes, Extends, type_in, extends_name}
 use Rattle.core_term.proofs.TypedRuns.{extends_own}
@@ -26,7 +28,7 @@ use Rattle.delta_state.specs.StateTyping.{HasStateType, HaveArgumentTypes, IsHel
 use Rattle.delta_state.specs.Settled.{has_tag, is_settled, are_settled}
 use Rattle.delta_state.specs.Rest.{held_more, cut_state, sum_rest, star_rest_state, rest_of, rest_of_arguments, rest_later}
 use Rattle.delta_state.proofs.HeldNames.{mark_is, held_prefix, nothing_more, arguments_extend}
-use Rattle.delta_state.proofs.SettledStates.{is_not, left_of, right_of, tail_of, sum_untagged, star_untagged, settled_nothing, settled_nothings}
+use Rattle.delta_state.proofs.SettledStates.{left_of, right_of, tail_of, sum_untagged, star_untagged, settled_nothing, settled_nothings}
 use Rattle.state_rewriting.specs.Laws.{StateStays}
 
 -- nothing comes on the held names, so each of them holds what it held
@@ -58,7 +60,7 @@ module _ (funs : List CoreBody) (counts : ℕ → Bool) where
         let j = and_first (is_settled a s) (not (null_of s)) i in
         let ha = left_of (free_in_state a) (free_names l.term) T d h in
         let nothing = (settled_nothing funs counts a c T H s e k.0 j d ha).out in
-        let goes_on : is_maximal (run_state (fun_at funs) a T s d).out ≡ false = ap is_maximal nothing ∙ (is_maximal-emp s ∙ is_not (null_of s) (and_second (is_settled a s) (not (null_of s)) i)) in
+        let goes_on : is_maximal (run_state (fun_at funs) a T s d).out ≡ false = ap is_maximal nothing ∙ (is_maximal-emp s ∙ not-true (null_of s) (and_second (is_settled a s) (not (null_of s)) i)) in
         ap (λ b. if b then rest_later (fun_at funs) l T t d else cat_state (rest_of (fun_at funs) a T s d) l) goes_on ∙ ap (λ u. cat_state u l) (stays a c T H s e k.0 j d ha)
     stays (cat_state a l) c T H _ e k i d h = absurd k
     stays (let_state x s a b) c T H r e k i d h =
@@ -93,7 +95,7 @@ module _ (funs : List CoreBody) (counts : ℕ → Bool) where
         let first = holds-head z _ in
         let typed = mark_is held z _ k.2.subject_typed in
         let prefix = held_prefix c T H e (free_in_sum z x l y m) held k.1 z first in
-        let none = sum_untagged _ _ (prefixes_held held z) (subst (λ s. IsPrefix s (prefixes_held held z)) typed prefix) (is_not (has_tag (prefixes_held held z)) i) in
+        let none = sum_untagged _ _ (prefixes_held held z) (subst (λ s. IsPrefix s (prefixes_held held z)) typed prefix) (not-true (has_tag (prefixes_held held z)) i) in
         let now : with_held held d z ≡ sum_emp = nothing_more c T H e (free_in_sum z x l y m) held k.1 z first d (h.at z first) ∙ none in
         ap (λ p. sum_rest z x y (types_held held z) p (sum_state z t (held_more held d) x l y m) (λ q. rest_later (fun_at funs) l (put x (sum_left (types_held held z)) (types_held held)) r (put x q (with_held held d)))
         (λ q. rest_later (fun_at funs) m (put y (sum_right (types_held held z)) (types_held held)) r (put y q (with_held held d)))) now
@@ -102,7 +104,7 @@ module _ (funs : List CoreBody) (counts : ℕ → Bool) where
         let first = holds-head z _ in
         let typed = mark_is held z _ k.2.subject_typed in
         let prefix = held_prefix c T H e (free_in_star z l y ys m) held k.1 z first in
-        let none = star_untagged _ (prefixes_held held z) (subst (λ s. IsPrefix s (prefixes_held held z)) typed prefix) (is_not (has_tag (prefixes_held held z)) i) in
+        let none = star_untagged _ (prefixes_held held z) (subst (λ s. IsPrefix s (prefixes_held held z)) typed prefix) (not-true (has_tag (prefixes_held held z)) i) in
         let now : with_held held d z ≡ star_emp = nothing_more c T H e (free_in_star z l y ys m) held k.1 z first d (h.at z first) ∙ none in
         ap (λ p. star_rest_state z y ys (types_held held z) p (star_state z t (held_more held d) l y ys m) (rest_later (fun_at funs) l (types_held held) r (with_held held d))
         (λ q w. rest_later (fun_at funs) m (put ys (star_items (types_held held z)) (put y (star_item (types_held held z)) (types_held held))) r (put ys w (put y q (with_held held d))))) now
@@ -111,7 +113,7 @@ module _ (funs : List CoreBody) (counts : ℕ → Bool) where
         let first = holds-head x _ in
         let now = nothing_more c T H e (free_in_wait x l) held k.1 x first d (h.at x first) in
         ap (λ b. if b then rest_later (fun_at funs) (knowing x (types_held held x) (value_of (with_held held d x)) l) (types_held held) r (with_held held d) else wait_state x t (held_more held d) l)
-        (ap is_maximal now ∙ is_not (is_maximal (prefixes_held held x)) i)
+        (ap is_maximal now ∙ not-true (is_maximal (prefixes_held held x)) i)
         ∙ ap (λ hs. wait_state x t hs l) (form_stays c T H e (free_in_wait x l) held d k.1 h)
     stays (frame_state args s) c T H r e k i d h =
         let j = and_first (are_settled args) (is_settled s r) i in

@@ -1,10 +1,11 @@
 -- Registers that are found behind others.
-use Rattle.std.proofs.Common.{◌≡◌, ◌+◌, ℕ, Bool, true, false, List, [], ◌∷◌, ◌++◌, length, Result, Ok, Err, refl, ap, ap₂, sym, subst, ◌∙◌, append_assoc, length-append, arith, ◌<◌, ◌≤◌, ◌==◌, map, drop, get_or}
+use Rattle.std.proofs.Common.{◌≡◌, ◌+◌, ℕ, Bool, true, false, List, [], ◌∷◌, length, Result, Ok, Err, refl, ap, ap₂, sym, subst, ◌∙◌, append_assoc, arith, ◌<◌, ◌≤◌, ◌==◌, map, drop, get_or}
 use Rattle.std.proofs.lemmas.List.{append-nil, drop_more, drop_all}
 use Rattle.std.specs.Prelude.{IsTrue}
 use Rattle.stream_type.specs.declared.memory.Memory.{Memory}
 use Rattle.state_shapes.specs.RegisterLists.{RegisterLists, IsParallel, behind, Longer}
 use Rattle.state_shapes.specs.Goes.{Goes}
+use Rattle.core_term.proofs.Parameters.{length-appended}
 
 -- nothing behind
 pub longer_still : (l : RegisterLists) → Longer l l
@@ -15,12 +16,8 @@ longer_still l =
       is_behind = rw (append-nil l.keys, append-nil l.numbers, append-nil l.depth_keys, append-nil l.depths) refl;
     }
 
--- two lists of one length behind two others of one length
-along : {A B : Type 0} (ks ls : List A) (vs ws : List B) → length ks ≡ length vs → length ls ≡ length ws → length (ks ++ ls) ≡ length (vs ++ ws)
-along ks ls vs ws h k = length-append ks ls ∙ ap₂ (λ m n. m + n) h k ∙ sym (length-append vs ws)
-
 along_lists : (l m : RegisterLists) → IsParallel l → IsParallel m → IsParallel (behind l m)
-along_lists l m h k = record { numbers = along l.keys m.keys l.numbers m.numbers h.numbers k.numbers; depths = along l.depth_keys m.depth_keys l.depths m.depths h.depths k.depths }
+along_lists l m h k = record { numbers = length-appended l.keys m.keys l.numbers m.numbers h.numbers k.numbers; depths = length-appended l.depth_keys m.depth_keys l.depths m.depths h.depths k.depths }
 
 -- one behind the other
 behind-behind : (l m n : RegisterLists) → behind (behind l m) n ≡ behind l (behind m n)

@@ -5,8 +5,8 @@ use Rattle.std.specs.List.{list_all}
 use Rattle.bunch.specs.Facts.{Facts, place_like, place_let, put_before, before_like, after_like, before_let, after_let}
 use Rattle.bunch.specs.Names.{holds}
 use Rattle.core_term.specs.FreeNames.{without}
-use Rattle.core_term.proofs.Retyping.{Among}
-use Rattle.core_term.proofs.Sides.{and_second, and_first, eqb-same, holds-head, holds-left, holds-right, all-holds, holds-all}
+use Rattle.core_term.proofs.Retyping.{Among, and_both, unless}
+use Rattle.core_term.proofs.Sides.{eqb-same, holds-head, holds-left, holds-right, all-holds, holds-all}
 use Rattle.core_term.proofs.Without.{holds-tail, holds-without}
 
 -- between names of the list each fact of the first order is one of the second
@@ -20,15 +20,6 @@ within_itself xs O = record { at = λ x y m n h. h }
 -- fewer names ask for fewer facts
 pub within_fewer : (xs ys : List ℕ) (O Q : Facts) → Among ys xs → WithinOn xs O Q → WithinOn ys O Q
 within_fewer xs ys O Q a w = record { at = λ x y m n h. w.at x y (a.at x m) (a.at y n) h }
-
--- what follows from a fact follows where both stand under a test that fails
-unless : (c o q : Bool) → (o ≡ true → q ≡ true) → (if c then false else o) ≡ true → (if c then false else q) ≡ true
-unless true o q f h = h
-unless false o q f h = f h
-
--- of two facts each follows from its own
-pub and_both : (a b c d : Bool) → (a ≡ true → c ≡ true) → (b ≡ true → d ≡ true) → (a && b) ≡ true → (c && d) ≡ true
-and_both a b c d f g h = ap₂ ◌&&◌ (f (and_first a b h)) (g (and_second a b h))
 
 -- once x is placed like z, the facts of z and of the other names do
 pub within_on_like : (x z : ℕ) (ys : List ℕ) (O Q : Facts) → WithinOn (z ∷ without x ys) O Q → WithinOn ys (place_like x z O) (place_like x z Q)

@@ -4,11 +4,11 @@ use Rattle.std.specs.Prelude.{Some, unwrap_or, Option, None, is_some}
 use Rattle.stream_type.specs.StreamType.{StreamType, eps}
 use Rattle.bunch.specs.Facts.{Facts, place_like}
 use Rattle.bunch.specs.Names.{holds}
+use Rattle.bunch.proofs.Tests.{and_first, and_second}
 use Rattle.hist_value.specs.HistType.{HistType, past}
 use Rattle.core_term.specs.FreeNames.{without}
 use Rattle.core_term.specs.Typing.{Context, type_at, with_name, with_fact, with_parts, is_before, AllBefore, with_name_like, waited}
 use Rattle.core_term.proofs.Retyping.{Among, among_same}
-use Rattle.core_term.proofs.Sides.{and_second, and_first}
 use Rattle.core_term.proofs.Without.{holds-without}
 use Rattle.delta_state.specs.StateTree.{Known}
 use Rattle.delta_state.specs.StateTyping.{with_past, with_known}

@@ -7,4 +7,4 @@ pub mod Parts
 pub mod PrefixLaws
 pub mod Rows
 mod Examples
-mod Follow
+pub mod Follow

@@ -1,6 +1,6 @@
 -- The numbers that fields are, as text is read, and that what is written of a number is read as it.
-use Rattle.std.proofs.Common.{◌≡◌, ◌≢◌, ℕ, suc, ℤ, ◌^◌, ◌<◌, ◌≤◌, List, [], ◌∷◌, true, false, ◌&&◌, cond, length, drop, get_or, Some, None, refl, sym, ap, ◌∙◌, inl, inr, arith}
-use Rattle.std.specs.Prelude.{Ok, Err, All, nat_lt, nat_le, ◌==◌, pos, negsuc, neg_ℤ, FitsSigned}
+use Rattle.std.proofs.Common.{◌≡◌, ◌≢◌, ℕ, suc, ℤ, ◌^◌, ◌<◌, ◌≤◌, List, [], ◌∷◌, true, false, ◌&&◌, length, drop, get_or, Some, None, refl, sym, ap, ◌∙◌, inl, inr, arith}
+use Rattle.std.specs.Prelude.{Ok, Err, All, nat_lt, ◌==◌, pos, negsuc, neg_ℤ, FitsSigned}
 use Rattle.std.specs.Int.{w64}
 use Rattle.std.specs.Str.{all_ascii_digits, IsUtf8}
 use Rattle.std.specs.Fmt.{decimal, signed_decimal}
@@ -10,10 +10,10 @@ use Rattle.std.proofs.lemmas.List.Elements.{All-nil, All-cons}
 use Rattle.std.proofs.lemmas.Bool.{cases_Bool, eqb-true}
 use Rattle.std.proofs.lemmas.Bool.Decides.{nat_tests}
 use Rattle.std.proofs.lemmas.Str.Parse.{parse_signed_minus, parse_signed_plain, digit_at, digit_from_value}
-use Rattle.event_word.specs.declared.event.Leaf.{Leaf}
 use Rattle.event_word.specs.declared.event.Leaf.TheVariants.{Int}
 use Rattle.event_text.specs.Reading.{is_number, number_leaf}
 use Rattle.event_text.proofs.Numbers.{own, some_digits as digits_of, number_too_big, number_text}
+use Rattle.event_text.proofs.LineLaws.{not_too_high, not_too_low}
 use Rattle.table_feed.specs.Tables.{number_of}
 
 -- a field that is no number
@@ -57,19 +57,13 @@ no_plus_in_front w other e = grind (arith, nat_tests)
 some_digits : (ds : List ℕ) → all_ascii_digits ds ≡ true → 0 < length ds → (nat_lt 0 (length ds) && all_ascii_digits ds) ≡ true
 some_digits ds is some = grind (arith, nat_tests)
 
-low : (n : ℕ) (leaf : Leaf) → n ≤ 2 ^ 63 → cond (nat_le n (2 ^ 63)) (Some leaf) None ≡ Some leaf
-low n leaf l = grind (arith, nat_tests)
-
-lower : (n : ℕ) (leaf : Leaf) → n < 2 ^ 63 → cond (nat_lt n (2 ^ 63)) (Some leaf) None ≡ Some leaf
-lower n leaf l = grind (arith, nat_tests)
-
 minus_read : (E : Type 0) (w : List ℕ) (z : ℤ) → starts_with_minus w ≡ true → ParsesSigned {E = E} w64 10 w (Ok z) → number_of w ≡ Some z
 minus_read E w z minus h =
     let first : get_or w 0 0 ≡ 45 = eqb-true (get_or w 0 0) 45 minus in
     let said = parse_signed_minus own {E = E} w64 w (Ok z) h first in
     let n = digits_value 10 (drop 1 w) in
     let is : is_number w ≡ true = rw minus (some_digits (drop 1 w) said.0.0 said.0.1) in
-    let leaf : number_leaf w ≡ Some (Int (neg_ℤ (pos n))) = rw minus (low n (Int (neg_ℤ (pos n))) said.0.2) in
+    let leaf : number_leaf w ≡ Some (Int (neg_ℤ (pos n))) = rw minus (not_too_low n (Int (neg_ℤ (pos n))) said.0.2) in
     is_its_leaf w (neg_ℤ (pos n)) is leaf ∙ ap Some (sym said.1)
 
 plain_read : (E : Type 0) (w : List ℕ) (z : ℤ) → starts_with_minus w ≡ false → get_or w 0 0 ≢ 43 → ParsesSigned {E = E} w64 10 w (Ok z) → number_of w ≡ Some z
@@ -78,7 +72,7 @@ plain_read E w z plain no_plus h =
     let said = parse_signed_plain own {E = E} w64 w (Ok z) h no_plus no_minus in
     let n = digits_value 10 w in
     let is : is_number w ≡ true = rw plain (some_digits w said.0.0 said.0.1) in
-    let leaf : number_leaf w ≡ Some (Int (pos n)) = rw plain (lower n (Int (pos n)) said.0.2) in
+    let leaf : number_leaf w ≡ Some (Int (pos n)) = rw plain (not_too_high n (Int (pos n)) said.0.2) in
     is_its_leaf w (pos n) is leaf ∙ ap Some (sym said.1)
 
 -- a field that is read as a number
@@ -100,13 +94,13 @@ number_of-written (pos n) fits =
     let plain : starts_with_minus ds ≡ false = grind (arith, nat_tests) in
     let value : digits_value 10 ds < 2 ^ 63 = omega (arith, numeral.1, fits.sfits) in
     let is : is_number ds ≡ true = rw plain (are_digits ds numeral.0) in
-    let leaf : number_leaf ds ≡ Some (Int (pos (digits_value 10 ds))) = rw plain (lower (digits_value 10 ds) (Int (pos (digits_value 10 ds))) value) in
+    let leaf : number_leaf ds ≡ Some (Int (pos (digits_value 10 ds))) = rw plain (not_too_high (digits_value 10 ds) (Int (pos (digits_value 10 ds))) value) in
     is_its_leaf ds (pos (digits_value 10 ds)) is leaf ∙ ap (λ (v : ℕ). Some (pos v)) numeral.1
 number_of-written (negsuc n) fits =
     let ds = decimal (suc n) in
     let numeral = decimal_is_IsNumeral (suc n) (omega (arith, fits.sfits)) in
     let value : digits_value 10 ds ≤ 2 ^ 63 = omega (arith, numeral.1, fits.sfits) in
-    let leaf = low (digits_value 10 ds) (Int (neg_ℤ (pos (digits_value 10 ds)))) value in
+    let leaf = not_too_low (digits_value 10 ds) (Int (neg_ℤ (pos (digits_value 10 ds)))) value in
     is_its_leaf (45 ∷ ds) (neg_ℤ (pos (digits_value 10 ds))) (are_digits ds numeral.0) leaf ∙ ap (λ (v : ℕ). Some (neg_ℤ (pos v))) numeral.1
 
 -- a byte of a written number is a digit or a minus

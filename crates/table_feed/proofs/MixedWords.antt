@@ -4,12 +4,13 @@ use Rattle.std.specs.Prelude.{IfSome, option_map}
 use Rattle.stream_type.specs.StreamType.{StreamType, par}
 use Rattle.stream_prefix.specs.StreamPrefix.{par_both, emp, join}
 use Rattle.stream_prefix.proofs.Derivations.{Derives, par_has_both}
-use Rattle.stream_prefix.proofs.Joins.{emp_is_prefix, der-emp, join-emp}
+use Rattle.stream_prefix.proofs.Joins.{der-emp, join-emp}
 use Rattle.event_word.specs.declared.event.Step.TheVariants.{Left, Right}
 use Rattle.event_word.specs.StreamEvent.{StreamEvent, under}
 use Rattle.event_word.specs.Admits.{Admits}
 use Rattle.event_word.specs.Word.{one_of, after, IsWord, pre}
 use Rattle.event_word.proofs.Words.{word_derives}
+use Rattle.event_word.proofs.Spelling.{right_pre}
 use Rattle.table_feed.specs.Mixing.{AreWords, pre_beside, next_of, take_or_pass, take_at, rounds, in_order, longest, mixed_word}
 
 -- the prefixes of words side by side are a prefix
@@ -79,11 +80,6 @@ spells_next s ws x rest out k h = record {
 right_word : (s t : StreamType) (w : List StreamEvent) → IsWord t w → IsWord (par s t) (map (under Right) w)
 right_word s t [] h = tt
 right_word s t (x ∷ w) h = (h.0, rw (der-emp s) (right_word s (after x t) w h.1))
-
-right_pre : (s t : StreamType) (w : List StreamEvent) → IsWord t w → pre (par s t) (map (under Right) w) ≡ par_both (emp s) (pre t w)
-right_pre s t [] h = refl
-right_pre s t (x ∷ w) h =
-    rw (der-emp s, right_pre s (after x t) w h.1) (ap (λ p. par_both p (pre t (x ∷ w))) (join-emp (emp_is_prefix s)))
 
 -- one word after another
 pub in_order_spells : (s : StreamType) (ws : List (List StreamEvent)) → AreWords s ws → Spells s ws (in_order ws)

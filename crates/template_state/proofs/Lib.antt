@@ -4,6 +4,6 @@ pub mod Making
 mod Putting
 mod PassedOnce
 mod UsedArguments
-mod Joining
+pub mod Joining
 mod Settling
 mod Repeating

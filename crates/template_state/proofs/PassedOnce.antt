@@ -1,10 +1,11 @@
 -- Arguments of which each that is moved is passed on once.
 use Rattle.std.proofs.Common.{◌≡◌, ◌∙◌, ℕ, Bool, true, false, not, ◌&&◌, ◌||◌, List, [], ◌∷◌, eqb, if◌then◌else◌, ap, ap₂, refl, sym}
-use Rattle.std.proofs.lemmas.Bool.{eqb-true}
+use Rattle.std.proofs.lemmas.Bool.{eqb-true, or_right}
 use Rattle.stream_type.specs.StreamType.{StreamType}
 use Rattle.bunch.specs.Names.{holds}
+use Rattle.bunch.proofs.Tests.{and_first, and_second}
 use Rattle.core_term.specs.FreeNames.{without}
-use Rattle.core_term.proofs.Sides.{and_first, and_second, or_second, holds-head}
+use Rattle.core_term.proofs.Sides.{holds-head}
 use Rattle.core_term.proofs.Without.{holds-tail}
 use Rattle.delta_state.specs.StateTree.{StateTree, ArgumentTrees, no_arguments, argument_before, argument_at, sink, var_state, par_state, cat_state, let_state, let_par_state, let_cat_state, sum_state, star_state, wait_state, frame_state}
 use Rattle.state_rewriting.specs.Rewriting.{is_plain, are_plain, at_most_once, stand_once, names_passed, passed_on, composed}
@@ -13,7 +14,7 @@ use Rattle.template_state.proofs.NamesInLists.{holds-less}
 
 -- the first argument stands once
 first_once : (x : ℕ) (t : StreamType) (s : StateTree) (args : ArgumentTrees) (us : List ℕ) → passes_once (argument_before x t s args) us ≡ true → (is_plain s || at_most_once x us) ≡ true
-first_once x t s args [] p = or_second (is_plain s) true refl
+first_once x t s args [] p = or_right (is_plain s) true refl
 first_once x t s args (u ∷ us) p =
     go (eqb u x) refl (and_first _ (passes_once (argument_before x t s args) us) p) (first_once x t s args us (and_second _ (passes_once (argument_before x t s args) us) p))
   where
@@ -70,7 +71,7 @@ taken_same : (args others : ArgumentTrees) (u : ℕ) (us : List ℕ) → IsTaken
 taken_same args others u us k p x m = k x (go (eqb x u) refl)
   where
     go : (b : Bool) → eqb x u ≡ b → (is_plain (argument_at args u) || not b) ≡ true
-    go false e = or_second (is_plain (argument_at args u)) true refl
+    go false e = or_right (is_plain (argument_at args u)) true refl
     go true e = sym (ap (λ b. is_plain (argument_at args u) || not b) (sym (ap (λ w. holds w us) (eqb-true x u e)) ∙ m)) ∙ p
 
 -- so they serve for what is passed on after it

@@ -4,13 +4,13 @@ use Rattle.std.proofs.lemmas.Bool.{eqb-true}
 use Rattle.stream_type.specs.StreamType.{StreamType, null_of}
 use Rattle.core_term.specs.CoreTerm.{CoreTerm, var_term}
 use Rattle.core_term.specs.Parts.{cat_first}
-use Rattle.core_term.proofs.Sides.{and_first, and_second}
 use Rattle.delta_state.specs.StateTree.{LaterTree, StateTree, cat_state, let_state, let_cat_state}
 use Rattle.state_rewriting.specs.MarksAtOnce.{marks_at_once}
 use Rattle.state_rewriting.specs.Rewriting.{as_it_is, one_more, here, Rewritten, row, SimplerBy}
 use Rattle.template_state.specs.Rows.{is_term_name, is_name, is_row, repeats_row}
 use Rattle.template_state.proofs.Putting.{named_state}
-use Rattle.template_state.proofs.Settling.{same_at_all}
+use Rattle.template_state.proofs.Joining.{kept_at_all}
+use Rattle.bunch.proofs.Tests.{and_first, and_second}
 
 -- a term that passes the test is the name
 named : (e : CoreTerm) (y : ℕ) → is_term_name e y ≡ true → e ≡ var_term y
@@ -38,4 +38,4 @@ is_not false h = refl
 pub row_at_all : {w : ℕ} {s : StreamType} {a b : StateTree} → true ≡ repeats_row b w → true ≡ not (null_of (cat_first s)) → true ≡ marks_at_once a → (q : StreamType) → SimplerBy q (let_state w s a b) a
 row_at_all {w = w} {s = s} {a = a} {b = b} e n m q = one_more as_it_is (here (of_let q s w a (is_not (null_of (cat_first s)) n) (sym m) b (sym e)))
 
-pub ruleset repeating = (same_at_all, row_at_all)
+pub ruleset repeating = (kept_at_all, row_at_all)

@@ -8,6 +8,7 @@ use Rattle.core_term.proofs.Sides.{eqb-same}
 use Rattle.delta_state.specs.StateTree.{LaterTree, StateTree, ArgumentTrees, sink, var_state, par_state, cat_state, let_state, let_par_state, let_cat_state, frame_state, no_arguments, argument_before, free_in_state}
 use Rattle.state_rewriting.specs.Rewriting.{ReplacedBy, ReplacedArgumentsBy, as_it_is, as_they_are, one_more, here, IsAlias, IsPair, Rewritten, finished, unused, unused_pair, unused_row, renamed, SimplerBy}
 use Rattle.state_rewriting.proofs.RewritingsInside.{by_same, by_then, by_par, by_cat, by_let, by_let_par, by_let_cat, by_arguments, by_body, by_before, alias_by, pair_by}
+use Rattle.template_state.proofs.Joining.{kept_at_all}
 
 -- a type that is the one asked for
 pub at_type : {s r : StreamType} {a b : StateTree} → s ≡ r → SimplerBy s a b → SimplerBy r a b
@@ -55,9 +56,6 @@ in_turn h k q = by_then (h q) (k q)
 pub four_in_turn : {a b e f g : StateTree} → ((q : StreamType) → SimplerBy q a b) → ((q : StreamType) → SimplerBy q b e) → ((q : StreamType) → SimplerBy q e f) → ((q : StreamType) → SimplerBy q f g) → (q : StreamType) → SimplerBy q a g
 four_in_turn h k l m q = by_then (by_then (by_then (h q) (k q)) (l q)) (m q)
 
-pub same_at_all : {a b : StateTree} → a ≡ b → (q : StreamType) → SimplerBy q a b
-same_at_all e q = by_same e
-
 pub alias_at_all : {y z : ℕ} {s : StreamType} {p a b : StateTree} → p ≡ var_state z → ((r : StreamType) → ReplacedBy (y ∷ (z ∷ [])) (IsAlias y z) r a b) → (q : StreamType) → SimplerBy q (let_state y s p a) (let_state y s p b)
 alias_at_all {y = y} {z = z} {s = s} {a = a} {b = b} e h q = subst (λ u. SimplerBy q (let_state y s u a) (let_state y s u b)) (sym e) (alias_by (h q))
 
@@ -79,4 +77,4 @@ unused_row_at_all n m q = one_more as_it_is (here (unused_row (sym n) (sym m)))
 pub renamed_at_all : {x y : ℕ} {s : StreamType} {a p : StateTree} → p ≡ var_state y → y ≡ x → (q : StreamType) → SimplerBy q (let_state x s a p) a
 renamed_at_all {x = x} {s = s} {a = a} e f q = subst (λ u. SimplerBy q (let_state x s a u) a) (sym (e ∙ ap var_state f)) (one_more as_it_is (here renamed))
 
-pub ruleset settling = (simpler_same, simpler_finished, simpler_par, simpler_cat, simpler_let, simpler_let_par, simpler_let_cat, simpler_frame, simpler_none, simpler_before, in_turn, four_in_turn, same_at_all, alias_at_all, pair_at_all, unused_at_all, unused_pair_at_all, unused_row_at_all, renamed_at_all)
+pub ruleset settling = (simpler_same, simpler_finished, simpler_par, simpler_cat, simpler_let, simpler_let_par, simpler_let_cat, simpler_frame, simpler_none, simpler_before, in_turn, four_in_turn, kept_at_all, alias_at_all, pair_at_all, unused_at_all, unused_pair_at_all, unused_row_at_all, renamed_at_all)

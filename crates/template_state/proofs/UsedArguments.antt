@@ -3,7 +3,8 @@ use Rattle.std.proofs.Common.{◌≡◌, ◌∙◌, ℕ, Bool, true, false, not,
 use Rattle.std.proofs.lemmas.Bool.{eqb-true, not-true}
 use Rattle.stream_type.specs.StreamType.{StreamType}
 use Rattle.bunch.specs.Names.{holds}
-use Rattle.core_term.proofs.Sides.{and_first, holds-head}
+use Rattle.bunch.proofs.Tests.{and_first}
+use Rattle.core_term.proofs.Sides.{holds-head}
 use Rattle.core_term.proofs.Without.{holds-tail}
 use Rattle.delta_state.specs.StateTree.{StateTree, ArgumentTrees, frame_state, no_arguments, argument_before, argument_names, free_in_state}
 use Rattle.state_rewriting.specs.Rewriting.{as_it_is, one_more, here, unused_argument, without_argument, SimplerBy}

@@ -1,23 +1,20 @@
 -- Reading has levels enough: it ends with a value and what is left, or at a token that doesn't fit.
 use Rattle.std.proofs.Common.{◌≡◌, ℕ, zero, suc, ◌+◌, ◌*◌, ◌<◌, Bool, true, false, List, [], ◌∷◌, Some, None, refl, ap, ◌∙◌, cond, length, arith, length-append}
+use Rattle.std.proofs.lemmas.Bool.{and_parts}
 use Rattle.grammar.specs.Rules.{Token, Sort, Language, TokenOf, Value, Rule, one_of, part, both, either, maybe, placed, make}
 use Rattle.grammar.specs.Grammar.{Grammar, place_of}
 use Rattle.grammar.specs.Reading.{Outcome, got, stuck, out, ◌>>=◌, starts, token_at, nullable, first, Reads, read_with, read, weight, reading}
-use Rattle.grammar.proofs.Tests.{and_true, cond_true, lt_of}
+use Rattle.grammar.proofs.Tests.{cond_true, lt_of}
 use Rattle.grammar.proofs.Checked.{IsSound, left_below, Checked}
 use Rattle.grammar.proofs.FirstTokens.{nullable_law}
 use Rattle.grammar.proofs.Prefixes.{IsGood, good_rule}
-use Rattle.grammar.proofs.Levels.{good_read}
+use Rattle.grammar.proofs.Levels.{good_read, no_tokens}
 
 -- reading wasn't out of levels
 abbrev pub Ends : {K A : Type 0} → Outcome K A → Type 0
 Ends (got x rest) = Unit {0}
 Ends (stuck n) = Unit {0}
 Ends out = ⊥
-
-not_empty : {K : Type 0} → (u : List K) → (u ≡ [] → ⊥) → 0 < length u
-not_empty [] h = absurd (h refl)
-not_empty (t ∷ u) h = omega arith
 
 token_ends : {T W : Type 0} → (is : T → Bool) (ts : List (Token T W)) → Ends (token_at is ts)
 token_ends is [] = tt
@@ -63,7 +60,7 @@ module _ (L : Language) (G : Grammar L) (C : Checked L G) where
         mapped_ends (read_with L G f b rest) (λ y. (v, y)) (next rest r c (λ p us w. ends p us (omega arith)))
     second {s = s} {t = t} a b ts r ends next false n c (got v rest) k h =
         let count : length ts ≡ length k.taken + length rest = ap length k.split ∙ length-append k.taken rest in
-        let full : 0 < length k.taken = not_empty k.taken (λ e. let m : nullable L G a ≡ true = nullable_law L G C k.derived e in cc) in
+        let full : 0 < length k.taken = no_tokens k.taken (λ e. let m : nullable L G a ≡ true = nullable_law L G C k.derived e in cc) in
         mapped_ends (read_with L G f b rest) (λ y. (v, y)) (next rest 64 (left_all b) (λ p us w. ends p us (omega arith)))
     second a b ts r ends next m n c (stuck i) k h = tt
     second a b ts r ends next m n c out k h = absurd h
@@ -75,11 +72,11 @@ module _ (L : Language) (G : Grammar L) (C : Checked L G) where
       rule_ends (one_of is) ts r h l ends = token_ends is ts
       rule_ends (part p) ts r h l ends = (let below : G.rank p < r = lt_of (G.rank p) r l in ends p ts (omega arith))
       rule_ends (both a b) ts r h l ends =
-          let c = and_true _ _ l in
+          let c = and_parts _ _ l in
           second a b ts r ends (λ rest q m w. rule_ends b rest q h.1 m w) (nullable L G a) refl c.1 (read_with L G f a ts)
           (good_rule L G C f good a h.0 ts) (rule_ends a ts r h.0 c.0 ends)
       rule_ends (either a b) ts r h l ends =
-          let c = and_true _ _ l in
+          let c = and_parts _ _ l in
           either_ends (starts (first L G a) ts) (read_with L G f a ts) (read_with L G f b ts) (rule_ends a ts r h.0 c.0 ends) (rule_ends b ts r h.1 c.1 ends)
       rule_ends (maybe a) ts r h l ends =
           either_ends (starts (first L G a) ts) (read_with L G f a ts >>= λ x. got (Some x.0) x.1) (got None ts) (mapped_ends (read_with L G f a ts) Some (rule_ends a ts r h l ends)) tt

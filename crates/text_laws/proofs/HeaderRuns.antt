@@ -2,7 +2,7 @@
 use Rattle.std.proofs.Common.{◌≡◌, ◌∙◌, ℕ, ◌+◌, ◌≤◌, Bool, true, false, ◌&&◌, not, List, [], ◌∷◌, ◌++◌, length, refl, sym, ap, ap₂, subst, arith, append-nil, append_assoc, length-append}
 use Rattle.std.specs.Prelude.{◌==◌}
 use Rattle.std.specs.List.{list_any}
-use Rattle.grammar.proofs.Tests.{and_true}
+use Rattle.std.proofs.lemmas.Bool.{and_parts}
 use Rattle.delta_parse.specs.declared.terminal.Terminal.TheVariants.{Open, OpenBrace, Close, CloseBrace, Comma, Semicolon, Colon, Equals, NameToken}
 use Rattle.delta_parse.specs.Terminals.{Tok, is_kind}
 use Rattle.delta_parse.specs.Bindings.{Bound, bound}
@@ -24,7 +24,7 @@ are_new-append before (x ∷ xs) ys =
     ∙ ap (λ l. (not (list_any (λ m. m == x) before) && are_new (before ++ (x ∷ [])) xs) && are_new l ys) (append_assoc before (x ∷ []) xs)
 
 pub new_parts : (before xs ys : List ℕ) → are_new before (xs ++ ys) ≡ true → (are_new before xs ≡ true) × (are_new (before ++ xs) ys ≡ true)
-new_parts before xs ys h = and_true _ _ (sym (are_new-append before xs ys) ∙ h)
+new_parts before xs ys h = and_parts _ _ (sym (are_new-append before xs ys) ∙ h)
 
 pub new_whole : (before xs ys : List ℕ) → are_new before xs ≡ true → are_new (before ++ xs) ys ≡ true → are_new before (xs ++ ys) ≡ true
 new_whole before xs ys h g = are_new-append before xs ys ∙ ap₂ (λ a b. a && b) h g

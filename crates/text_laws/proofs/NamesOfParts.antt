@@ -1,7 +1,8 @@
 -- What the tokens of each part do to the names that are told token by token.
 use Rattle.std.proofs.Common.{◌≡◌, ◌∙◌, ℕ, ◌+◌, Bool, true, false, ◌&&◌, List, [], ◌∷◌, ◌++◌, map, Option, Some, None, refl, sym, ap, subst, arith, append_assoc, append-nil, inl, inr}
+use Rattle.std.proofs.lemmas.Bool.{and_parts}
 use Rattle.grammar.specs.Rules.{Sort, token as token_sort, thing, one_of, part, both, either, maybe, placed, make}
-use Rattle.grammar.proofs.Tests.{and_true, implied, implied_is}
+use Rattle.grammar.proofs.Tests.{implied, implied_is}
 use Rattle.delta_tree.specs.SyntaxTree.{WrittenType, WrittenContext, WrittenHist, Expression, Head, WrittenFunction, WrittenAlias, Declaration, alias_declared, function_declared}
 use Rattle.delta_parse.specs.declared.terminal.Terminal.{Terminal}
 use Rattle.delta_parse.specs.declared.terminal.Terminal.TheVariants.{InWord, CaseWord, InlWord, InrWord, NilWord, EpsWord, FoldWord, FromWord, Close, CloseBrace, Comma, Semicolon, Colon, Colons, Equals, Arrow, Dot, NameToken}
@@ -139,10 +140,10 @@ mutual
       subst AreOfType (sym e) (t, tt)
   type_rule (part p) u v h g = type_part p u v h g
   type_rule (both a b) u v h (x, (y, (e, (g, k)))) =
-      let c = and_true _ _ h in
+      let c = and_parts _ _ h in
       subst AreOfType (sym e) (type_append x y (type_rule a x v.0 c.0 g) (type_rule b y v.1 c.1 k))
-  type_rule (either a b) u v h (inl g) = type_rule a u v (and_true _ _ h).0 g
-  type_rule (either a b) u v h (inr g) = type_rule b u v (and_true _ _ h).1 g
+  type_rule (either a b) u v h (inl g) = type_rule a u v (and_parts _ _ h).0 g
+  type_rule (either a b) u v h (inr g) = type_rule b u v (and_parts _ _ h).1 g
   type_rule (maybe a) u None h g = subst AreOfType (sym g) tt
   type_rule (maybe a) u (Some v) h g = type_rule a u v h g
   type_rule (placed a) u v h g = type_rule a u v.1 h g
@@ -243,7 +244,7 @@ uniform (one_of is) u v h (e, k) =
     record { names = 0; twice = 0; measure = (refl, refl); steps = along e (still (quiet v t)) }
 uniform (part p) u v h g = record { names = names_at p v; twice = twice_at p v; measure = (refl, refl); steps = body_part p u v h g }
 uniform (both a b) u v h (x, (y, (e, (g, k)))) =
-    let c = and_true _ _ h in
+    let c = and_parts _ _ h in
     let l = uniform a x v.0 c.0 g in
     let r = uniform b y v.1 c.1 k in
     record {
@@ -253,10 +254,10 @@ uniform (both a b) u v h (x, (y, (e, (g, k)))) =
       steps = along e (joins l.steps r.steps);
     }
 uniform (either a b) u v h (inl g) =
-    let l = uniform a u v (and_true _ _ h).0 g in
+    let l = uniform a u v (and_parts _ _ h).0 g in
     record { names = l.names; twice = l.twice; measure = inl l.measure; steps = l.steps }
 uniform (either a b) u v h (inr g) =
-    let r = uniform b u v (and_true _ _ h).1 g in
+    let r = uniform b u v (and_parts _ _ h).1 g in
     record { names = r.names; twice = r.twice; measure = inr r.measure; steps = r.steps }
 uniform (maybe a) u None h g = none_measured a u g
 uniform (maybe a) u (Some v) h g =

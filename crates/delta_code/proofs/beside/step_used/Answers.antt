@@ -12,8 +12,9 @@ use Rattle.template_state.specs.Readers.{state_in}
 use Rattle.template_state.specs.Templates.{bodies_in}
 use Rattle.delta_code.specs.Beside.{used_of}
 use Rattle.delta_code.specs.Steps.{funs_of}
-use Rattle.delta_code.proofs.SideBySide.{used_run, used_rest, as_another}
+use Rattle.delta_code.proofs.SideBySide.{used_run, used_rest}
 use Rattle.delta_code.proofs.beside.step_used.Goals as goal
+use Rattle.delta_code.proofs.GoingOn.{same_goes}
 
 pub returns : goal.returns
 returns c =
@@ -26,7 +27,7 @@ returns c =
     let same : map entry_in c.deref.result.now ≡ used =
     ap (map entry_in) c.deref.ensures.value ∙ (c.in-Ok.ensures ∙ ap (λ (l : List Entry). map entry_in l ++ used) c.new-entries.ensures.items) in
     c.settled.ensures _ _ _ _
-    (as_another
+    (same_goes
     (ap (λ (l : List HeldName). run_state (funs_of a.code.now) s (types_held l) r (prefixes_held l)) same ∙ used_run funs entries s r)
     (ap (λ (l : List HeldName). rest_of (funs_of a.code.now) s (types_held l) r (prefixes_held l)) same ∙ used_rest funs entries s r c.requires)
     c.step_state-told.ensures)

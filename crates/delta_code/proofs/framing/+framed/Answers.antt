@@ -3,7 +3,7 @@ use Rattle.std.proofs.Common.{◌≡◌, ◌&&◌, true, false, ap, subst, rules
 use Rattle.std.proofs.lemmas.Result.{IfOk-weaker}
 use Rattle.stream_type.specs.StreamType.{type_of}
 use Rattle.bunch.specs.Names.{holds}
-use Rattle.core_term.proofs.Sides.{and_first, and_second}
+use Rattle.bunch.proofs.Tests.{and_first, and_second}
 use Rattle.delta_state.specs.StateTree.{ArgumentTrees, frame_state, free_in_arguments}
 use Rattle.state_rewriting.specs.Rewriting.{are_plain, composed}
 use Rattle.template_state.specs.Readers.{state_in, arguments_in}

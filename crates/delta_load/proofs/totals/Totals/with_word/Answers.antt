@@ -3,8 +3,9 @@ use Rattle.std.proofs.lemmas.List.{take_all}
 use Rattle.event_word.specs.StreamEvent.{StreamEvent}
 use Rattle.delta_load.specs.Counting.{totals_of, IsLong}
 use Rattle.delta_load.proofs.Counts.{long-append}
-use Rattle.delta_load.proofs.Turns.{turn, parted}
+use Rattle.delta_load.proofs.Turns.{parted}
 use Rattle.delta_load.proofs.totals.Totals.with_word.Goals as goal
+use Rattle.delta_state.proofs.Counts.{take-next}
 
 pub returns-in_err-totals-clause-long : goal.returns-in_err-totals-clause-long
 returns-in_err-totals-clause-long c none word is =
@@ -25,4 +26,4 @@ loop-x-preserved c word is =
     let before : List StreamEvent = take c.loop-x.x-index c.args.more.now in
     let x : StreamEvent = c.x-item.result in
     c.in_ok-totals.ensures.counted (word ++ before) (c.loop-x.invariant word is)
-    ∙ ap totals_of (append_assoc word before (x ∷ []) ∙ ap (λ (w : List StreamEvent). word ++ w) (sym (turn c.args.more.now c.loop-x.x-index x c.loop-x-test.true c.x-item.is)))
+    ∙ ap totals_of (append_assoc word before (x ∷ []) ∙ ap (λ (w : List StreamEvent). word ++ w) (sym (take-next c.args.more.now c.loop-x.x-index x c.loop-x-test.true c.x-item.is)))
