@@ -12,7 +12,7 @@ use Rattle.delta_end.specs.declared.end.End.TheVariants.{Done, Usage, Refused, I
 use Rattle.delta_loop.specs.History.{IsUntouched}
 use Rattle.delta_loop.specs.Answer.{Adds, ReadsWell}
 use Rattle.delta_loop.proofs.Returning.{adds_none, ran_reads, unread}
-use Rattle.kept_runner.specs.KeptOneShot.{meaning_since}
+use Rattle.delta_runner.specs.KeptOneShot.{meaning_since}
 use Rattle.commands.specs.Resuming.{end_of, IsSmallFault, GoesOn, Resumes, OfState, ResumesFile}
 use Rattle.commands.specs.Texts.{ResumesIts, ResumesText}
 use Rattle.commands.proofs.Places.{form_within}

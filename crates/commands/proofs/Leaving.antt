@@ -27,8 +27,8 @@ use Rattle.delta_loop.proofs.Counts.{events_whole}
 use Rattle.delta_runner.specs.declared.runner.Runner.{Runner}
 use Rattle.delta_session.specs.Programs.{IsRunning}
 use Rattle.delta_runner.specs.Standing.{StandsFor}
-use Rattle.kept_runner.specs.declared.woken.Woken.{Woken}
-use Rattle.kept_runner.specs.SinceCourse.{IsSince, IsFrom, source_of}
+use Rattle.delta_runner.specs.declared.woken.Woken.{Woken}
+use Rattle.delta_runner.specs.SinceCourse.{IsSince, IsFrom, source_of}
 use Rattle.commands.specs.declared.keeping.Unleft.{Unleft}
 use Rattle.commands.specs.declared.keeping.Unleft.TheVariants.{Large}
 use Rattle.commands.specs.Leaving.{from_start, from_kept, OfEachProgram, OfEachState, KeptAs, AreIts, AreTooMany, AreTooFar, Way, Ended, Leaves, IsSaved, IsLarge, IsBehind, LeavesState, ChangesState, Leaving, Saves, TellsBytes}

@@ -33,8 +33,8 @@ use Rattle.delta_session.specs.Course.{Course}
 use Rattle.delta_session.specs.Programs.{IsRunning}
 use Rattle.delta_session.specs.Standing.{IsOf}
 use Rattle.delta_runner.specs.Standing.{StandsFor}
-use Rattle.kept_runner.specs.declared.woken.Woken.{Woken}
-use Rattle.kept_runner.specs.SinceCourse.{IsSince, IsFrom}
+use Rattle.delta_runner.specs.declared.woken.Woken.{Woken}
+use Rattle.delta_runner.specs.SinceCourse.{IsSince, IsFrom}
 use Rattle.commands.specs.declared.keeping.Unleft.{Unleft}
 use Rattle.commands.specs.declared.keeping.Unleft.TheVariants as unleft
 

@@ -10,7 +10,7 @@ use Rattle.delta_end.specs.declared.end.End.{End}
 use Rattle.checked_program.specs.Acceptance.{IsWritable}
 use Rattle.delta_output.specs.LoopMeaning.{meaning_of}
 use Rattle.output_laws.specs.TreeOneShot.{one_shot_of}
-use Rattle.kept_runner.specs.KeptOneShot.{meaning_since}
+use Rattle.delta_runner.specs.KeptOneShot.{meaning_since}
 use Rattle.commands.specs.Running.{RunsText}
 use Rattle.commands.specs.Resuming.{IsTypedAs, OfState, Resumes, ResumesFile}
 use Rattle.commands.specs.Texts.{ResumesText}

@@ -15,7 +15,7 @@ ghost use Rattle.delta_loop.specs.Answer.{Adds, ReadsWell};
 ghost use Rattle.delta_loop.specs.Loop.{IsWellEnded, RanTo};
 ghost use Rattle.delta_loop.specs.Meaning.{Meaning};
 ghost use Rattle.delta_runner.specs.Standing.{StandsFor};
-ghost use Rattle.kept_runner.specs.SinceCourse.{IsSince, IsFrom};
+ghost use Rattle.delta_runner.specs.SinceCourse.{IsSince, IsFrom};
 ghost use Rattle.commands.specs.Leaving.{StandsForSome, OfEachState, KeptAs, AreIts, AreTooMany, AreTooFar, from_kept, Saves};
 ghost use Rattle.commands.specs.Saving.{way_since, SavesBytes, SavesFrom};
 
@@ -25,10 +25,9 @@ use core_term::Checked;
 use delta_end::End;
 use delta_keep::{Kept, dismiss};
 use delta_loop::run_machine;
-use delta_runner::Runner;
+use delta_runner::{Runner, Woken, begin_kept};
 use event_frame::Version;
 use kept_check::load;
-use kept_runner::{Woken, begin};
 use machine_kept::Keeping;
 use port::{IoFault, Link, Shelf};
 use std::alloc::Global;
@@ -110,7 +109,7 @@ fn save_again<M: Keeping, L: Link, S: Shelf>(
     ensures read { ReadCause result (L.read_faults link.old) (L.read_faults link.new) }
     ensures write { WriteCause result (L.write_faults link.old) (L.write_faults link.new) }
 {
-    match begin::<M>(alloc, c, k, budget, version) {
+    match begin_kept::<M>(alloc, c, k, budget, version) {
         Ok(runner) => {
             let mut runner = runner;
             let end = run_machine(alloc, &mut runner, None, b"", link);

@@ -41,10 +41,10 @@ use Rattle.delta_loop.proofs.Outputs.{accepted-append}
 use Rattle.delta_session.specs.OneShot.{OneShot}
 use Rattle.delta_output.specs.LoopMeaning.{meaning_of}
 use Rattle.output_laws.proofs.Meant.{same_one_shot}
-use Rattle.kept_runner.specs.KeptOneShot.{meaning_since}
-use Rattle.kept_runner.proofs.KeptGrowth.{runnable}
-use Rattle.kept_runner.proofs.AsProgram.{input_whole}
-use Rattle.kept_runner.proofs.JoinedRuns.{runs_joined}
+use Rattle.delta_runner.specs.KeptOneShot.{meaning_since}
+use Rattle.delta_runner.proofs.KeptGrowth.{runnable}
+use Rattle.delta_runner.proofs.AsProgram.{input_whole}
+use Rattle.delta_runner.proofs.JoinedRuns.{runs_joined}
 use Rattle.commands.specs.Leaving.{IsKeptOf, IsKeptAgain}
 use Rattle.commands.specs.Resuming.{IsTypedAs}
 use Rattle.commands.specs.Running.{IsMeant}

@@ -23,7 +23,7 @@ use Rattle.delta_loop.specs.Loop.{Ran}
 use Rattle.delta_loop.specs.Answer.{Adds}
 use Rattle.delta_loop.proofs.Returning.{adds_none, ran_prompt, returned}
 use Rattle.delta_loop.proofs.Completeness.{good_end, good_status}
-use Rattle.kept_runner.specs.KeptOneShot.{meaning_since}
+use Rattle.delta_runner.specs.KeptOneShot.{meaning_since}
 use Rattle.commands.specs.Resuming.{GoesOn, IsTypedAs, IsWrong, OfState}
 use Rattle.commands.specs.Texts.{ResumesIts, ResumesText}
 use Rattle.delta_run.specs.Settled.{IsOverInput}

@@ -23,7 +23,7 @@ use Rattle.delta_loop.specs.Meaning.{Meaning}
 use Rattle.delta_loop.specs.History.{IsUntouched}
 use Rattle.delta_loop.specs.Loop.{Ran}
 use Rattle.delta_loop.specs.Answer.{Adds, IsComplete}
-use Rattle.kept_runner.specs.KeptOneShot.{meaning_since}
+use Rattle.delta_runner.specs.KeptOneShot.{meaning_since}
 use Rattle.commands.specs.Leaving.{IsKeptAgain, IsSaved, LeavesState}
 use Rattle.commands.specs.Resuming.{IsTypedAs}
 use Rattle.commands.specs.Texts.{ResumesIts}

@@ -19,7 +19,7 @@ use Rattle.delta_loop.specs.History.{IsUntouched}
 use Rattle.delta_loop.specs.Output.{due}
 use Rattle.delta_loop.specs.Prompt.{IsPrompt}
 use Rattle.delta_loop.specs.Answer.{AtReturn, IsComplete}
-use Rattle.kept_runner.specs.KeptOneShot.{meaning_since}
+use Rattle.delta_runner.specs.KeptOneShot.{meaning_since}
 use Rattle.commands.specs.Resuming.{IsTypedAs, IsWrong}
 use Rattle.commands.specs.Texts.{ResumesText}
 use Rattle.delta_run.specs.Settled.{IsOverInput, IsSettled}

@@ -21,7 +21,7 @@ use Rattle.delta_end.specs.declared.objection.Objection.TheVariants.{State}
 use Rattle.delta_end.specs.declared.end.End.{End}
 use Rattle.delta_end.specs.declared.end.End.TheVariants.{Done, Open, Objected}
 use Rattle.checked_program.specs.Acceptance.{IsWritable}
-use Rattle.kept_runner.specs.KeptOneShot.{meaning_since}
+use Rattle.delta_runner.specs.KeptOneShot.{meaning_since}
 use Rattle.commands.specs.Leaving.{IsBehind, IsKeptAgain, Leaving}
 use Rattle.commands.specs.Resuming.{IsTypedAs}
 use Rattle.commands.specs.Saving.{LeavesAgain}

@@ -7,8 +7,8 @@ use Rattle.delta_end.specs.declared.end.End.TheVariants.{Memory}
 use Rattle.delta_loop.specs.Answer.{ReadsWell}
 use Rattle.delta_loop.proofs.Returning.{adds_none, unread}
 use Rattle.delta_runner.proofs.Stepping.{ran_not}
-use Rattle.kept_runner.specs.KeptOneShot.{meaning_since}
-use Rattle.kept_runner.proofs.SinceCourses.{from_same}
+use Rattle.delta_runner.specs.KeptOneShot.{meaning_since}
+use Rattle.delta_runner.proofs.SinceCourses.{from_same}
 use Rattle.commands.specs.Saving.{way_since}
 use Rattle.commands.proofs.Leaving.{saves_nothing}
 use Rattle.commands.proofs.SaveTexts.{saves_reads, saves_usage}

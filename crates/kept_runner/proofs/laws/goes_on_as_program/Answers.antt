@@ -1,5 +1,0 @@
-use Rattle.kept_runner.proofs.AsProgram.{goes_on_as_program}
-use Rattle.kept_runner.proofs.laws.goes_on_as_program.Goals as goal
-
-pub returns : goal.returns
-returns c = goes_on_as_program

@@ -1,5 +1,0 @@
-use Rattle.kept_runner.proofs.Speaking.{order_does_not_matter}
-use Rattle.kept_runner.proofs.laws.order_does_not_matter.Goals as goal
-
-pub returns : goal.returns
-returns c = order_does_not_matter
