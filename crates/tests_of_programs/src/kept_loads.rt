@@ -1,9 +1,9 @@
 //! Bytes that are read as kept states of a program, and others that are told apart from these.
 
 use crate::kept_bytes::ONE;
-use checked_program::{accept, dismiss};
+use crate::programs::checked;
 use core_term::Checked;
-use delta_keep::{Kept, KeptState, dismiss as dismiss_kept};
+use delta_keep::{Kept, KeptState, dismiss};
 use kept_check::{KeepFault, load};
 use std::alloc::Global;
 use std::test::Fail;
@@ -40,65 +40,35 @@ fn is_first_name(k: &Kept) -> bool {
     matches!(&*k.state, KeptState::Var(x) if x.0 == 0)
 }
 
-// Whether the bytes are read as a kept state of the program with this core, whose state is that name.
-fn core_loads_name(alloc: Global, c: &Checked, bytes: &[u8]) -> bool {
+// What is wrong with bytes for the program with this core, or whether they are read as that name.
+fn name_by(alloc: Global, c: &Checked, bytes: &[u8]) -> Result<bool, KeepFault> {
     match load(alloc, c, bytes) {
         Ok(k) => {
             let found = is_first_name(&k);
-            dismiss_kept(k);
-            found
-        }
-        Err(_) => false,
-    }
-}
-
-// The same of the program of a text.
-fn loads_name(alloc: Global, text: &[u8], bytes: &[u8]) -> Result<bool, Fail> {
-    match accept(alloc, text) {
-        Ok(accepted) => {
-            let found = core_loads_name(alloc, &accepted.checked, bytes);
-            dismiss(accepted);
+            dismiss(k);
             Ok(found)
         }
-        Err(fault) => Err(fault.into()),
+        Err(fault) => Err(fault),
     }
 }
 
-#[test]
-fn a_name_is_read(rt: HostRuntime) -> Result<(), Fail> {
-    assert!(rt; loads_name(rt.alloc(), SAME, ONE)?);
-    Ok(())
-}
-
-// What is wrong with bytes for the program with this core, if they aren't read.
-fn fault(alloc: Global, c: &Checked, bytes: &[u8]) -> Option<KeepFault> {
-    match load(alloc, c, bytes) {
-        Ok(k) => {
-            dismiss_kept(k);
-            None
-        }
-        Err(fault) => Some(fault),
-    }
-}
-
-// The same of the program of a text.
-fn told(alloc: Global, text: &[u8], bytes: &[u8]) -> Result<Option<KeepFault>, Fail> {
-    match accept(alloc, text) {
-        Ok(accepted) => {
-            let found = fault(alloc, &accepted.checked, bytes);
-            dismiss(accepted);
-            Ok(found)
-        }
-        Err(fault) => Err(fault.into()),
-    }
+// The same for the program of a text.
+fn name_of(alloc: Global, text: &[u8], bytes: &[u8]) -> Result<Result<bool, KeepFault>, Fail> {
+    let checked = checked(alloc, text)?;
+    Ok(name_by(alloc, &checked, bytes))
 }
 
 #[test]
 fn what_was_kept_is_read(rt: HostRuntime) -> Result<(), Fail> {
-    assert!(rt; told(rt.alloc(), SAME, ONE)?.is_none());
-    assert!(rt; told(rt.alloc(), CASE, HELD)?.is_none());
-    assert!(rt; told(rt.alloc(), CALL, FRAME)?.is_none());
+    assert!(rt; name_of(rt.alloc(), SAME, ONE)? == Ok(true));
+    assert!(rt; name_of(rt.alloc(), CASE, HELD)? == Ok(false));
+    assert!(rt; name_of(rt.alloc(), CALL, FRAME)? == Ok(false));
     Ok(())
+}
+
+// What is wrong with bytes for the program of a text, if they aren't read.
+fn told(alloc: Global, text: &[u8], bytes: &[u8]) -> Result<Option<KeepFault>, Fail> {
+    Ok(name_of(alloc, text, bytes)?.err())
 }
 
 #[test]
@@ -175,12 +145,24 @@ const UNTYPED: &[(usize, u8, u32)] = &[
     (121, 60, 4),
 ];
 
+// Whether just that is told of the state of a text's program, row by row.
+fn are_told_untyped(
+    alloc: Global,
+    text: &[u8],
+    bytes: &[u8],
+    rows: &[(usize, u8, u32)],
+) -> Result<bool, Fail> {
+    for (at, value, number) in rows {
+        if told_changed(alloc, text, bytes, *at, *value)? != Some(KeepFault::Untyped(*number)) {
+            return Ok(false);
+        }
+    }
+    Ok(true)
+}
+
 #[test]
 fn the_first_untyped_state_is_told(rt: HostRuntime) -> Result<(), Fail> {
-    for (at, value, number) in UNTYPED {
-        let told = told_changed(rt.alloc(), CASE, HELD, *at, *value)?;
-        assert!(rt; told == Some(KeepFault::Untyped(*number)));
-    }
+    assert!(rt; are_told_untyped(rt.alloc(), CASE, HELD, UNTYPED)?);
     Ok(())
 }
 
@@ -189,10 +171,7 @@ const UNTYPED_OF_A_CALL: &[(usize, u8, u32)] = &[(36, 7, 1), (41, 7, 2), (31, 1,
 
 #[test]
 fn the_first_untyped_state_of_a_call_is_told(rt: HostRuntime) -> Result<(), Fail> {
-    for (at, value, number) in UNTYPED_OF_A_CALL {
-        let told = told_changed(rt.alloc(), CALL, FRAME, *at, *value)?;
-        assert!(rt; told == Some(KeepFault::Untyped(*number)));
-    }
+    assert!(rt; are_told_untyped(rt.alloc(), CALL, FRAME, UNTYPED_OF_A_CALL)?);
     Ok(())
 }
 

@@ -1,13 +1,12 @@
 //! A kept state and its bytes, which were put together by hand.
 
 use crate::kept_bytes::saves_to;
-use bunch::Name;
-use core_term::{Node, Term};
-use delta_keep::{HeldName, Kept, KeptState, Known, Waiting, dismiss};
+use core_term::Term;
+use delta_keep::{HeldName, Kept, KeptState, Known, ReadFault, Waiting, dismiss, read_kept};
 use hist_value::Value;
 use std::alloc::Global;
 use stream_prefix::Prefix;
-use stream_type::{Memory, Ty, cat, star};
+use stream_type::Ty;
 
 // A wait for `1 . Int` of which nothing has come, and code that sees a list with the number -1, after seven events.
 const WAIT: &[u8] = b"\
@@ -15,84 +14,100 @@ const WAIT: &[u8] = b"\
     \0\0\x01\0\0\0\x03\x03\x01\x02\x06\x01\0\0\0\x0b\x08\0\0\0\x01\0\0\0\x07\x06\x02\x05\0\0\
     \0\x01\x01\xff\xff\xff\xff\xff\xff\xff\xff\x20\0\0\0\0\0\0\0";
 
-// A list of the number -1.
-fn list(alloc: Global) -> Result<Box<Value>, Memory> {
-    let mut items = Vec::new(alloc);
-    items.push(Value::Int(-1))?;
-    Ok(Box::new(alloc, Value::List(items))?)
+fn is_int(ty: &Ty) -> bool {
+    matches!(ty, Ty::Int)
 }
 
-// The value that the code sees.
-fn known(alloc: Global) -> Result<Known, Memory> {
-    let value = list(alloc)?;
-    let ty = Box::new(alloc, star(alloc, Ty::Int)?)?;
-    Ok(Known {
-        name: Name(7),
-        ty,
-        value,
-    })
+// Whether the type is `1 . Int`.
+fn is_one_then_int(ty: &Ty) -> bool {
+    match ty {
+        Ty::Cat(one, int) => matches!(&**one, Ty::One) && is_int(int),
+        _ => false,
+    }
 }
 
-// The code: `nil`.
-fn waiting(alloc: Global) -> Result<Box<Waiting>, Memory> {
-    let mut past = Vec::new(alloc);
-    past.push(known(alloc)?)?;
-    let term = Term::Nil;
-    let code = Box::new(alloc, Node { at: 11, term })?;
-    let depth = 1u64 << 61;
-    Ok(Box::new(alloc, Waiting { code, past, depth })?)
+// Whether it is `Int*`.
+fn is_ints(ty: &Ty) -> bool {
+    match ty {
+        Ty::Star(item) => is_int(item),
+        _ => false,
+    }
 }
 
-// What is held of the subject: nothing yet.
-fn held(alloc: Global) -> Result<HeldName, Memory> {
-    let nothing = Box::new(alloc, Prefix::OneEmp)?;
-    let prefix = Box::new(alloc, Prefix::CatFst(nothing))?;
-    let ty = Box::new(alloc, cat(alloc, Ty::One, Ty::Int)?)?;
-    Ok(HeldName {
-        name: Name(3),
-        ty,
-        prefix,
-    })
+// Whether the value is a list of the number -1.
+fn is_list(value: &Value) -> bool {
+    match value {
+        Value::List(items) => items.len() == 1 && matches!(&items[0], Value::Int(-1)),
+        _ => false,
+    }
 }
 
-// The wait.
-fn wait(alloc: Global) -> Result<Box<KeptState>, Memory> {
-    let ty = Box::new(alloc, Ty::Int)?;
-    let mut names = Vec::new(alloc);
-    names.push(held(alloc)?)?;
-    let later = waiting(alloc)?;
-    Ok(Box::new(alloc, KeptState::Wait(Name(3), ty, names, later))?)
+// Whether nothing has come of the first part.
+fn is_empty(prefix: &Prefix) -> bool {
+    match prefix {
+        Prefix::CatFst(first) => matches!(&**first, Prefix::OneEmp),
+        _ => false,
+    }
 }
 
-// It is kept after seven events, with one of two marks come.
-fn wait_kept(alloc: Global) -> Result<Kept, Memory> {
-    let cuts = [false, true].to_vec(alloc)?;
-    let out = Box::new(alloc, Ty::Int)?;
-    let mut ins = Vec::new(alloc);
-    ins.push(cat(alloc, Ty::One, Ty::Int)?)?;
-    let state = wait(alloc)?;
-    Ok(Kept {
-        events: 7,
-        ins,
-        cuts,
-        out,
-        state,
-    })
+// Whether that is what is held of the subject.
+fn is_held(held: &HeldName) -> bool {
+    held.name.0 == 3 && is_one_then_int(&held.ty) && is_empty(&held.prefix)
 }
 
-// Whether a kept state is saved as these bytes.
-fn saves(alloc: Global, kept: Result<Kept, Memory>, bytes: &[u8]) -> bool {
-    match kept {
-        Ok(k) => {
-            let same = saves_to(alloc, &k, bytes);
-            dismiss(k);
-            same
+// Whether that is the value that the code sees.
+fn is_known(known: &Known) -> bool {
+    known.name.0 == 7 && is_ints(&known.ty) && is_list(&known.value)
+}
+
+// Whether that is the code: `nil`, with half of all depths.
+fn is_waiting(later: &Waiting) -> bool {
+    later.code.at == 11
+        && matches!(&later.code.term, Term::Nil)
+        && later.past.len() == 1
+        && is_known(&later.past[0])
+        && later.depth == 1 << 61
+}
+
+// Whether the state is that wait.
+fn is_wait(state: &KeptState) -> bool {
+    match state {
+        KeptState::Wait(subject, ty, names, later) => {
+            subject.0 == 3
+                && is_int(ty)
+                && names.len() == 1
+                && is_held(&names[0])
+                && is_waiting(later)
         }
-        Err(Memory) => false,
+        _ => false,
+    }
+}
+
+// Whether it was kept after seven events, with one of two marks come.
+fn is_wait_kept(k: &Kept) -> bool {
+    k.events == 7
+        && k.ins.len() == 1
+        && is_one_then_int(&k.ins[0])
+        && k.cuts.len() == 2
+        && !k.cuts[0]
+        && k.cuts[1]
+        && is_int(&k.out)
+        && is_wait(&k.state)
+}
+
+// Whether bytes are read as that, and it is saved as these bytes.
+fn are_of_wait(alloc: Global, bytes: &[u8]) -> Result<bool, ReadFault> {
+    match read_kept(alloc, bytes) {
+        Ok(k) => {
+            let same = is_wait_kept(&k) && saves_to(alloc, &k, bytes);
+            dismiss(k);
+            Ok(same)
+        }
+        Err(fault) => Err(fault),
     }
 }
 
 #[test]
-fn a_wait_is_saved(rt: HostRuntime) {
-    assert!(rt; saves(rt.alloc(), wait_kept(rt.alloc()), WAIT));
+fn a_wait_is_read_and_saved(rt: HostRuntime) {
+    assert!(rt; matches!(are_of_wait(rt.alloc(), WAIT), Ok(true)));
 }
