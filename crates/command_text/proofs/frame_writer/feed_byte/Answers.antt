@@ -1,5 +1,5 @@
--- A byte that ends the line of an event, and want of memory.
-use Rattle.std.proofs.Common.{◌∷◌}
+-- A byte that ends the line of an event, want of memory, and a byte that can't stand in its place.
+use Rattle.std.proofs.Common.{◌∷◌, rules}
 use Rattle.command_text.proofs.Feeding.{feeds_event, ended_sending, ended_memory, on_ok, if_err}
 use Rattle.command_text.proofs.frame_writer.feed_byte.Goals as goal
 
@@ -18,3 +18,6 @@ returns-in-Ok-Some-clause-err g c =
 
 pub returns-in-Err-Memory-clause-err : goal.returns-in-Err-Memory-clause-err
 returns-in-Err-Memory-clause-err g c start front more feeds = ended_memory c.args.version start _ _ front (c.args.byte ∷ more) feeds
+
+pub returns-in-Err-Refused-clause-err : goal.returns-in-Err-Refused-clause-err
+returns-in-Err-Refused-clause-err g c = search rules
