@@ -15,4 +15,3 @@ pub use found::{Found, goes_on, nothing, number_goes};
 pub use matching::match_state;
 pub use matching_values::value_goes;
 pub use registers::{Registers, beside, depth_at, number_at};
-pub use same_code::{same_expr, same_op};

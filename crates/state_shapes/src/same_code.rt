@@ -8,9 +8,9 @@ use hist_value::Expr;
 use stream_type::same;
 use template_state::{Op, Operands};
 
-/// Whether two templates stand for the same term, as far as this tells: where it is true they do.
+// Whether two templates stand for the same term, as far as this tells: where it is true they do.
 #[cycle(same_op)]
-pub fn same_op(a: &Op, b: &Op) -> bool
+pub(crate) fn same_op(a: &Op, b: &Op) -> bool
     ensures { result ≡ true → op_term a.now ≡ op_term b.now }
 {
     match a {
@@ -137,9 +137,9 @@ fn same_operands(a: &Operands, b: &Operands) -> bool
     }
 }
 
-/// Whether two historical expressions are the same, as far as this tells: where it is true they are.
+// Whether two historical expressions are the same, as far as this tells: where it is true they are.
 #[cycle(same_expr)]
-pub fn same_expr(a: &Expr, b: &Expr) -> bool
+fn same_expr(a: &Expr, b: &Expr) -> bool
     ensures { result ≡ true → expr_of a.now ≡ expr_of b.now }
 {
     match a {

@@ -1,6 +1,6 @@
 //! What is awaited of the input, compared and copied.
 
-ghost use Rattle.std.specs.Prelude.{◌≡◌, true, IfOk};
+ghost use Rattle.std.specs.Prelude.{◌≡◌, ◌↔◌, IfOk, IsTrue};
 ghost use Rattle.stream_type.specs.StreamType.{StreamType, type_of};
 ghost use Rattle.machine_parts.specs.AwaitedTree.{AwaitedTree, awaited_in, stream_awaited, both_awaited, turns_awaited};
 
@@ -10,9 +10,9 @@ use machine_parts::results::{boxed, pair};
 use std::alloc::Global;
 use stream_type::{Memory, Ty, same};
 
-/// Whether the same is awaited, as far as this tells: where it is true it is.
+/// Whether the same is awaited.
 pub fn same_awaited(a: &Awaited, b: &Awaited) -> bool
-    ensures { result ≡ true → awaited_in a.now ≡ awaited_in b.now }
+    ensures { IsTrue result ↔ (awaited_in a.now ≡ awaited_in b.now) }
 {
     match (a, b) {
         (Awaited::Nothing, Awaited::Nothing) => true,

@@ -1,6 +1,6 @@
 //! Whether a run stands at a station.
 
-ghost use Rattle.std.specs.Prelude.{◌≡◌, true, IfOk, IfSome};
+ghost use Rattle.std.specs.Prelude.{◌≡◌, ◌↔◌, IfOk, IfSome, IsTrue};
 ghost use Rattle.delta_state.specs.StateTree.{StateTree};
 ghost use Rattle.template_state.specs.Readers.{state_in};
 ghost use Rattle.state_shapes.specs.RegisterLists.{lists_in};
@@ -31,7 +31,7 @@ pub fn found_at(alloc: Global, station: &Station, run: &Run<'_>) -> Result<Optio
 
 // Whether all is alike but the state.
 fn is_alike(station: &Station, run: &Run<'_>) -> bool
-    ensures { result ≡ true → IsAlike (station_in station.now) run.now }
+    ensures { IsTrue result ↔ IsAlike (station_in station.now) run.now }
 {
     same(run.input, &station.input)
         && same(run.output, &station.output)

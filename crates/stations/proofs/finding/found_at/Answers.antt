@@ -10,4 +10,4 @@ pub returns-in-Ok-Some : goal.returns-in-Ok-Some
 returns-in-Ok-Some c =
     let l : Lies (state_in c.args.station.now.shape.value) (state_in c.args.run.now.state.now) (lists_in c.in-Ok-Some.found) =
     MatchOption-at_some _ _ c.in-Ok-Some.found c.in-Ok-Some.field-0-is (rw c.deref.ensures at c.in-Ok-Some.ensures) in
-    IfSome_then c.values_at.result (c.values_at.ensures _ l) (λ v f. stands _ _ v (c.is_alike.ensures c.if-not-is_alike.false) f)
+    IfSome_then c.values_at.result (c.values_at.ensures _ l) (λ v f. stands _ _ v (c.is_alike.ensures.0 c.if-not-is_alike.false) f)
