@@ -1,0 +1,6 @@
+-- It stands where it is told.
+use Rattle.std.proofs.Common.{rules}
+use Rattle.delta_tree.proofs.placing.expression.Goals as goal
+
+pub returns : goal.returns
+returns c = search rules
