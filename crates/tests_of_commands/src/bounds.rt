@@ -1,7 +1,6 @@
 //! How many events programs can ever hold back, told by the command `bound`.
 
-use crate::outside::{are_written, link, outcome, words};
-use port::{MemLink, MemShelf, MemSink};
+use crate::outside::{Row, answers, first_wrong, leaves_front};
 use std::alloc::Global;
 use std::test::Fail;
 
@@ -36,93 +35,79 @@ const ALARM: &str = "fun watch(xs : Int*) : Int* || 1* =
   }
 main(xs : Int*) : Int* || 1* = watch(xs)";
 
-/// What the command is given, and what it must write and answer.
-#[derive(Clone, Copy)]
-struct Row {
-    /// The words, parted by spaces.
-    words: &'static str,
-    /// The text of the file `program`.
-    text: &'static str,
-    output: &'static [u8],
-    note: &'static [u8],
-    status: u8,
-}
-
 const BOUNDED: Row = Row {
     words: "bound program",
     text: DOUBLE,
-    output: b"bound 1\n",
-    note: b"",
+    first: "",
+    second: "",
+    output: "bound 1\n",
+    note: "",
     status: 0,
 };
 
 const UNBOUNDED: Row = Row {
-    words: "bound program",
-    text: TOTAL,
-    output: b"",
-    note: b"delta: no bound: Unbounded at 24\n",
+    output: "",
+    note: "delta: no bound: Unbounded at 24\n",
     status: 12,
+    ..BOUNDED
 };
+
+// Programs, and how many events each can hold back.
+const BOUNDS: &[(&str, &str)] = &[
+    (DOUBLE, "bound 1\n"),
+    (SIDES, "bound 1\n"),
+    (IN_TURN, "bound 0\n"),
+    ("main(x : Int, y : Int) : Int = wait x in y", "bound 2\n"),
+    ("main(x : Int, y : Int) : Int || Int = (y, x)", "bound 0\n"),
+    (
+        "main(z : (Int || Int)) : Int || Int = let (a, b) = z in (b, a)",
+        "bound 0\n",
+    ),
+    (
+        "main(z : 1 + 1, y : Int) : Int = case z of { inl a => y | inr b => {0} }",
+        "bound 1\n",
+    ),
+    (SUMS, "bound 1\n"),
+    (ALARM, "bound 1\n"),
+];
+
+#[test]
+fn bounds_are_told(rt: HostRuntime) -> Result<(), Fail> {
+    for (text, output) in BOUNDS {
+        let row = Row {
+            text,
+            output,
+            ..BOUNDED
+        };
+        assert!(rt; answers(rt.alloc(), &row)?, "{text}");
+    }
+    Ok(())
+}
 
 const USAGE: Row = Row {
     words: "bound",
-    text: DOUBLE,
-    output: b"",
-    note: b"delta: usage\n",
+    note: "delta: usage\n",
     status: 2,
+    ..UNBOUNDED
 };
 
-const ROWS: &[Row] = &[
-    BOUNDED,
-    Row {
-        text: SIDES,
-        ..BOUNDED
-    },
-    Row {
-        text: IN_TURN,
-        output: b"bound 0\n",
-        ..BOUNDED
-    },
-    Row {
-        text: "main(x : Int, y : Int) : Int = wait x in y",
-        output: b"bound 2\n",
-        ..BOUNDED
-    },
-    Row {
-        text: "main(x : Int, y : Int) : Int || Int = (y, x)",
-        output: b"bound 0\n",
-        ..BOUNDED
-    },
-    Row {
-        text: "main(z : (Int || Int)) : Int || Int = let (a, b) = z in (b, a)",
-        output: b"bound 0\n",
-        ..BOUNDED
-    },
-    Row {
-        text: "main(z : 1 + 1, y : Int) : Int = case z of { inl a => y | inr b => {0} }",
-        ..BOUNDED
-    },
-    Row {
-        text: SUMS,
-        ..BOUNDED
-    },
-    Row {
-        text: ALARM,
-        ..BOUNDED
-    },
+const OTHER_ENDS: &[Row] = &[
     Row {
         words: "bound -- program",
         ..BOUNDED
     },
-    UNBOUNDED,
+    Row {
+        text: TOTAL,
+        ..UNBOUNDED
+    },
     Row {
         text: GROWING,
-        note: b"delta: no bound: Cycle at 34\n",
+        note: "delta: no bound: Cycle at 34\n",
         ..UNBOUNDED
     },
     Row {
         text: "main(x : Int) : Int = y",
-        note: b"delta: program refused: Unbound at 22\n",
+        note: "delta: program refused: Unbound at 22\n",
         status: 3,
         ..UNBOUNDED
     },
@@ -141,33 +126,9 @@ const ROWS: &[Row] = &[
     },
 ];
 
-// A shelf that holds a text as the file `program`.
-fn shelf_of(alloc: Global, text: &str) -> Result<MemShelf, Fail> {
-    let name = String::from_str(alloc, "program")?;
-    let mut files = Vec::new(alloc);
-    files.push((name, text.as_bytes().to_vec(alloc)?))?;
-    Ok(MemShelf::new(alloc, files, Vec::new(alloc)))
-}
-
-// Whether the words over the file `program` write and answer so, where a write takes at most so many bytes.
-// The link has an input, which isn't read.
-fn answers(alloc: Global, text: &str, row: &Row, most: u64) -> Result<bool, Fail> {
-    let given = words(alloc, row.words)?;
-    let mut shelf = shelf_of(alloc, text)?;
-    let mut link = link(alloc, b"DEV1", 4096, most)?;
-    let mut notes = MemSink::new(alloc, Vec::new(alloc));
-    let status = outcome(alloc, &given, &mut shelf, &mut link, &mut notes);
-    let told = notes.bytes() == row.note && status == row.status;
-    Ok(are_written(alloc, &link, row.output)? && told)
-}
-
 #[test]
-fn bounds_are_told(rt: HostRuntime) -> Result<(), Fail> {
-    for row in ROWS {
-        for most in [1, 4096] {
-            assert!(rt; answers(rt.alloc(), row.text, row, most)?, "{}", row.text);
-        }
-    }
+fn programs_without_a_bound_are_refused(rt: HostRuntime) -> Result<(), Fail> {
+    assert_eq!(rt; first_wrong(rt.alloc(), OTHER_ENDS)?, None);
     Ok(())
 }
 
@@ -200,34 +161,37 @@ fn large_program(alloc: Global, functions: u32) -> Result<String, Fail> {
     Ok(text)
 }
 
+// Whether a program of so many functions is answered so.
+fn is_large(alloc: Global, functions: u32, row: &Row) -> Result<bool, Fail> {
+    let text = large_program(alloc, functions)?;
+    let large = Row {
+        text: text.as_str(),
+        ..*row
+    };
+    let answered = answers(alloc, &large);
+    drop(text);
+    answered
+}
+
+const BELOW: Row = Row {
+    output: "bound 100000000000000000\n",
+    ..BOUNDED
+};
+
+const ABOVE: Row = Row {
+    note: "delta: no bound: Large at 0\n",
+    ..UNBOUNDED
+};
+
 #[test]
 fn bound_stays_below_its_limit(rt: HostRuntime) -> Result<(), Fail> {
-    let below = large_program(rt.alloc(), 18)?;
-    let told = Row {
-        output: b"bound 100000000000000000\n",
-        ..BOUNDED
-    };
-    assert!(rt; answers(rt.alloc(), below.as_str(), &told, 4096)?);
-    let above = large_program(rt.alloc(), 19)?;
-    let refused = Row {
-        note: b"delta: no bound: Large at 0\n",
-        ..UNBOUNDED
-    };
-    assert!(rt; answers(rt.alloc(), above.as_str(), &refused, 4096)?);
+    assert!(rt; is_large(rt.alloc(), 18, &BELOW)?);
+    assert!(rt; is_large(rt.alloc(), 19, &ABOVE)?);
     Ok(())
 }
 
 #[test]
 fn failed_write_tells_nothing(rt: HostRuntime) -> Result<(), Fail> {
-    let alloc = rt.alloc();
-    let given = words(alloc, "bound program")?;
-    let mut shelf = shelf_of(alloc, DOUBLE)?;
-    let failing = [0].to_vec(alloc)?;
-    let mut link = MemLink::new(alloc, Vec::new(alloc), Vec::new(alloc), failing, 4096);
-    let mut notes = MemSink::new(alloc, Vec::new(alloc));
-    let status = outcome(alloc, &given, &mut shelf, &mut link, &mut notes);
-    let note: &[u8] = b"delta: outside fault: output\n";
-    assert!(rt; status == 7 && notes.bytes() == note);
-    assert!(rt; are_written(alloc, &link, b"")?);
+    assert!(rt; leaves_front(rt.alloc(), &BOUNDED, 0, "")?);
     Ok(())
 }

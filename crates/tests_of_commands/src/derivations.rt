@@ -1,7 +1,7 @@
 //! Derivations of programs, checked by the command `derive`.
 
-use crate::outside::{are_written, link, outcome, words};
-use port::{MemShelf, MemSink};
+use crate::outside::{Row, answers, answers_on};
+use delta_code::Coded;
 use std::alloc::Global;
 use std::test::Fail;
 
@@ -17,171 +17,121 @@ const THREE: &str = "rule\nrule\nrule\n";
 
 const LOOSENED: &str = "loosen .\nrule\nrule\nrule\n";
 
-/// What the command is given, and what it must answer.
-#[derive(Clone, Copy)]
-struct Row {
-    /// The words, parted by spaces.
-    words: &'static str,
-    /// The texts of the files `program` and `proof`.
-    text: &'static str,
-    proof: &'static str,
-    note: &'static [u8],
-    status: u8,
-}
+// Programs, derivations, and what is told of each: nothing where it is one of the program.
+const ROWS: &[(&str, &str, &str)] = &[
+    (IN_TURN, THREE, ""),
+    (BESIDE, LOOSENED, ""),
+    (
+        "main(x : Int, y : Int) : Int . Int = (x; y)",
+        THREE,
+        "delta: derivation refused: BadRule at 0\n",
+    ),
+    (SWAP, LOOSENED, "delta: derivation refused: BadStep at 0\n"),
+    (
+        STUCK,
+        "rule r\nrule\nrule\nrule\nrule\n",
+        "delta: derivation refused: BadRule at 0\n",
+    ),
+    (
+        STUCK,
+        "rule .\nrule\nrule\n",
+        "delta: derivation refused: BadRule at 2\n",
+    ),
+    (
+        IN_TURN,
+        "loosen l\n",
+        "delta: derivation refused: BadStep at 0\n",
+    ),
+    (
+        IN_TURN,
+        LOOSENED,
+        "delta: derivation refused: BadRule at 1\n",
+    ),
+    (
+        IN_TURN,
+        "rules\n",
+        "delta: derivation refused: BadLine at 0\n",
+    ),
+    (IN_TURN, "rule\n", "delta: derivation refused: Short at 1\n"),
+    (
+        IN_TURN,
+        "rule\nrule\nrule\nrule\n",
+        "delta: derivation refused: Long at 3\n",
+    ),
+];
 
 const DERIVED: Row = Row {
-    words: "derive program proof",
+    words: "derive program a",
     text: IN_TURN,
-    proof: THREE,
-    note: b"",
+    first: THREE,
+    second: "",
+    output: "",
+    note: "",
     status: 0,
 };
 
-const UNDERIVED: Row = Row {
-    words: "derive program proof",
-    text: IN_TURN,
-    proof: THREE,
-    note: b"",
-    status: 11,
-};
-
-const REFUSED: Row = Row {
-    words: "derive program proof",
-    text: "main(x : Int) : Int = y",
-    proof: THREE,
-    note: b"delta: program refused: Unbound at 22\n",
-    status: 3,
-};
-
-const USAGE: Row = Row {
-    words: "derive program",
-    text: IN_TURN,
-    proof: THREE,
-    note: b"delta: usage\n",
-    status: 2,
-};
-
-const ROWS: &[Row] = &[
-    DERIVED,
-    Row {
-        text: BESIDE,
-        proof: LOOSENED,
-        ..DERIVED
-    },
-    Row {
-        words: "derive program -- proof",
-        ..DERIVED
-    },
-    Row {
-        text: "main(x : Int, y : Int) : Int . Int = (x; y)",
-        note: b"delta: derivation refused: BadRule at 0\n",
-        ..UNDERIVED
-    },
-    Row {
-        text: SWAP,
-        proof: LOOSENED,
-        note: b"delta: derivation refused: BadStep at 0\n",
-        ..UNDERIVED
-    },
-    Row {
-        text: STUCK,
-        proof: "rule r\nrule\nrule\nrule\nrule\n",
-        note: b"delta: derivation refused: BadRule at 0\n",
-        ..UNDERIVED
-    },
-    Row {
-        text: STUCK,
-        proof: "rule .\nrule\nrule\n",
-        note: b"delta: derivation refused: BadRule at 2\n",
-        ..UNDERIVED
-    },
-    Row {
-        proof: "loosen l\n",
-        note: b"delta: derivation refused: BadStep at 0\n",
-        ..UNDERIVED
-    },
-    Row {
-        proof: LOOSENED,
-        note: b"delta: derivation refused: BadRule at 1\n",
-        ..UNDERIVED
-    },
-    Row {
-        proof: "rules\n",
-        note: b"delta: derivation refused: BadLine at 0\n",
-        ..UNDERIVED
-    },
-    Row {
-        proof: "rule\n",
-        note: b"delta: derivation refused: Short at 1\n",
-        ..UNDERIVED
-    },
-    Row {
-        proof: "rule\nrule\nrule\nrule\n",
-        note: b"delta: derivation refused: Long at 3\n",
-        ..UNDERIVED
-    },
-    REFUSED,
-    Row {
-        proof: "rules",
-        ..REFUSED
-    },
-    USAGE,
-    Row {
-        words: "derive program proof proof",
-        ..USAGE
-    },
-    Row {
-        words: "derive program proof --budget 5",
-        ..USAGE
-    },
-];
-
-// A shelf that holds these texts as the files `program` and `proof`.
-fn shelf_of(alloc: Global, text: &str, proof: &[u8]) -> Result<MemShelf, Fail> {
-    let mut files = Vec::new(alloc);
-    files.push((
-        String::from_str(alloc, "program")?,
-        text.as_bytes().to_vec(alloc)?,
-    ))?;
-    files.push((String::from_str(alloc, "proof")?, proof.to_vec(alloc)?))?;
-    Ok(MemShelf::new(alloc, files, Vec::new(alloc)))
-}
-
-// Whether the words over the two files answer so. The link has an input, and isn't touched.
-fn answers(alloc: Global, row: &Row, proof: &[u8]) -> Result<bool, Fail> {
-    let given = words(alloc, row.words)?;
-    let mut shelf = shelf_of(alloc, row.text, proof)?;
-    let mut link = link(alloc, b"DEV1", 4096, 4096)?;
-    let mut notes = MemSink::new(alloc, Vec::new(alloc));
-    let status = outcome(alloc, &given, &mut shelf, &mut link, &mut notes);
-    let told = notes.bytes() == row.note && status == row.status;
-    Ok(are_written(alloc, &link, b"")? && link.log().is_empty() && told)
-}
-
 #[test]
 fn derivations_are_judged(rt: HostRuntime) -> Result<(), Fail> {
-    for row in ROWS {
-        assert!(rt;
-            answers(rt.alloc(), row, row.proof.as_bytes())?,
-            "{} {}",
-            row.text,
-            row.proof
-        );
+    for (text, first, note) in ROWS {
+        let row = Row {
+            text,
+            first,
+            note,
+            status: if note.is_empty() { 0 } else { 11 },
+            ..DERIVED
+        };
+        assert!(rt; answers(rt.alloc(), &row)?, "{text} {first}");
     }
     Ok(())
 }
 
+// Words, derivations, what is told, and the status.
+const OTHER_ENDS: &[(&str, &str, &str, u8)] = &[
+    ("derive program -- a", THREE, "", 0),
+    ("derive b a", THREE, REFUSED, 3),
+    ("derive b a", "rules", REFUSED, 3),
+    ("derive program", THREE, "delta: usage\n", 2),
+    ("derive program a a", THREE, "delta: usage\n", 2),
+    ("derive program a --budget 5", THREE, "delta: usage\n", 2),
+];
+
+const REFUSED: &str = "delta: program refused: Unbound at 22\n";
+
+#[test]
+fn programs_and_words_are_judged_first(rt: HostRuntime) -> Result<(), Fail> {
+    for (words, first, note, status) in OTHER_ENDS {
+        let row = Row {
+            words,
+            first,
+            second: "main(x : Int) : Int = y",
+            note,
+            status: *status,
+            ..DERIVED
+        };
+        assert!(rt; answers(rt.alloc(), &row)?, "{words} {first}");
+    }
+    Ok(())
+}
+
+// Whether a derivation of one byte more than there may be is refused.
+fn is_too_long(alloc: Global) -> Result<bool, Fail> {
+    let mut proof = String::new(alloc);
+    for _ in 0..1_048_577 {
+        proof.push('r')?;
+    }
+    let row = Row {
+        first: proof.as_str(),
+        note: "delta: derivation refused: LongText at 1048576\n",
+        status: 11,
+        ..DERIVED
+    };
+    let refused = answers_on::<Coded>(alloc, &row, 4096);
+    drop(proof);
+    refused
+}
+
 #[test]
 fn long_derivation_is_refused(rt: HostRuntime) -> Result<(), Fail> {
-    let alloc = rt.alloc();
-    let mut proof = Vec::new(alloc);
-    for _ in 0..1_048_577 {
-        proof.push(b'r')?;
-    }
-    let refused = Row {
-        note: b"delta: derivation refused: LongText at 1048576\n",
-        ..UNDERIVED
-    };
-    assert!(rt; answers(alloc, &refused, proof.as_slice())?);
+    assert!(rt; is_too_long(rt.alloc())?);
     Ok(())
 }

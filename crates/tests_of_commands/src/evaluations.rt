@@ -1,6 +1,6 @@
 //! Programs evaluated over a link in memory.
 
-use crate::outside::{link, written};
+use crate::outside::{are_written, link};
 use commands::eval_source;
 use delta_end::{End, InputFault};
 use event_frame::{FrameFault, Version};
@@ -18,68 +18,61 @@ main() : A*********************** = nil";
 // `item`, `F int 3`, `cut`, `end`
 const THREE: &[u8] = b"DEV1\x00\x15\x01\x03\x11\x00\x00\x00\x00\x00\x00\x00\x03\x00\x14\x00\x16";
 
-// The same of 6.
+// The first 16 of those bytes, and the first three frames.
+const CUT: &[u8] = b"DEV1\x00\x15\x01\x03\x11\x00\x00\x00\x00\x00\x00\x00";
+
+const UNENDED: &[u8] = b"DEV1\x00\x15\x01\x03\x11\x00\x00\x00\x00\x00\x00\x00\x03";
+
+// The same of 6, and all but its last frame.
 const SIX: &[u8] = b"DEV1\x00\x15\x01\x03\x11\x00\x00\x00\x00\x00\x00\x00\x06\x00\x14\x00\x16";
 
-// Evaluates a text over an input, and answers how it ended and what was written.
-fn evaluated(
-    alloc: Global,
-    text: &[u8],
-    input: &[u8],
-    budget: u64,
-    version: Version,
-) -> Result<(End, Vec<u8>), Fail> {
-    let mut link = link(alloc, input, 5, 7)?;
-    let end = eval_source(alloc, text, budget.min(10_000), version, &mut link);
-    Ok((end, written(alloc, &link)?))
-}
+const UNENDED_SIX: &[u8] = b"DEV1\x00\x15\x01\x03\x11\x00\x00\x00\x00\x00\x00\x00\x06\x00\x14";
 
-// Whether the numbers doubled within a budget end so and write that.
-fn doubles(
+// What is evaluated: a text, its input, the budget and the version.
+type Given = (&'static [u8], &'static [u8], u64, Version);
+
+// Whether that ends so and writes that.
+fn evaluates(
     alloc: Global,
-    input: &[u8],
-    budget: u64,
+    (text, input, budget, version): Given,
     end: End,
     output: &[u8],
 ) -> Result<bool, Fail> {
-    let (found, bytes) = evaluated(alloc, TWICE, input, budget, Version::V1)?;
-    Ok(found == end && bytes.as_slice() == output)
+    let mut link = link(alloc, input, 5, 7)?;
+    let found = eval_source(alloc, text, budget.min(10_000), version, &mut link);
+    let written = are_written(&link, output);
+    drop(link);
+    Ok(written && found == end)
 }
 
 #[test]
 fn numbers_are_doubled(rt: HostRuntime) -> Result<(), Fail> {
-    assert!(rt; doubles(rt.alloc(), THREE, 2, End::Done, SIX)?);
-    assert!(rt; doubles(rt.alloc(), THREE, 1, End::Budget(0), b"")?);
-    Ok(())
-}
-
-// Whether an input without its end is open, with so many bytes written.
-fn is_open(alloc: Global, count: usize) -> Result<bool, Fail> {
-    let (found, bytes) = evaluated(alloc, TWICE, &THREE[..17], 9, Version::V1)?;
-    Ok(found == End::Open && bytes.len() == count)
-}
-
-#[test]
-fn faulty_input_writes_nothing(rt: HostRuntime) -> Result<(), Fail> {
+    let alloc = rt.alloc();
+    assert!(rt; evaluates(alloc, (TWICE, THREE, 2, Version::V1), End::Done, SIX)?);
+    assert!(rt; evaluates(alloc, (TWICE, THREE, 1, Version::V1), End::Budget(0), b"")?);
     let cut = End::Input(InputFault::Frame(FrameFault::Truncated(16)));
-    assert!(rt; doubles(rt.alloc(), &THREE[..16], 9, cut, b"")?);
-    assert!(rt; is_open(rt.alloc(), 19)?);
+    assert!(rt; evaluates(alloc, (TWICE, CUT, 9, Version::V1), cut, b"")?);
+    assert!(rt;
+        evaluates(
+            alloc,
+            (TWICE, UNENDED, 9, Version::V1),
+            End::Open,
+            UNENDED_SIX
+        )?
+    );
     Ok(())
-}
-
-// Whether the wide output in a version ends so and writes that.
-fn is_wide(alloc: Global, version: Version, end: End, output: &[u8]) -> Result<bool, Fail> {
-    let (found, bytes) = evaluated(alloc, WIDE, b"DEV1", 0, version)?;
-    Ok(found == end && bytes.as_slice() == output)
 }
 
 #[test]
 fn wide_output_wants_long_frames(rt: HostRuntime) -> Result<(), Fail> {
-    assert!(rt; is_wide(rt.alloc(), Version::V2, End::Done, b"DEV2\x00\x16")?);
+    let alloc = rt.alloc();
+    let long = (WIDE, b"DEV1".as_slice(), 0, Version::V2);
+    assert!(rt; evaluates(alloc, long, End::Done, b"DEV2\x00\x16")?);
     let why = Refusal {
         name: RefusalName::WideOutput,
         at: 53,
     };
-    assert!(rt; is_wide(rt.alloc(), Version::V1, End::Refused(Some(why)), b"")?);
+    let short = (WIDE, b"DEV1".as_slice(), 0, Version::V1);
+    assert!(rt; evaluates(alloc, short, End::Refused(Some(why)), b"")?);
     Ok(())
 }

@@ -1,13 +1,8 @@
 //! Tables fed to programs by the command `feed`, on the compiled machine and on the plain one. Each text that must be
 //! written was worked out by hand.
 
-use crate::outside::{are_written, link, outcome_on, words, written};
+use crate::outside::{Row, answers, answers_on, first_wrong, leaves_front};
 use delta_code::Coded;
-use delta_runner::{Begins, Runner};
-use delta_state::Machine;
-use delta_step::Tree;
-use learned_runner::Learner;
-use port::{MemLink, MemShelf, MemSink, Move};
 use std::alloc::Global;
 use std::test::Fail;
 
@@ -72,21 +67,6 @@ const MOVES: &str = "1,50000\n3,-42000\n4,-9500\n9,20000\n";
 
 const BALANCED: &str = "1,50000,50000,0\n3,-42000,8000,0\n4,-9500,-1500,1\n9,20000,18500,0\n";
 
-/// What the command is given, and what it must write and answer.
-#[derive(Clone, Copy)]
-struct Row {
-    /// The words, parted by spaces.
-    words: &'static str,
-    /// The text of the file `program`.
-    text: &'static str,
-    /// The tables in the files `a` and `b`; the file `c` is empty.
-    first: &'static str,
-    second: &'static str,
-    output: &'static str,
-    note: &'static str,
-    status: u8,
-}
-
 const ADDED: Row = Row {
     words: "feed program 01 a b",
     text: ADD,
@@ -96,59 +76,6 @@ const ADDED: Row = Row {
     note: "",
     status: 0,
 };
-
-// A shelf that holds a row's files.
-fn shelf_of(alloc: Global, row: &Row) -> Result<MemShelf, Fail> {
-    let mut files = Vec::new(alloc);
-    for (name, bytes) in [
-        ("program", row.text),
-        ("a", row.first),
-        ("b", row.second),
-        ("c", ""),
-    ] {
-        let held = bytes.as_bytes().to_vec(alloc)?;
-        files.push((String::from_str(alloc, name)?, held))?;
-    }
-    Ok(MemShelf::new(alloc, files, Vec::new(alloc)))
-}
-
-// Whether a link was only written to, and in all these bytes.
-fn says(alloc: Global, link: &MemLink, output: &str) -> Result<bool, Fail> {
-    let mut all = are_written(alloc, link, output.as_bytes())?;
-    for step in link.log() {
-        all = all && matches!(step, Move::Out(_));
-    }
-    Ok(all)
-}
-
-// Whether the words over the row's files write and answer so on one machine, where a write takes at most so many
-// bytes. The link has an input, which isn't read.
-fn answers_on<B: Begins, M: Machine>(alloc: Global, row: &Row, most: u64) -> Result<bool, Fail> {
-    let given = words(alloc, row.words)?;
-    let mut shelf = shelf_of(alloc, row)?;
-    let mut link = link(alloc, b"DEV1", 4096, most)?;
-    let mut notes = MemSink::new(alloc, Vec::new(alloc));
-    let status = outcome_on::<B, M>(alloc, &given, &mut shelf, &mut link, &mut notes);
-    let told = notes.bytes() == row.note.as_bytes() && status == row.status;
-    Ok(says(alloc, &link, row.output)? && told)
-}
-
-// The same on both machines, with whole writes and byte by byte.
-fn answers(alloc: Global, row: &Row) -> Result<bool, Fail> {
-    let whole = answers_on::<Learner, Coded>(alloc, row, 4096)?
-        && answers_on::<Runner<Tree>, Tree>(alloc, row, 4096)?;
-    Ok(whole && answers_on::<Learner, Coded>(alloc, row, 1)?)
-}
-
-// The number of rows before the first that is answered otherwise, or none.
-fn first_wrong(alloc: Global, rows: &[Row]) -> Result<Option<usize>, Fail> {
-    for k in 0..rows.len() {
-        if !answers(alloc, &rows[k])? {
-            return Ok(Some(k));
-        }
-    }
-    Ok(None)
-}
 
 const FED: &[Row] = &[
     ADDED,
@@ -414,52 +341,37 @@ fn deep_calls_are_stopped(rt: HostRuntime) -> Result<(), Fail> {
         note: "delta: stopped: Deep at 0\n",
         ..STOPPED
     };
-    assert!(rt; answers_on::<Learner, Coded>(rt.alloc(), &row, 4096)?);
+    assert!(rt; answers_on::<Coded>(rt.alloc(), &row, 4096)?);
     Ok(())
+}
+
+// Whether a table of one byte more than there may be is refused.
+fn is_too_long(alloc: Global) -> Result<bool, Fail> {
+    let mut table = String::new(alloc);
+    for _ in 0..1_048_577 {
+        table.push('\n')?;
+    }
+    let row = Row {
+        words: "feed program 0 a b",
+        first: "",
+        second: table.as_str(),
+        note: "delta: table refused: Long in 1 at 0\n",
+        ..REFUSED
+    };
+    let refused = answers_on::<Coded>(alloc, &row, 4096);
+    drop(table);
+    refused
 }
 
 #[test]
 fn long_table_is_refused(rt: HostRuntime) -> Result<(), Fail> {
-    let alloc = rt.alloc();
-    let mut table = Vec::new(alloc);
-    for _ in 0..1_048_577 {
-        table.push(b'\n')?;
-    }
-    let mut files = Vec::new(alloc);
-    files.push((
-        String::from_str(alloc, "program")?,
-        ADD.as_bytes().to_vec(alloc)?,
-    ))?;
-    files.push((String::from_str(alloc, "a")?, Vec::new(alloc)))?;
-    files.push((String::from_str(alloc, "b")?, table))?;
-    let mut shelf = MemShelf::new(alloc, files, Vec::new(alloc));
-    let given = words(alloc, "feed program 0 a b")?;
-    let mut link = link(alloc, b"DEV1", 4096, 4096)?;
-    let mut notes = MemSink::new(alloc, Vec::new(alloc));
-    let status = outcome_on::<Learner, Coded>(alloc, &given, &mut shelf, &mut link, &mut notes);
-    let note: &[u8] = b"delta: table refused: Long in 1 at 0\n";
-    assert!(rt; status == 13 && notes.bytes() == note);
-    assert!(rt; says(alloc, &link, "")?);
+    assert!(rt; is_too_long(rt.alloc())?);
     Ok(())
-}
-
-// Whether a write that fails behind so many others, of four bytes each, leaves that front of the table.
-fn leaves(alloc: Global, behind: u64, front: &str) -> Result<bool, Fail> {
-    let given = words(alloc, ADDED.words)?;
-    let mut shelf = shelf_of(alloc, &ADDED)?;
-    let failing = [behind].to_vec(alloc)?;
-    let mut link = MemLink::new(alloc, Vec::new(alloc), Vec::new(alloc), failing, 4);
-    let mut notes = MemSink::new(alloc, Vec::new(alloc));
-    let status = outcome_on::<Learner, Coded>(alloc, &given, &mut shelf, &mut link, &mut notes);
-    let note: &[u8] = b"delta: outside fault: output\n";
-    let told = status == 7 && notes.bytes() == note;
-    let bytes = written(alloc, &link)?;
-    Ok(told && bytes.as_slice() == front.as_bytes())
 }
 
 #[test]
 fn failed_write_leaves_a_front(rt: HostRuntime) -> Result<(), Fail> {
-    assert!(rt; leaves(rt.alloc(), 0, "")?);
-    assert!(rt; leaves(rt.alloc(), 1, "11\n2")?);
+    assert!(rt; leaves_front(rt.alloc(), &ADDED, 0, "")?);
+    assert!(rt; leaves_front(rt.alloc(), &ADDED, 1, "11\n2")?);
     Ok(())
 }

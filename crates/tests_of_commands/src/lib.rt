@@ -1,4 +1,5 @@
-//! Tests of command lines and of the commands, over files and links in memory.
+//! Tests of command lines and of the commands that run no program over a link, and of runs that leave their state and
+//! go on from it, over files and links in memory.
 #![tactic(auto)]
 
 #[cfg(test)]
@@ -14,14 +15,8 @@ mod feedings;
 #[cfg(test)]
 mod outside;
 #[cfg(test)]
-mod runs;
-#[cfg(test)]
 mod saves;
 #[cfg(test)]
 mod sources;
-#[cfg(test)]
-mod tour;
-#[cfg(test)]
-mod whole_runs;
 #[cfg(test)]
 mod words;

@@ -17,7 +17,9 @@ fn is_printed(
 ) -> Result<bool, Fail> {
     let mut link = link(alloc, b"", 1, most)?;
     let found = print_source(alloc, text, &mut link);
-    Ok(found == end && are_written(alloc, &link, output)?)
+    let written = are_written(&link, output);
+    drop(link);
+    Ok(written && found == end)
 }
 
 #[test]

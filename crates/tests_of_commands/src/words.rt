@@ -1,164 +1,97 @@
 //! Command lines, each with its task, and words that are none.
 
 use crate::outside::words;
-use delta_words::{Task, Version, WordsFault, read_words};
-use std::alloc::Global;
+use delta_words::{Task, WordsFault, read_words};
+use std::alloc::{AllocError, Global};
 use std::test::Fail;
 
-fn named(alloc: Global, name: &str) -> Result<String, Fail> {
-    Ok(String::from_str(alloc, name)?)
+// Writes a task as a text: its kind, what it names, and its numbers.
+fn told(alloc: Global, task: &Task) -> Result<String, AllocError> {
+    match task {
+        Task::Run(name, budget, version) => {
+            format!(in alloc; "run {name}, {budget} calls, {version:?}")
+        }
+        Task::Eval(name, budget, version) => {
+            format!(in alloc; "eval {name}, {budget} calls, {version:?}")
+        }
+        Task::Check(name) => format!(in alloc; "check {name}"),
+        Task::Print(name) => format!(in alloc; "print {name}"),
+        Task::Frames(version) => format!(in alloc; "frames, {version:?}"),
+        Task::Gen(seed, count) => format!(in alloc; "gen {count} from {seed}"),
+        Task::Save(name, state, budget, version) => {
+            format!(in alloc; "save {name} in {state}, {budget} calls, {version:?}")
+        }
+        Task::SaveAgain(name, state, old, budget, version) => {
+            format!(in alloc; "save {name} in {state} from {old}, {budget} calls, {version:?}")
+        }
+        Task::Text => format!(in alloc; "text"),
+        _ => format!(in alloc; "other"),
+    }
 }
 
-// Whether a line asks for a task.
-fn asks(alloc: Global, line: &str, task: &Task) -> Result<bool, Fail> {
+// Each line, and what it asks for.
+const LINES: &str = "run -- -x => run -x, 1000000 calls, V1
+run --budget=5 a => run a, 5 calls, V1
+run a --budget 0005 => run a, 5 calls, V1
+run a --budget 1000000 => run a, 1000000 calls, V1
+run a --budget=0000000000000 => run a, 0 calls, V1
+run a -- => run a, 1000000 calls, V1
+run -- -- => run --, 1000000 calls, V1
+run a --v2 => run a, 1000000 calls, V2
+run --v2 --budget 7 -- --v2 => run --v2, 7 calls, V2
+run - => run -, 1000000 calls, V1
+eval a => eval a, 1000 calls, V1
+eval --budget 10000 a => eval a, 10000 calls, V1
+eval --v2 a --budget=0 => eval a, 0 calls, V2
+check a => check a
+check -- a => check a
+check a -- => check a
+print -- --v2 => print --v2
+text => text
+text -- => text
+text --frames => frames, V1
+text --v2 --frames => frames, V2
+text --frames --v2 -- => frames, V2
+gen 007 1 => gen 1 from 7
+gen 00999999 -- 10000000 => gen 10000000 from 999999
+gen 0 0 => gen 0 from 0
+save a b => save a in b, 1000000 calls, V1
+save a --budget=7 b => save a in b, 7 calls, V1
+save a b --v2 => save a in b, 1000000 calls, V2
+save a b c => save a in b from c, 1000000 calls, V1
+save a b b => save a in b from b, 1000000 calls, V1
+save --v2 a b c => save a in b from c, 1000000 calls, V2
+save a --v2 b c => save a in b from c, 1000000 calls, V2
+save a b c --v2 --budget 7 => save a in b from c, 7 calls, V2
+save a b -- -old => save a in b from -old, 1000000 calls, V1";
+
+// Whether a line asks for such a task.
+fn asks(alloc: Global, line: &str, wanted: &str) -> Result<bool, Fail> {
     let words = words(alloc, line)?;
-    match &read_words(alloc, &words) {
-        Ok(found) => Ok(found == task),
-        Err(_) => Ok(false),
-    }
+    let found = match read_words(alloc, &words) {
+        Ok(task) => {
+            let text = told(alloc, &task);
+            drop(task);
+            text
+        }
+        Err(_) => Ok(String::new(alloc)),
+    };
+    drop(words);
+    Ok(found?.as_str() == wanted)
 }
 
-// A file's name, the budget and the version that a line asks for.
-type Wanted<'a> = (&'a str, u64, Version);
-
-// Whether a line asks to run that.
-fn asks_to_run(alloc: Global, line: &str, (name, budget, version): Wanted) -> Result<bool, Fail> {
-    let task = Task::Run(named(alloc, name)?, budget, version);
-    asks(alloc, line, &task)
+// Whether a row, a line and its task, holds.
+fn holds(alloc: Global, row: &str) -> Result<bool, Fail> {
+    match row.split_once(" => ") {
+        Some((line, wanted)) => asks(alloc, line, wanted),
+        None => Ok(false),
+    }
 }
 
 #[test]
-fn lines_of_run(rt: HostRuntime) -> Result<(), Fail> {
-    let rows = [
-        ("run -- -x", ("-x", 1_000_000, Version::V1)),
-        ("run --budget=5 a", ("a", 5, Version::V1)),
-        ("run a --budget 0005", ("a", 5, Version::V1)),
-        ("run a --budget 1000000", ("a", 1_000_000, Version::V1)),
-        ("run a --budget=0000000000000", ("a", 0, Version::V1)),
-        ("run a --", ("a", 1_000_000, Version::V1)),
-        ("run -- --", ("--", 1_000_000, Version::V1)),
-        ("run a --v2", ("a", 1_000_000, Version::V2)),
-        ("run --v2 --budget 7 -- --v2", ("--v2", 7, Version::V2)),
-        ("run -", ("-", 1_000_000, Version::V1)),
-    ];
-    for (line, wanted) in rows {
-        assert!(rt; asks_to_run(rt.alloc(), line, wanted)?, "{line}");
-    }
-    Ok(())
-}
-
-// Whether a line asks to evaluate that.
-fn asks_to_eval(alloc: Global, line: &str, (name, budget, version): Wanted) -> Result<bool, Fail> {
-    let task = Task::Eval(named(alloc, name)?, budget, version);
-    asks(alloc, line, &task)
-}
-
-#[test]
-fn lines_of_eval(rt: HostRuntime) -> Result<(), Fail> {
-    let rows = [
-        ("eval a", ("a", 1_000, Version::V1)),
-        ("eval --budget 10000 a", ("a", 10_000, Version::V1)),
-        ("eval --v2 a --budget=0", ("a", 0, Version::V2)),
-    ];
-    for (line, wanted) in rows {
-        assert!(rt; asks_to_eval(rt.alloc(), line, wanted)?, "{line}");
-    }
-    Ok(())
-}
-
-// Whether a line asks to check the file `a`.
-fn asks_to_check(alloc: Global, line: &str) -> Result<bool, Fail> {
-    let task = Task::Check(named(alloc, "a")?);
-    asks(alloc, line, &task)
-}
-
-// Whether a line asks to print the file `--v2`.
-fn asks_to_print(alloc: Global, line: &str) -> Result<bool, Fail> {
-    let task = Task::Print(named(alloc, "--v2")?);
-    asks(alloc, line, &task)
-}
-
-#[test]
-fn lines_of_check_and_print(rt: HostRuntime) -> Result<(), Fail> {
-    for line in ["check a", "check -- a", "check a --"] {
-        assert!(rt; asks_to_check(rt.alloc(), line)?, "{line}");
-    }
-    assert!(rt; asks_to_print(rt.alloc(), "print -- --v2")?);
-    Ok(())
-}
-
-// Whether a line asks to generate that.
-fn asks_to_gen(alloc: Global, line: &str, seed: u64, count: u64) -> Result<bool, Fail> {
-    asks(alloc, line, &Task::Gen(seed, count))
-}
-
-// Whether a line asks for frames of a version.
-fn asks_for_frames(alloc: Global, line: &str, version: Version) -> Result<bool, Fail> {
-    asks(alloc, line, &Task::Frames(version))
-}
-
-#[test]
-fn lines_without_a_file(rt: HostRuntime) -> Result<(), Fail> {
-    for line in ["text", "text --"] {
-        assert!(rt; asks(rt.alloc(), line, &Task::Text)?, "{line}");
-    }
-    let frames = [
-        ("text --frames", Version::V1),
-        ("text --v2 --frames", Version::V2),
-        ("text --frames --v2 --", Version::V2),
-    ];
-    for (line, version) in frames {
-        assert!(rt; asks_for_frames(rt.alloc(), line, version)?, "{line}");
-    }
-    let generated = [
-        ("gen 007 1", 7, 1),
-        ("gen 00999999 -- 10000000", 999_999, 10_000_000),
-        ("gen 0 0", 0, 0),
-    ];
-    for (line, seed, count) in generated {
-        assert!(rt; asks_to_gen(rt.alloc(), line, seed, count)?, "{line}");
-    }
-    Ok(())
-}
-
-// Whether a line asks to save the state of `a` in the file `b`, with that.
-fn asks_to_save(alloc: Global, line: &str, budget: u64, version: Version) -> Result<bool, Fail> {
-    let task = Task::Save(named(alloc, "a")?, named(alloc, "b")?, budget, version);
-    asks(alloc, line, &task)
-}
-
-// Whether a line asks to go on from such a state of `a`, and to save the state in the file `b`.
-fn asks_to_save_again(
-    alloc: Global,
-    line: &str,
-    (old, budget, version): Wanted,
-) -> Result<bool, Fail> {
-    let file = named(alloc, "a")?;
-    let state = named(alloc, "b")?;
-    let task = Task::SaveAgain(file, state, named(alloc, old)?, budget, version);
-    asks(alloc, line, &task)
-}
-
-#[test]
-fn lines_of_save(rt: HostRuntime) -> Result<(), Fail> {
-    let saved = [
-        ("save a b", 1_000_000, Version::V1),
-        ("save a --budget=7 b", 7, Version::V1),
-        ("save a b --v2", 1_000_000, Version::V2),
-    ];
-    for (line, budget, version) in saved {
-        assert!(rt; asks_to_save(rt.alloc(), line, budget, version)?, "{line}");
-    }
-    let again = [
-        ("save a b c", ("c", 1_000_000, Version::V1)),
-        ("save a b b", ("b", 1_000_000, Version::V1)),
-        ("save --v2 a b c", ("c", 1_000_000, Version::V2)),
-        ("save a --v2 b c", ("c", 1_000_000, Version::V2)),
-        ("save a b c --v2 --budget 7", ("c", 7, Version::V2)),
-        ("save a b -- -old", ("-old", 1_000_000, Version::V1)),
-    ];
-    for (line, wanted) in again {
-        assert!(rt; asks_to_save_again(rt.alloc(), line, wanted)?, "{line}");
+fn lines_ask_for_tasks(rt: HostRuntime) -> Result<(), Fail> {
+    for row in LINES.split('\n') {
+        assert!(rt; holds(rt.alloc(), row)?, "{row}");
     }
     Ok(())
 }
@@ -215,7 +148,15 @@ run a --help
 // Whether the words of a line ask for nothing.
 fn is_refused(alloc: Global, line: &str) -> Result<bool, Fail> {
     let words = words(alloc, line)?;
-    Ok(matches!(read_words(alloc, &words), Err(WordsFault::Usage)))
+    let refused = match read_words(alloc, &words) {
+        Ok(task) => {
+            drop(task);
+            false
+        }
+        Err(fault) => fault == WordsFault::Usage,
+    };
+    drop(words);
+    Ok(refused)
 }
 
 #[test]

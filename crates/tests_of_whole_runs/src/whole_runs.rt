@@ -1,12 +1,12 @@
 //! Whole runs over a shelf, a link and a sink in memory.
 
-use crate::outside::{are_written, outcome_on, pieces, shelf_of, words};
+use crate::outside::{Row, answers, are_written, runs_on};
 use delta_code::Coded;
 use delta_runner::{Begins, Runner};
 use delta_state::Machine;
 use delta_step::Tree;
 use learned_runner::Learner;
-use port::{MemLink, MemSink};
+use port::MemLink;
 use std::alloc::Global;
 use std::test::Fail;
 
@@ -36,69 +36,19 @@ const LEFT_THEN_RIGHT: &[u8] = b"DEV1\x01\x01\x11\0\0\0\0\0\0\0\x01\x01\x02\x11\
 
 const RIGHT_THEN_LEFT: &[u8] = b"DEV1\x01\x02\x11\0\0\0\0\0\0\0\x02\x01\x01\x11\0\0\0\0\0\0\0\x01";
 
-/// What a run is given, and what it must write and answer.
-#[derive(Clone, Copy)]
-struct Row {
-    /// The words, parted by spaces.
-    words: &'static str,
-    /// The text of the file `program`.
-    text: &'static [u8],
-    /// The input, and the size of its pieces.
-    input: &'static [u8],
-    piece: usize,
-    /// The calls that fail, by their numbers from 0.
-    fail_reads: &'static [u64],
-    fail_writes: &'static [u64],
-    fail_notes: &'static [u64],
-    /// How many bytes one write takes at most.
-    most: u64,
-    output: &'static [u8],
-    note: &'static [u8],
-    status: u8,
-}
-
 const ROW: Row = Row {
     words: "run program",
     text: ONE,
     input: SEVEN,
-    piece: 4096,
-    fail_reads: &[],
-    fail_writes: &[],
-    fail_notes: &[],
-    most: 4096,
     output: b"DEV1",
-    note: b"",
+    note: "",
     status: 0,
 };
 
-// The link of a row.
-fn link_of(alloc: Global, row: &Row) -> Result<MemLink, Fail> {
-    let pieces = pieces(alloc, row.input, row.piece)?;
-    let fail_reads = row.fail_reads.to_vec(alloc)?;
-    let fail_writes = row.fail_writes.to_vec(alloc)?;
-    Ok(MemLink::new(alloc, pieces, fail_reads, fail_writes, row.most.max(1)))
-}
-
-// Whether a row's run writes and answers what it must, on the compiled machine and on the plain one.
-fn holds(alloc: Global, row: &Row) -> Result<bool, Fail> {
-    Ok(holds_on::<Learner, Coded>(alloc, row)? && holds_on::<Runner<Tree>, Tree>(alloc, row)?)
-}
-
-// The same on one machine.
-fn holds_on<B: Begins, M: Machine>(alloc: Global, row: &Row) -> Result<bool, Fail> {
-    let given = words(alloc, row.words)?;
-    let mut shelf = shelf_of(alloc, row.text)?;
-    let mut link = link_of(alloc, row)?;
-    let mut notes = MemSink::new(alloc, row.fail_notes.to_vec(alloc)?);
-    let status = outcome_on::<B, M>(alloc, &given, &mut shelf, &mut link, &mut notes);
-    let told = notes.bytes() == row.note && status == row.status;
-    Ok(are_written(alloc, &link, row.output)? && told)
-}
-
-// The number of rows before the first that doesn't hold, or none.
+// The number of rows before the first that is answered otherwise, or none.
 fn first_wrong(alloc: Global, rows: &[Row]) -> Result<Option<usize>, Fail> {
     for k in 0..rows.len() {
-        if !holds(alloc, &rows[k])? {
+        if !answers(alloc, &rows[k])? {
             return Ok(Some(k));
         }
     }
@@ -151,36 +101,21 @@ const RUNS: &[Row] = &[
     },
     Row {
         input: b"DEV2",
-        note: b"delta: input open\n",
+        note: "delta: input open\n",
         status: 6,
         ..ROW
     },
     Row {
         input: b"DEV1",
-        note: b"delta: input open\n",
+        note: "delta: input open\n",
         status: 6,
         ..ROW
     },
 ];
 
-// The same in pieces and writes of one byte.
-fn byte_by_byte(alloc: Global, rows: &[Row]) -> Result<bool, Fail> {
-    let mut all = true;
-    for row in rows {
-        let bytewise = Row {
-            piece: 1,
-            most: 1,
-            ..*row
-        };
-        all = all && holds(alloc, &bytewise)?;
-    }
-    Ok(all)
-}
-
 #[test]
 fn programs_run(rt: HostRuntime) -> Result<(), Fail> {
     assert_eq!(rt; first_wrong(rt.alloc(), RUNS)?, None);
-    assert!(rt; byte_by_byte(rt.alloc(), RUNS)?);
     Ok(())
 }
 
@@ -189,43 +124,43 @@ const REFUSED: Row = Row { status: 4, ..ROW };
 const REFUSALS: &[Row] = &[
     Row {
         input: b"",
-        note: b"delta: input refused: Truncated at 0\n",
+        note: "delta: input refused: Truncated at 0\n",
         ..REFUSED
     },
     Row {
         input: b"DEV1\0\x11\0\0\0\0\0\0\0",
-        note: b"delta: input refused: Truncated at 13\n",
+        note: "delta: input refused: Truncated at 13\n",
         ..REFUSED
     },
     Row {
         input: b"DEV1\x01\x01\x11\0\0\0\0\0\0\0\x07",
-        note: b"delta: input refused: WrongStep at 4\n",
+        note: "delta: input refused: WrongStep at 4\n",
         ..REFUSED
     },
     Row {
         input: b"DEV1\0\x11\0\0\0\0\0\0\0\x07\0\x11\0\0\0\0\0\0\0\x07",
         output: SEVEN,
-        note: b"delta: input refused: Ended at 14\n",
+        note: "delta: input refused: Ended at 14\n",
         ..REFUSED
     },
     Row {
         input: b"DEV3",
-        note: b"delta: input refused: BadMagic at 3\n",
+        note: "delta: input refused: BadMagic at 3\n",
         ..REFUSED
     },
     Row {
         input: b"DEV1\x20",
-        note: b"delta: input refused: LongPath at 4\n",
+        note: "delta: input refused: LongPath at 4\n",
         ..REFUSED
     },
     Row {
         input: b"DEV1\x01\x07",
-        note: b"delta: input refused: BadStep at 5\n",
+        note: "delta: input refused: BadStep at 5\n",
         ..REFUSED
     },
     Row {
         input: b"DEV1\0\x20",
-        note: b"delta: input refused: BadLeaf at 5\n",
+        note: "delta: input refused: BadLeaf at 5\n",
         ..REFUSED
     },
 ];
@@ -239,7 +174,7 @@ fn inputs_are_refused(rt: HostRuntime) -> Result<(), Fail> {
 const NONE: Row = Row { output: b"", ..ROW };
 
 const USAGE: Row = Row {
-    note: b"delta: usage\n",
+    note: "delta: usage\n",
     status: 2,
     ..NONE
 };
@@ -264,56 +199,15 @@ const FAULTS: &[Row] = &[
     },
     Row {
         words: "run gone",
-        note: b"delta: outside fault: file\n",
+        note: "delta: outside fault: file\n",
         status: 7,
         ..NONE
     },
     Row {
         text: b"main(x : Int, y : 1) : Int || Int = (y, x)\n",
-        note: b"delta: program refused: Mismatch at 37\n",
+        note: "delta: program refused: Mismatch at 37\n",
         status: 3,
         ..NONE
-    },
-    Row {
-        piece: 7,
-        fail_reads: &[1],
-        note: b"delta: outside fault: input\n",
-        status: 7,
-        ..ROW
-    },
-    Row {
-        most: 4,
-        fail_writes: &[2],
-        output: b"DEV1\0\x11\0\0",
-        note: b"delta: outside fault: output\n",
-        status: 7,
-        ..ROW
-    },
-    Row {
-        text: DOUBLE,
-        input: THREE,
-        piece: 17,
-        fail_reads: &[1],
-        output: b"DEV1\0\x15\x01\x03\x11\0\0\0\0\0\0\0\x06\0\x14",
-        note: b"delta: outside fault: input\n",
-        status: 7,
-        ..ROW
-    },
-    Row {
-        text: DOUBLE,
-        input: THREE,
-        most: 4,
-        fail_writes: &[2],
-        output: b"DEV1\0\x15\x01\x03",
-        note: b"delta: outside fault: output\n",
-        status: 7,
-        ..ROW
-    },
-    Row {
-        input: b"DEV1",
-        fail_notes: &[0],
-        status: 7,
-        ..ROW
     },
 ];
 
@@ -323,35 +217,139 @@ fn faults_are_told(rt: HostRuntime) -> Result<(), Fail> {
     Ok(())
 }
 
-// The frames of a number to be doubled, in pieces of 6, 11 and 4 bytes.
-const PIECES: &[&[u8]] = &[
-    b"DEV1\0\x15",
-    b"\x01\x03\x11\0\0\0\0\0\0\0\x03",
-    b"\0\x14\0\x16",
+// A run with calls that fail, by their numbers from 0, and the note and the status of that.
+#[derive(Clone, Copy)]
+struct Failing {
+    words: &'static str,
+    text: &'static [u8],
+    /// The pieces of the input.
+    pieces: &'static [&'static [u8]],
+    /// How many bytes one write takes at most.
+    most: u64,
+    fail_reads: &'static [u64],
+    fail_writes: &'static [u64],
+    fail_notes: &'static [u64],
+    output: &'static [u8],
+    note: &'static str,
+}
+
+const FAILING: Failing = Failing {
+    words: "run program",
+    text: ONE,
+    pieces: &[SEVEN],
+    most: 4096,
+    fail_reads: &[],
+    fail_writes: &[],
+    fail_notes: &[],
+    output: b"DEV1",
+    note: "",
+};
+
+const FAILINGS: &[Failing] = &[
+    Failing {
+        pieces: &[b"DEV1\0\x11\0", b"\0\0\0\0\0\0\x07"],
+        fail_reads: &[1],
+        note: INPUT_FAULT,
+        ..FAILING
+    },
+    Failing {
+        most: 4,
+        fail_writes: &[2],
+        output: b"DEV1\0\x11\0\0",
+        note: OUTPUT_FAULT,
+        ..FAILING
+    },
+    Failing {
+        text: DOUBLE,
+        pieces: &[TO_NUMBER, b"\0\x14\0\x16"],
+        fail_reads: &[1],
+        output: SIX_UNENDED,
+        note: INPUT_FAULT,
+        ..FAILING
+    },
+    // What is due for the first two pieces is written before the third, which can't be read.
+    Failing {
+        text: DOUBLE,
+        pieces: &[
+            b"DEV1\0\x15",
+            b"\x01\x03\x11\0\0\0\0\0\0\0\x03",
+            b"\0\x14\0\x16",
+        ],
+        fail_reads: &[2],
+        output: SIX_UNENDED,
+        note: INPUT_FAULT,
+        ..FAILING
+    },
+    Failing {
+        text: DOUBLE,
+        pieces: &[THREE],
+        most: 4,
+        fail_writes: &[2],
+        output: b"DEV1\0\x15\x01\x03",
+        note: OUTPUT_FAULT,
+        ..FAILING
+    },
+    Failing {
+        pieces: &[b"DEV1"],
+        fail_notes: &[0],
+        ..FAILING
+    },
+    Failing {
+        words: "eval program",
+        text: DOUBLE,
+        pieces: &[THREE],
+        most: 2,
+        fail_writes: &[1],
+        output: b"DE",
+        note: OUTPUT_FAULT,
+        ..FAILING
+    },
 ];
 
-// Whether what is due for the first two pieces is written, and the fault told, where the third can't be read, on one
-// machine.
-fn third_read_fails<B: Begins, M: Machine>(alloc: Global) -> Result<bool, Fail> {
+const INPUT_FAULT: &str = "delta: outside fault: input\n";
+
+const OUTPUT_FAULT: &str = "delta: outside fault: output\n";
+
+// The bytes of the frames of a number to be doubled up to its own, and what is due for these.
+const TO_NUMBER: &[u8] = b"DEV1\0\x15\x01\x03\x11\0\0\0\0\0\0\0\x03";
+
+const SIX_UNENDED: &[u8] = b"DEV1\0\x15\x01\x03\x11\0\0\0\0\0\0\0\x06\0\x14";
+
+// The link of a failing run.
+fn link_of(alloc: Global, row: &Failing) -> Result<MemLink, Fail> {
+    let fail_reads = row.fail_reads.to_vec(alloc)?;
+    let fail_writes = row.fail_writes.to_vec(alloc)?;
     let mut pieces = Vec::new(alloc);
-    for piece in PIECES {
+    for piece in row.pieces {
         pieces.push(piece.to_vec(alloc)?)?;
     }
-    let given = words(alloc, "run program")?;
-    let mut shelf = shelf_of(alloc, DOUBLE)?;
-    let fail_reads = [2].to_vec(alloc)?;
-    let mut link = MemLink::new(alloc, pieces, fail_reads, Vec::new(alloc), 4096);
-    let mut notes = MemSink::new(alloc, Vec::new(alloc));
-    let status = outcome_on::<B, M>(alloc, &given, &mut shelf, &mut link, &mut notes);
-    let told = status == 7 && notes.bytes() == b"delta: outside fault: input\n".as_slice();
-    let due = b"DEV1\0\x15\x01\x03\x11\0\0\0\0\0\0\0\x06\0\x14";
-    Ok(are_written(alloc, &link, due)? && told)
+    Ok(MemLink::new(alloc, pieces, fail_reads, fail_writes, row.most.max(1)))
+}
+
+// Whether a failing run writes and answers what it must, on one machine.
+fn fails_on<B: Begins, M: Machine>(alloc: Global, row: &Failing) -> Result<bool, Fail> {
+    let mut link = link_of(alloc, row)?;
+    let end = (row.note, 7);
+    let told = runs_on::<B, M>(alloc, row.words, row.text, &mut link, row.fail_notes, end);
+    let said = are_written(&link, row.output);
+    drop(link);
+    Ok(told? && said)
 }
 
 #[test]
-fn what_is_due_is_written_before_a_failed_read(rt: HostRuntime) -> Result<(), Fail> {
-    assert!(rt; third_read_fails::<Learner, Coded>(rt.alloc())?);
-    assert!(rt; third_read_fails::<Runner<Tree>, Tree>(rt.alloc())?);
+fn failed_calls_are_told(rt: HostRuntime) -> Result<(), Fail> {
+    for row in FAILINGS {
+        assert!(rt;
+            fails_on::<Learner, Coded>(rt.alloc(), row)?,
+            "{}",
+            row.words
+        );
+        assert!(rt;
+            fails_on::<Runner<Tree>, Tree>(rt.alloc(), row)?,
+            "{}",
+            row.words
+        );
+    }
     Ok(())
 }
 
@@ -385,21 +383,21 @@ const LONG_FRAMES: &[Row] = &[
     Row {
         text: IN_TURN,
         input: b"DEV2\x01\xc1",
-        note: b"delta: input refused: BadStep at 5\n",
+        note: "delta: input refused: BadStep at 5\n",
         status: 4,
         ..ROW
     },
     Row {
         text: IN_TURN,
         input: b"DEV2\x01\0",
-        note: b"delta: input refused: BadStep at 5\n",
+        note: "delta: input refused: BadStep at 5\n",
         status: 4,
         ..ROW
     },
     Row {
         text: IN_TURN,
         input: b"DEV2\x40",
-        note: b"delta: input refused: LongPath at 4\n",
+        note: "delta: input refused: LongPath at 4\n",
         status: 4,
         ..ROW
     },
@@ -421,7 +419,7 @@ const LINES: &[Row] = &[
     Row {
         words: "text --frames",
         input: b"LLLLLLLLLLLLLLLLLLLLLLLLLLLLLLLLLLLLLLLLLLLLLLLLLLLLLLLLLLLLLLLLLLLLLLLLLLLLLLLLLLLLLLLLLLLLLLLLLLLLLLLLLLLLLLLLLLLLLLLLLLLLLLLLLLLLLLLLLLLLLLLLLLLLLLLLLLLLLLLLLLLLLLLLLLLLLLLLLLLLLLLLLLLLLLLLLLLLLLLLLLLLLLLLLLLLLLLLLLLLLLLLLLLLLLLLLLLLLLLLLLLLLLLLLLLLLLLLL\n",
-        note: b"delta: input refused: LongLine at 0\n",
+        note: "delta: input refused: LongLine at 0\n",
         status: 4,
         ..ROW
     },
@@ -429,7 +427,7 @@ const LINES: &[Row] = &[
         words: "text --frames",
         input: b"end\ncat",
         output: b"DEV1\0\x16",
-        note: b"delta: input refused: BadWord at 4\n",
+        note: "delta: input refused: BadWord at 4\n",
         status: 4,
         ..ROW
     },
@@ -460,14 +458,9 @@ const FRAMES: &[Row] = &[
         words: "text",
         input: b"DEV1\0\x15\0",
         output: b"item\n",
-        note: b"delta: input refused: Truncated at 7\n",
+        note: "delta: input refused: Truncated at 7\n",
         status: 4,
         ..ROW
-    },
-    Row {
-        piece: 1,
-        most: 1,
-        ..TWO_LINES
     },
 ];
 
@@ -496,19 +489,19 @@ const CHECKS: &[Row] = &[
     },
     Row {
         text: b"main(x : Int, y : Int) : Int . Int = (x; y)",
-        note: b"delta: program refused: OutOfOrder at 37\n",
+        note: "delta: program refused: OutOfOrder at 37\n",
         status: 3,
         ..FINE
     },
     Row {
         text: b"main(x : Int) : Int = twice(x)",
-        note: b"delta: program refused: NoFunction at 22\n",
+        note: "delta: program refused: NoFunction at 22\n",
         status: 3,
         ..FINE
     },
     Row {
         text: b"fun twice(xs : Int*) : Int* = case xs of { nil => nil | y :: ys => wait y in ({y * 2} :: twice(ys)) }\nmain(xs : Int*) : Int* = twice(zs)",
-        note: b"delta: program refused: Unbound at 133\n",
+        note: "delta: program refused: Unbound at 133\n",
         status: 3,
         ..FINE
     },
@@ -531,7 +524,6 @@ const PRINTS: &[Row] = &[
 #[test]
 fn texts_are_printed(rt: HostRuntime) -> Result<(), Fail> {
     assert_eq!(rt; first_wrong(rt.alloc(), PRINTS)?, None);
-    assert!(rt; byte_by_byte(rt.alloc(), PRINTS)?);
     Ok(())
 }
 
@@ -545,8 +537,6 @@ const DOUBLED: Row = Row {
     words: "eval program",
     text: DOUBLE,
     input: THREE,
-    piece: 3,
-    most: 2,
     output: SIX,
     ..ROW
 };
@@ -560,7 +550,7 @@ const MEANINGS: &[Row] = &[
     Row {
         words: "eval --budget=1 program",
         output: b"",
-        note: b"delta: stopped: Budget at 0\n",
+        note: "delta: stopped: Budget at 0\n",
         status: 5,
         ..DOUBLED
     },
@@ -574,15 +564,8 @@ const MEANINGS: &[Row] = &[
     Row {
         input: CUT,
         output: b"",
-        note: b"delta: input refused: Truncated at 16\n",
+        note: "delta: input refused: Truncated at 16\n",
         status: 4,
-        ..DOUBLED
-    },
-    Row {
-        fail_writes: &[1],
-        output: b"DE",
-        note: b"delta: outside fault: output\n",
-        status: 7,
         ..DOUBLED
     },
 ];
@@ -606,14 +589,14 @@ const WIDE_OUTPUTS: &[Row] = &[
     Row {
         words: "eval program",
         output: b"",
-        note: b"delta: program refused: WideOutput at 53\n",
+        note: "delta: program refused: WideOutput at 53\n",
         status: 3,
         ..WIDE
     },
     Row {
         text: b"type A = Int****************************************\nmain() : A************************ = nil",
         output: b"",
-        note: b"delta: program refused: TooTall at 62\n",
+        note: "delta: program refused: TooTall at 62\n",
         status: 3,
         ..WIDE
     },
@@ -621,7 +604,7 @@ const WIDE_OUTPUTS: &[Row] = &[
         words: "eval program",
         text: b"main() : Int******************************** = nil",
         output: b"",
-        note: b"delta: program refused: WideOutput at 0\n",
+        note: "delta: program refused: WideOutput at 0\n",
         status: 3,
         ..WIDE
     },
@@ -632,7 +615,7 @@ const WIDE_OUTPUTS: &[Row] = &[
     Row {
         words: "run program",
         output: b"",
-        note: b"delta: program refused: WideOutput at 53\n",
+        note: "delta: program refused: WideOutput at 53\n",
         status: 3,
         ..WIDE
     },

@@ -1,7 +1,7 @@
 //! The programs of the tour in README, each on its feed: the lines become frames, the program runs on these, and its
 //! frames become lines again. `tools/tour` holds the texts here to the files of `examples/` and to README.
 
-use crate::outside::run;
+use crate::outside::is_done;
 use std::alloc::Global;
 use std::test::Fail;
 
@@ -146,11 +146,19 @@ const TOUR: &[Example] = &[
 // Whether the frames of the feed are answered by the frames of the answer, with each of the three commands done.
 fn is_answered(alloc: Global, example: &Example) -> Result<bool, Fail> {
     let text = example.text.as_bytes();
-    let (framed, frames) = run(alloc, "text --frames", text, example.feed.as_bytes())?;
-    let (ran, output) = run(alloc, "run program", text, &frames)?;
-    let (told, lines) = run(alloc, "text", text, &output)?;
-    let all_done = framed == 0 && ran == 0 && told == 0;
-    Ok(all_done && lines.as_slice() == example.answer.as_bytes())
+    let mut frames = Vec::new(alloc);
+    let mut output = Vec::new(alloc);
+    let mut lines = Vec::new(alloc);
+    let framed = is_done(
+        alloc,
+        "text --frames",
+        text,
+        example.feed.as_bytes(),
+        &mut frames,
+    )?;
+    let ran = is_done(alloc, "run program", text, &frames, &mut output)?;
+    let told = is_done(alloc, "text", text, &output, &mut lines)?;
+    Ok(framed && ran && told && lines.as_slice() == example.answer.as_bytes())
 }
 
 // The number of examples before the first that is answered otherwise, or none.

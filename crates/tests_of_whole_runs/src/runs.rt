@@ -1,12 +1,12 @@
 //! Programs run event by event. Inputs and outputs are event lines; each output was worked out by hand.
 
-use crate::outside::{frames_of, link, outcome_on, shelf_of, words, written};
+use crate::outside::{self, answers, answers_whole, frames_of, link, runs_on};
 use delta_code::Coded;
 use delta_runner::{Begins, Runner};
 use delta_state::Machine;
 use delta_step::Tree;
 use learned_runner::Learner;
-use port::{MemLink, MemSink, Move};
+use port::{MemLink, Move};
 use std::alloc::Global;
 use std::test::Fail;
 
@@ -91,6 +91,14 @@ const DEEP_ARGUMENTS: &str = "fun same(x : Int) : Int = x
 fun nest{n : Int}(x : Int) : Int = if n < 1 then x else same(nest{n - 1}(x))
 main(x : Int) : Int = nest{1000}(x)";
 
+// A nest of calls, each behind a let and four destructurings, which all wait for y. Its state nests too deep to be saved.
+const HELD_NEST: &str = "type Five = (((Int || Int) || Int) || Int) || Int
+fun five(y : Int) : Five = wait y in {((((y, y), y), y), y)}
+fun nest{n : Int}(y : Int) : Int =
+  if n < 1 then y
+  else let u = five(y) in let (a, b) = u in let (c, d) = a in let (e, f) = c in let (g, h) = e in nest{n - 1}(g)
+main(x : Int; y : Int) : Int = wait x in nest{x}(y)";
+
 const AFTER_NOTHING: &str = "main(x : eps; y : Int) : Int = y";
 
 const THREE: &str = "item\nF int 3\ncut\nend\n";
@@ -129,32 +137,33 @@ fn due(alloc: Global, row: &Row) -> Result<Vec<u8>, Fail> {
     }
 }
 
-// Whether a row's run, on pieces of such a size, writes and answers what it must, on the compiled machine and on the
-// plain one.
-fn holds(alloc: Global, row: &Row, piece: usize) -> Result<bool, Fail> {
-    Ok(
-        holds_on::<Learner, Coded>(alloc, row, piece)?
-            && holds_on::<Runner<Tree>, Tree>(alloc, row, piece)?,
-    )
-}
-
-// The same on one machine.
-fn holds_on<B: Begins, M: Machine>(alloc: Global, row: &Row, piece: usize) -> Result<bool, Fail> {
-    let given = words(alloc, row.words)?;
+// Whether a row's run writes and answers what it must: whole on the compiled machine alone, or in pieces of several sizes
+// on the plain one too. That one goes deeper at each call.
+fn holds(alloc: Global, row: &Row, has_many_calls: bool) -> Result<bool, Fail> {
     let frames = frames_of(alloc, row.input)?;
-    let mut shelf = shelf_of(alloc, row.text.as_bytes())?;
-    let mut link = link(alloc, &frames, piece, 4096)?;
-    let mut notes = MemSink::new(alloc, Vec::new(alloc));
-    let status = outcome_on::<B, M>(alloc, &given, &mut shelf, &mut link, &mut notes);
-    let told = notes.bytes() == row.note.as_bytes() && status == row.status;
-    let bytes = written(alloc, &link)?;
-    Ok(told && bytes.as_slice() == due(alloc, row)?.as_slice())
+    let output = due(alloc, row)?;
+    let made = outside::Row {
+        words: row.words,
+        text: row.text.as_bytes(),
+        input: &frames,
+        output: &output,
+        note: row.note,
+        status: row.status,
+    };
+    let found = if has_many_calls {
+        answers_whole(alloc, &made)
+    } else {
+        answers(alloc, &made)
+    };
+    drop(output);
+    drop(frames);
+    found
 }
 
-// The number of rows before the first that doesn't hold, in one piece or byte by byte, or none.
-fn first_wrong(alloc: Global, rows: &[Row]) -> Result<Option<usize>, Fail> {
+// The number of rows before the first that doesn't hold, or none.
+fn first_wrong(alloc: Global, rows: &[Row], has_many_calls: bool) -> Result<Option<usize>, Fail> {
     for k in 0..rows.len() {
-        if !(holds(alloc, &rows[k], 4096)? && holds(alloc, &rows[k], 1)?) {
+        if !holds(alloc, &rows[k], has_many_calls)? {
             return Ok(Some(k));
         }
     }
@@ -245,7 +254,7 @@ const EVENT_BY_EVENT: &[Row] = &[
 
 #[test]
 fn programs_answer_events(rt: HostRuntime) -> Result<(), Fail> {
-    assert_eq!(rt; first_wrong(rt.alloc(), EVENT_BY_EVENT)?, None);
+    assert_eq!(rt; first_wrong(rt.alloc(), EVENT_BY_EVENT, false)?, None);
     Ok(())
 }
 
@@ -312,7 +321,7 @@ const FEEDS: &[Row] = &[
 
 #[test]
 fn programs_run_over_feeds(rt: HostRuntime) -> Result<(), Fail> {
-    assert_eq!(rt; first_wrong(rt.alloc(), FEEDS)?, None);
+    assert_eq!(rt; first_wrong(rt.alloc(), FEEDS, false)?, None);
     Ok(())
 }
 
@@ -372,19 +381,8 @@ const BUDGETS: &[Row] = &[
 
 #[test]
 fn budgets_are_renewed(rt: HostRuntime) -> Result<(), Fail> {
-    assert_eq!(rt; first_wrong(rt.alloc(), BUDGETS)?, None);
+    assert_eq!(rt; first_wrong(rt.alloc(), BUDGETS, false)?, None);
     Ok(())
-}
-
-// The number of rows before the first that doesn't hold on the compiled machine, or none. The plain one goes deeper at
-// each call, and these make many.
-fn first_wrong_of_compiled(alloc: Global, rows: &[Row]) -> Result<Option<usize>, Fail> {
-    for k in 0..rows.len() {
-        if !holds_on::<Learner, Coded>(alloc, &rows[k], 4096)? {
-            return Ok(Some(k));
-        }
-    }
-    Ok(None)
 }
 
 const MANY_CALLS: &[Row] = &[
@@ -410,7 +408,7 @@ const MANY_CALLS: &[Row] = &[
 
 #[test]
 fn many_calls_at_one_level_are_one_event(rt: HostRuntime) -> Result<(), Fail> {
-    assert_eq!(rt; first_wrong_of_compiled(rt.alloc(), MANY_CALLS)?, None);
+    assert_eq!(rt; first_wrong(rt.alloc(), MANY_CALLS, true)?, None);
     Ok(())
 }
 
@@ -440,6 +438,12 @@ const NESTS: &[Row] = &[
         ..ROW
     },
     Row {
+        text: HELD_NEST,
+        input: "F int 900\ncut\nint 5\n",
+        output: Some("int 5\n"),
+        ..ROW
+    },
+    Row {
         text: TOO_DEEP,
         input: "int 4\n",
         note: "delta: stopped: Deep at 0\n",
@@ -449,7 +453,7 @@ const NESTS: &[Row] = &[
 
 #[test]
 fn a_nest_has_a_thousand_levels(rt: HostRuntime) -> Result<(), Fail> {
-    assert_eq!(rt; first_wrong_of_compiled(rt.alloc(), NESTS)?, None);
+    assert_eq!(rt; first_wrong(rt.alloc(), NESTS, true)?, None);
     Ok(())
 }
 
@@ -504,7 +508,7 @@ const ENDS: &[Row] = &[
 
 #[test]
 fn inputs_end_early_or_wrongly(rt: HostRuntime) -> Result<(), Fail> {
-    assert_eq!(rt; first_wrong(rt.alloc(), ENDS)?, None);
+    assert_eq!(rt; first_wrong(rt.alloc(), ENDS, false)?, None);
     Ok(())
 }
 
@@ -544,7 +548,7 @@ const REFUSALS: &[Row] = &[
 
 #[test]
 fn texts_are_refused(rt: HostRuntime) -> Result<(), Fail> {
-    assert_eq!(rt; first_wrong(rt.alloc(), REFUSALS)?, None);
+    assert_eq!(rt; first_wrong(rt.alloc(), REFUSALS, false)?, None);
     Ok(())
 }
 
@@ -574,6 +578,15 @@ fn pieces_of(alloc: Global, turns: &[(&str, &str)]) -> Result<Vec<Vec<u8>>, Fail
     Ok(pieces)
 }
 
+// Whether these bytes are what is due before the read with this number.
+fn is_due(alloc: Global, turns: &[(&str, &str)], reads: usize, bytes: &[u8]) -> Result<bool, Fail> {
+    let lines = lines_before(alloc, turns, reads)?;
+    let frames = frames_of(alloc, &lines);
+    drop(lines);
+    let frames = frames?;
+    Ok(frames.as_slice() == bytes)
+}
+
 // Whether all that is due for what was read was written before each further read.
 fn is_prompt(alloc: Global, turns: &[(&str, &str)], link: &MemLink) -> Result<bool, Fail> {
     let mut bytes: Vec<u8> = Vec::new(alloc);
@@ -583,11 +596,7 @@ fn is_prompt(alloc: Global, turns: &[(&str, &str)], link: &MemLink) -> Result<bo
         match step {
             Move::Out(piece) => bytes.extend_from_slice(piece.as_slice())?,
             Move::In(_) => {
-                if reads > 0 {
-                    let lines = lines_before(alloc, turns, reads - 1)?;
-                    let frames = frames_of(alloc, &lines)?;
-                    all = all && bytes.as_slice() == frames.as_slice();
-                }
+                all = all && (reads == 0 || is_due(alloc, turns, reads - 1, &bytes)?);
                 reads = reads.saturating_add(1);
             }
         }
@@ -596,26 +605,24 @@ fn is_prompt(alloc: Global, turns: &[(&str, &str)], link: &MemLink) -> Result<bo
 }
 
 // Whether a program over a feed that is held open answers each turn's lines by those beside them, on one machine.
-fn answers_on<B: Begins, M: Machine>(
+fn talks_on<B: Begins, M: Machine>(
     alloc: Global,
     text: &str,
     turns: &[(&str, &str)],
 ) -> Result<bool, Fail> {
-    let given = words(alloc, "run program")?;
-    let mut shelf = shelf_of(alloc, text.as_bytes())?;
     let pieces = pieces_of(alloc, turns)?;
     let mut link = MemLink::new(alloc, pieces, Vec::new(alloc), Vec::new(alloc), 4096);
-    let mut notes = MemSink::new(alloc, Vec::new(alloc));
-    let _status = outcome_on::<B, M>(alloc, &given, &mut shelf, &mut link, &mut notes);
-    is_prompt(alloc, turns, &link)
-}
-
-// The same on both machines.
-fn answers(alloc: Global, text: &str, turns: &[(&str, &str)]) -> Result<bool, Fail> {
-    Ok(
-        answers_on::<Learner, Coded>(alloc, text, turns)?
-            && answers_on::<Runner<Tree>, Tree>(alloc, text, turns)?,
-    )
+    let _done = runs_on::<B, M>(
+        alloc,
+        "run program",
+        text.as_bytes(),
+        &mut link,
+        &[],
+        ("", 0),
+    )?;
+    let prompt = is_prompt(alloc, turns, &link);
+    drop(link);
+    prompt
 }
 
 // A program, and what it puts out at each turn: before any event first, then for the lines that come next.
@@ -745,7 +752,9 @@ const FEED_TURNS: &[Talk] = &[
 fn first_other(alloc: Global, talks: &[Talk]) -> Result<Option<usize>, Fail> {
     for k in 0..talks.len() {
         let (text, turns) = talks[k];
-        if !answers(alloc, text, turns)? {
+        if !talks_on::<Learner, Coded>(alloc, text, turns)?
+            || !talks_on::<Runner<Tree>, Tree>(alloc, text, turns)?
+        {
             return Ok(Some(k));
         }
     }
@@ -760,24 +769,38 @@ fn each_event_is_answered_before_the_next(rt: HostRuntime) -> Result<(), Fail> {
     Ok(())
 }
 
-// Whether a run that is stopped before any event reads nothing.
-fn reads_nothing(alloc: Global, line: &str, text: &str) -> Result<bool, Fail> {
-    let given = words(alloc, line)?;
-    let mut shelf = shelf_of(alloc, text.as_bytes())?;
+// Whether a run that is stopped before any event, and told so, reads nothing.
+fn reads_nothing(alloc: Global, line: &str, text: &str, note: &str) -> Result<bool, Fail> {
     let mut link = link(alloc, b"DEV1", 4096, 4096)?;
-    let mut notes = MemSink::new(alloc, Vec::new(alloc));
-    let status = outcome_on::<Learner, Coded>(alloc, &given, &mut shelf, &mut link, &mut notes);
-    let mut none = status == 5;
+    let end = (note, 5);
+    let told = runs_on::<Learner, Coded>(alloc, line, text.as_bytes(), &mut link, &[], end);
+    let mut none = true;
     for step in link.log() {
         none = none && matches!(step, Move::Out(_));
     }
-    Ok(none)
+    drop(link);
+    Ok(told? && none)
 }
+
+// Runs that are stopped before any event: their words, programs and notes.
+const STOPPED_FIRST: &[(&str, &str, &str)] = &[
+    (
+        "run program --budget 3",
+        LOOP,
+        "delta: stopped: Budget at 0\n",
+    ),
+    (
+        "run program --budget 0",
+        DOUBLE,
+        "delta: stopped: Budget at 0\n",
+    ),
+    ("run program", TOO_DEEP, "delta: stopped: Deep at 0\n"),
+];
 
 #[test]
 fn a_stop_before_any_event_reads_nothing(rt: HostRuntime) -> Result<(), Fail> {
-    assert!(rt; reads_nothing(rt.alloc(), "run program --budget 3", LOOP)?);
-    assert!(rt; reads_nothing(rt.alloc(), "run program --budget 0", DOUBLE)?);
-    assert!(rt; reads_nothing(rt.alloc(), "run program", TOO_DEEP)?);
+    for (line, text, note) in STOPPED_FIRST {
+        assert!(rt; reads_nothing(rt.alloc(), line, text, note)?, "{text}");
+    }
     Ok(())
 }
