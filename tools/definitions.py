@@ -589,7 +589,10 @@ def is_of_kit(crate):
 @cache
 def specs_of(crate, path):
     """The file of definitions of a module."""
-    return Specs(crate, TOP / "crates" / crate / "specs" / ("/".join(path) + ".antt"))
+    place = TOP / "crates" / crate / "specs" / ("/".join(path) + ".antt")
+    if not place.exists():
+        raise Unread(f"there is no {place.relative_to(TOP)}")
+    return Specs(crate, place)
 
 
 @cache
