@@ -7,8 +7,8 @@ TOKEN = re.compile(
     r'\s+|--[^\n]*|(?P<text>"(?:\\.|[^"\\])*")|«(?P<escaped>[^»]*)»|(?P<word>[(){}.;,@]|[^\s(){}.;,@"«»]+)'
 )
 RESERVED = set(
-    "data record deriving module where use mod pub package open as unfoldable abbrev axiom unfold unfolding ruleset mutual"
-    " infix infixl infixr elim let in do λ ∀ Type 𝕀 𝔽 coe fcoe tcoe hcom com ∨ ∧".split()
+    "data record deriving module where use mod pub package open as unfoldable abbrev axiom unfold unfolding ruleset"
+    " mutual infix infixl infixr elim let in do λ ∀ Type 𝕀 𝔽 coe fcoe tcoe hcom com ∨ ∧".split()
 )
 CLOSERS = {"(": ")", "{": "}"}
 
