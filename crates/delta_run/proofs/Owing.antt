@@ -6,8 +6,7 @@ use Rattle.delta_words.specs.CommandTask.{CommandTask, run, eval, check, print, 
 use Rattle.command_text.specs.Conversion.{frames_of_lines}
 use Rattle.delta_end.specs.declared.end.End.{End}
 use Rattle.delta_end.specs.End.{FileCause, ReadCause, WriteCause}
-use Rattle.delta_end.specs.Status.{AnswerOf, IsStatus}
-use Rattle.delta_end.proofs.Statuses.{status_is}
+use Rattle.delta_end.specs.Status.{AnswerOf}
 use Rattle.delta_loop.specs.Answer.{Adds, ReadsWell}
 use Rattle.delta_run.specs.CommandLine.{frames_of}
 use Rattle.delta_run.specs.Outside.{Outside}
@@ -31,9 +30,6 @@ use Rattle.delta_run.proofs.Evaluated.{evals_text, evals_well, stops_well, refus
 module _ (before after : Outside) (end : End) (status : ℕ) (said : Result (Unit {0}) IoFault) (answered : AnswerOf end said status) (cause : HasCause said before.note_faults after.note_faults)
     (reads : Adds before.log after.log (ReadsWell end)) (file_cause : FileCause end before.file_faults after.file_faults)
     (read_cause : ReadCause end before.read_faults after.read_faults) (write_cause : WriteCause end before.write_faults after.write_faults) where
-  is_status : IsStatus end status before.note_faults after.note_faults
-  is_status = status_is _ _ _ _ _ answered cause
-
   pub owed : (task : CommandTask) → Does before.files after.files before.log after.log before.left after.left end task → Owes task before after end status
   owed (run file budget v) done = record {
     prompt = λ files tells. text_prompt _ budget (frames_of v) _ _ _ _ end (done files tells);
@@ -45,9 +41,7 @@ module _ (before after : Outside) (end : End) (status : ℕ) (said : Result (Uni
     refused = λ files tells file_still note.
         text_refused _ budget (frames_of v) _ _ _ _ _ _ _ _ file_still note _ _ cause end
         (done files tells) file_cause answered;
-    settled = λ files tells.
-        text_settled _ budget (frames_of v) _ _ _ _ _ _ _ end (done files tells)
-        is_status;
+    settled = λ files tells. text_settled _ budget (frames_of v) _ _ _ _ end (done files tells);
   }
   owed (eval file budget v) done = record {
     reads = reads;
@@ -153,9 +147,7 @@ module _ (before after : Outside) (end : End) (status : ℕ) (said : Result (Uni
     refused = λ files tells file_still note.
         saved_refused _ budget (frames_of v) state _ _ _ _ _ _ _ _ _ _ file_still note _ _ cause end
         (done.0 files tells) file_cause answered;
-    settled = λ files tells.
-        saved_settled _ budget (frames_of v) state _ _ _ _ _ _ _ _ _ end (done.0 files tells)
-        is_status;
+    settled = λ files tells. saved_settled _ budget (frames_of v) state _ _ _ _ _ _ end (done.0 files tells);
   }
   owed (save_again file state old budget v) done = record {
     prompt = λ files tells more again.
@@ -176,8 +168,7 @@ module _ (before after : Outside) (end : End) (status : ℕ) (said : Result (Uni
         saved_again_refused _ budget (frames_of v) old state _ _ _ _ _ _ _ _ _ _ file_still note _ _ cause end
         (done.0 files tells) file_cause answered;
     settled = λ files tells more again.
-        saved_again_settled _ budget (frames_of v) old state _ _ _ _ _ _ more again _ _ _ end (done.0 files tells)
-        is_status;
+        saved_again_settled _ budget (frames_of v) old state _ _ _ _ _ _ more again end (done.0 files tells);
   }
   owed (resume file state budget v) done = record {
     prompt = λ files tells more again.
@@ -195,6 +186,5 @@ module _ (before after : Outside) (end : End) (status : ℕ) (said : Result (Uni
         resumed_refused _ budget (frames_of v) _ state _ _ _ _ _ _ _ _ file_still note _ _ cause end
         (done files tells) file_cause answered;
     settled = λ files tells more again.
-        resumed_settled _ budget (frames_of v) _ state _ _ _ _ more again _ _ _ end (done files tells)
-        is_status;
+        resumed_settled _ budget (frames_of v) _ state _ _ _ _ more again end (done files tells);
   }

@@ -32,7 +32,7 @@ pub record Resumes (file state : List ℕ) (budget : ℕ) (v : Version) (before 
   -- a text that is refused, whatever the second file is, with no fault counted: status 3, or want of memory
   pub refused : OfFile before.files file
       (λ text. IsStill before.file_faults after.file_faults → IsStill before.note_faults after.note_faults → RefusesUnwritable text v status)
-  -- an accepted text whose run ended with 0, 4, 6 or 9: the status is that of the whole input, and what is due for its
-  -- first 2^40 bytes was written, whatever the pieces that it came in and the budget
+  -- an accepted text whose run ended with 0, 4, 6 or 9: the end is that of the whole input, with the first fault where one is
+  -- found, and what is due for its first 2^40 bytes was written, whatever the pieces that it came in and the budget
   pub settled : OfFile before.files file
-      (λ text. OfFile before.files state (λ bytes. ResumesSettled text bytes v before.left before.log after.log status))
+      (λ text. OfFile before.files state (λ bytes. ResumesSettled text bytes v before.left before.log after.log end))
