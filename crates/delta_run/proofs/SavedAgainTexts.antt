@@ -28,12 +28,13 @@ use Rattle.commands.specs.Leaving.{IsKeptAgain, IsSaved, LeavesState}
 use Rattle.commands.specs.Resuming.{IsTypedAs}
 use Rattle.commands.specs.Texts.{ResumesIts}
 use Rattle.commands.specs.Saving.{SavesTextFrom, LeavesAgain, way_since}
+use Rattle.delta_run.specs.Text.{Takes}
 use Rattle.delta_run.specs.Evaluated.{RefusesUnwritable}
 use Rattle.delta_run.specs.Saved.{IsCompleteWithState}
 use Rattle.delta_run.specs.Resumed.{ResumedText, IsMeantSince, ResumesPromptly, ResumesWell, RefusesState, ResumesSettled}
 use Rattle.delta_run.specs.SavedAgain.{SavedAgainText, SavesAgainMoves, IsStateAgain, IsLeftAgain, LeavesStateAgain, SavesAgainWell}
 use Rattle.delta_run.proofs.RunsBehind.{same_files, WellEnded, is_done, is_open, Behind, its_own, too_large, unwritten, wanting, behind, over_behind, large_complete, wider}
-use Rattle.delta_run.proofs.ResumedTexts.{resumed_text, WentOn, well_went, resumed_prompt, resumed_return, typed_as, of_this, resumed_settled, resumed_untyped, resumed_complete, resumed_refused}
+use Rattle.delta_run.proofs.ResumedTexts.{resumed_text, WentOn, well_went, resumed_prompt, resumed_takes, resumed_return, typed_as, of_this, resumed_settled, resumed_untyped, resumed_complete, resumed_refused}
 
 module _ (text : List ℕ) (budget : ℕ) (v : Version) (from name : List ℕ) (old new : Option (List Move)) (left0 left1 : Option (List ℕ)) (files0 files1 : Option (List ℕ → List ℕ)) where
   abbrev Saved : End → Type 0
@@ -69,6 +70,10 @@ module _ (text : List ℕ) (budget : ℕ) (v : Version) (from name : List ℕ) (
     -- it is prompt, as the run behind it is
     pub saved_again_prompt : (end : End) → Saved end → Adds old new (ResumesPromptly text bytes budget v)
     saved_again_prompt end saved = resumed_prompt text budget v files0 from old new left0 left1 told files_are saved.behind saved.ended
+
+    -- it takes what that run takes
+    pub saved_again_takes : (end : End) → Saved end → Adds old new (Takes left0 left1)
+    saved_again_takes end saved = resumed_takes text budget v files0 from old new left0 left1 told files_are saved.behind saved.ended
 
     -- it ended as that run does
     pub saved_again_return : (end : End) → Saved end → Adds old new (SavesAgainMoves text bytes budget v end)

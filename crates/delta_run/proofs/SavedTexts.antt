@@ -29,13 +29,13 @@ use Rattle.commands.specs.Running.{RanIts}
 use Rattle.commands.specs.Leaving.{IsKeptOf, IsSaved, LeavesState as LeavesOfWay}
 use Rattle.commands.specs.Saving.{SavesText, way_of_tree}
 use Rattle.commands.proofs.Behind.{reads_behind, usage_behind}
-use Rattle.delta_run.specs.Text.{RanText, RunsPromptly}
+use Rattle.delta_run.specs.Text.{Takes, RanText, RunsPromptly}
 use Rattle.delta_run.specs.Settled.{SettlesWell}
 use Rattle.delta_run.specs.Evaluated.{RefusesUnwritable}
 use Rattle.delta_run.specs.Saved.{SavedText, SavesMoves, IsStateAfter, IsLeft, LeavesState, SavesWell}
 use Rattle.delta_run.proofs.RunsBehind.{same_files, WellEnded, is_done, is_open, Behind, its_own, too_large, unwritten, wanting, behind, over_behind, large_complete, wider}
 use Rattle.delta_run.proofs.SettledTexts.{text_settled}
-use Rattle.delta_run.proofs.TextRuns.{ran_text, runs_usage, text_prompt, text_reads, text_return, text_refused, text_complete}
+use Rattle.delta_run.proofs.TextRuns.{ran_text, runs_usage, text_prompt, text_reads, text_takes, text_return, text_refused, text_complete}
 
 module _ (text : List ℕ) (budget : ℕ) (v : Version) (name : List ℕ) (old new : Option (List Move)) (left0 left1 : Option (List ℕ)) (files0 files1 : Option (List ℕ → List ℕ)) where
   abbrev Saved : End → Type 0
@@ -66,6 +66,10 @@ module _ (text : List ℕ) (budget : ℕ) (v : Version) (name : List ℕ) (old n
   -- it reads what that run reads
   pub saved_reads : (end : End) → Saved end → Adds old new (ReadsWell end)
   saved_reads end saved = reads_behind end saved.behind old new saved.is_behind (text_reads text budget v old new left0 left1 saved.behind saved.ended)
+
+  -- it takes what that run takes
+  pub saved_takes : (end : End) → Saved end → Adds old new (Takes left0 left1)
+  saved_takes end saved = text_takes text budget v old new left0 left1 saved.behind saved.ended
 
   -- it ended as that run does
   pub saved_return : (end : End) → Saved end → Adds old new (SavesMoves text budget v end)
