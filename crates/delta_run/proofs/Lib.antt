@@ -20,6 +20,7 @@ pub mod ResumedTexts
 pub mod SavedAgainTexts
 pub mod JoinedStates
 pub mod JoinedRuns
+pub mod AgreeingRuns
 pub mod Evaluated
 pub mod Doing
 pub mod Owing

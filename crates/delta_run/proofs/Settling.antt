@@ -101,7 +101,7 @@ found_early P input rest ended fault found =
     by_found (inr there) = by_end (ending input) refl there.0 there.1
 
 -- of an input that isn't too long all bytes count
-all_count : (all : List ℕ) → length all ≤ 2 ^ 40 → (counted all ≡ all) × (ends_there all ≡ true)
+pub all_count : (all : List ℕ) → length all ≤ 2 ^ 40 → (counted all ≡ all) × (ends_there all ≡ true)
 all_count all few = (take_all (2 ^ 40) all few, le-leb (length all) (2 ^ 40) few)
 
 -- a front that isn't too long counts whole
