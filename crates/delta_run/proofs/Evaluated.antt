@@ -23,6 +23,8 @@ use Rattle.delta_loop.proofs.Completeness.{whole_good, part_good}
 use Rattle.delta_loop.proofs.Returning.{adds_none, reads_well, unread}
 use Rattle.commands.specs.Gathering.{gathering}
 use Rattle.commands.specs.Evaluating.{input_of, calls_on, evaluation, MayEnd, Evaluates, EvaluatesIts, EvaluatesText}
+use Rattle.delta_run.specs.Text.{Takes}
+use Rattle.delta_run.proofs.Takings.{takes_none, takes_read}
 use Rattle.delta_run.specs.Evaluated.{EvaluatedText, EvaluatesMoves, EvalsText, RefusesUnwritable}
 
 module _ (text : List ℕ) (budget : ℕ) (v : Version) (old new : Option (List Move)) (left0 left1 : Option (List ℕ)) where
@@ -83,6 +85,27 @@ module _ (text : List ℕ) (budget : ℕ) (v : Version) (old new : Option (List 
   evals_reads ReadFailed ran = reads_of ReadFailed ran
   evals_reads WriteFailed ran = reads_of WriteFailed ran
   evals_reads Long ran = reads_of Long ran
+
+  takes_of : (end : End) → EvaluatesIts text budget v old new left0 left1 end → Adds old new (Takes left0 left1)
+  takes_of end ran = let e = ran.evaluates in takes_read old new left0 left1 (λ bytes. []) e.input e.written e.ended e.history e.taken
+
+  -- it takes what it reads of what is left
+  pub evals_takes : (end : End) → EvaluatedText text budget v old new left0 left1 end → Adds old new (Takes left0 left1)
+  evals_takes FileFailed same = takes_none old new left0 left1 same
+  evals_takes (Refused None) ran = absurd ran
+  evals_takes (Refused (Some why)) ran = takes_none old new left0 left1 ran.1
+  evals_takes Memory (inl same) = takes_none old new left0 left1 same
+  evals_takes Memory (inr ran) = takes_of Memory ran
+  evals_takes Usage ran = takes_of Usage ran
+  evals_takes (Objected what) ran = takes_of (Objected what) ran
+  evals_takes Done ran = takes_of Done ran
+  evals_takes (Input fault) ran = takes_of (Input fault) ran
+  evals_takes (Budget at) ran = takes_of (Budget at) ran
+  evals_takes (Deep at) ran = takes_of (Deep at) ran
+  evals_takes Open ran = takes_of Open ran
+  evals_takes ReadFailed ran = takes_of ReadFailed ran
+  evals_takes WriteFailed ran = takes_of WriteFailed ran
+  evals_takes Long ran = takes_of Long ran
 
   -- it isn't usage
   pub evals_usage : (end : End) → EvaluatedText text budget v old new left0 left1 end → end ≡ Usage → ⊥

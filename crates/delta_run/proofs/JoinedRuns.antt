@@ -30,7 +30,7 @@ same_rest [] a b e = e
 same_rest (x ∷ front) a b e = same_rest front a b cc
 
 -- what holds of some moves that were added holds of those that were
-of_moves : (old new : Option (List Move)) (Q : List Move → Type 0) → Adds old new Q → (log : List Move) → old ≡ Some log → (moves : List Move) → new ≡ Some (log ++ moves) → Q moves
+pub of_moves : (old new : Option (List Move)) (Q : List Move → Type 0) → Adds old new Q → (log : List Move) → old ≡ Some log → (moves : List Move) → new ≡ Some (log ++ moves) → Q moves
 of_moves old new Q adds log before moves added =
     let these = adds log before in
     let same : Some (log ++ these.0) ≡ Some (log ++ moves) = sym these.1 ∙ added in

@@ -74,7 +74,7 @@ frames_join v first second h k =
     ∙ sym (ap₂ (λ (a b : List StreamEvent). a ++ b) (read_whole v first h) (read_whole v second k)))
 
 -- where faults are told by the type that is left, what is accepted is a word of the type
-words_accepted : (P : Meaning) (s : StreamType) → ((word : List StreamEvent) (x : StreamEvent) → P.fault word x ≡ fault_of x (after_word word s)) → (before word : List StreamEvent)
+pub words_accepted : (P : Meaning) (s : StreamType) → ((word : List StreamEvent) (x : StreamEvent) → P.fault word x ≡ fault_of x (after_word word s)) → (before word : List StreamEvent)
     → IsWord (after_word before s) (accepted_after P before word)
 words_accepted P s tells before [] = tt
 words_accepted P s tells before (x ∷ word) = by_fault (P.fault before x) (tells before x) (words_accepted P s tells (before ++ x ∷ []) word)

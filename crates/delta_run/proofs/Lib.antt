@@ -1,5 +1,6 @@
 -- Lemmas, each file named for what it is about.
 pub mod CommandLines
+pub mod Takings
 pub mod TextRuns
 pub mod Settling
 pub mod SettledTexts
@@ -19,6 +20,7 @@ pub mod ResumedTexts
 pub mod SavedAgainTexts
 pub mod JoinedStates
 pub mod JoinedRuns
+pub mod AgreeingRuns
 pub mod Evaluated
 pub mod Doing
 pub mod Owing

@@ -1,5 +1,5 @@
 -- From the end of a run that goes on from a state to what its caller may know.
-use Rattle.std.proofs.Common.{◌≡◌, ◌⊎◌, inl, inr, ℕ, List, Option, Some, None, Result, ◌∙◌, ap, sym, subst, refl, arith, take}
+use Rattle.std.proofs.Common.{◌≡◌, ◌⊎◌, inl, inr, ℕ, List, Option, Some, None, Result, ◌∙◌, ap, sym, subst, refl, take}
 use Rattle.port.specs.declared.link.Move.{Move}
 use Rattle.port.specs.declared.fault.IoFault.{IoFault}
 use Rattle.port.specs.Faults.{HasCause}
@@ -12,8 +12,8 @@ use Rattle.delta_end.specs.declared.objection.StateName.TheVariants as state
 use Rattle.delta_end.specs.declared.objection.Objection.TheVariants.{Derivation, Bound, Table, State}
 use Rattle.delta_end.specs.declared.end.End.{End}
 use Rattle.delta_end.specs.declared.end.End.TheVariants.{Done, Usage, Refused, Input, Budget, Deep, Open, FileFailed, ReadFailed, WriteFailed, Memory, Long, Objected}
-use Rattle.delta_end.specs.End.{FileCause, ReadCause, WriteCause, IsOfLoop, status_of}
-use Rattle.delta_end.specs.Status.{AnswerOf, IsStatus, IsStill}
+use Rattle.delta_end.specs.End.{FileCause, ReadCause, WriteCause, IsOfLoop}
+use Rattle.delta_end.specs.Status.{AnswerOf, IsStill}
 use Rattle.delta_end.proofs.Statuses.{not_rose, answered, answered_eight}
 use Rattle.checked_program.specs.Acceptance.{IsWritable, IsRefusedToWrite}
 use Rattle.checked_program.proofs.OneAnswer.{accepted_is_one, writing_is_judged}
@@ -26,11 +26,12 @@ use Rattle.delta_loop.proofs.Completeness.{good_end, good_status}
 use Rattle.delta_runner.specs.KeptOneShot.{meaning_since}
 use Rattle.commands.specs.Resuming.{GoesOn, IsTypedAs, IsWrong, OfState}
 use Rattle.commands.specs.Texts.{ResumesIts, ResumesText}
-use Rattle.delta_run.specs.Settled.{IsOverInput}
 use Rattle.delta_run.specs.Evaluated.{RefusesUnwritable}
 use Rattle.delta_run.specs.Resumed.{ResumedText, IsMeantSince, IsNoState, ResumesPromptly, GoesOnSo, ResumesMoves, ResumesWell, RefusesState, ResumesSettled}
+use Rattle.delta_run.specs.Text.{Takes}
+use Rattle.delta_run.proofs.Takings.{takes_none, ran_takes}
 use Rattle.delta_run.proofs.RunsBehind.{WellEnded, is_done, is_open}
-use Rattle.delta_run.proofs.Settling.{none_other, over_by_end, run_settles, any_budget}
+use Rattle.delta_run.proofs.Settling.{run_settles, any_budget}
 
 module _ (text : List ℕ) (budget : ℕ) (v : Version) (files : Option (List ℕ → List ℕ)) (name : List ℕ) (old new : Option (List Move)) (left0 left1 : Option (List ℕ)) where
   -- what was judged is the text of the file
@@ -118,6 +119,17 @@ module _ (text : List ℕ) (budget : ℕ) (v : Version) (files : Option (List �
         by_way _ (no_memory untouched) = adds_none old new (ResumesPromptly text bytes budget v) untouched.0 (inl refl)
         by_way _ (went_on end loop on) = λ log is. let adds = ran_prompt on.0 old new left0 left1 end on.2 log is in (adds.0, adds.1, inr (on.0, on.1, adds.2))
 
+    -- it takes what it reads of what is left
+    pub resumed_takes : (end : End) → ResumedText text budget v files name old new left0 left1 end → Adds old new (Takes left0 left1)
+    resumed_takes end resumes = by_way end (went end resumes)
+      where
+        by_way : (end : End) → Went end → Adds old new (Takes left0 left1)
+        by_way _ (no_file untouched) = takes_none old new left0 left1 untouched
+        by_way _ (no_text why r untouched) = takes_none old new left0 left1 untouched
+        by_way _ (no_state what at r untouched) = takes_none old new left0 left1 untouched
+        by_way _ (no_memory untouched) = takes_none old new left0 left1 untouched
+        by_way _ (went_on end loop on) = ran_takes old new left0 left1 on.0 end on.2
+
     goes_so : (end : End) → IsOfLoop end → WentOn end → Adds old new (GoesOnSo text bytes budget v end)
     goes_so end loop on log is = (on.2.at.history.moves, on.2.at.history.logged log is, (on.0, on.1, on.2.at.history.prompt, returned on.0 old new left0 left1 end loop on.2))
 
@@ -170,27 +182,19 @@ module _ (text : List ℕ) (budget : ℕ) (v : Version) (files : Option (List �
         subst (λ (P : Meaning). Ran P old new left0 left1 end) (on.1.means ∙ ap (λ (d : CoreProgram). meaning_since v budget d on.1.state) (same_core p c accepted on.1)) on.2
 
     -- one that ended with 0, 4, 6 or 9 is settled by its whole input
-    pub resumed_settled : (status note0 note1 : ℕ) (end : End) → ResumedText text budget v files name old new left0 left1 end → IsStatus end status note0 note1
-        → ResumesSettled text bytes v left0 old new status
-    resumed_settled status note0 note1 end resumes is = by_way end (went end resumes) is
+    pub resumed_settled : (end : End) → ResumedText text budget v files name old new left0 left1 end → ResumesSettled text bytes v left0 old new end
+    resumed_settled end resumes = by_way end (went end resumes)
       where
-        never : (end : End) → IsStatus end status note0 note1 → (IsOverInput (status_of end) → ⊥) → IsOverInput status → ⊥
-        never end is not_over over = not_over (subst IsOverInput (over_by_end end status note0 note1 is over) over)
-
-        by_way : (end : End) → Went end → IsStatus end status note0 note1 → ResumesSettled text bytes v left0 old new status
-        by_way _ (no_file untouched) is p c accepted over =
-            absurd (never FileFailed is (none_other 7 (λ e. omega (arith, e)) (λ e. omega (arith, e)) (λ e. omega (arith, e)) (λ e. omega (arith, e))) over)
-        by_way _ (no_text why r untouched) is p c accepted over =
-            absurd (never (Refused (Some why)) is (none_other 3 (λ e. omega (arith, e)) (λ e. omega (arith, e)) (λ e. omega (arith, e)) (λ e. omega (arith, e))) over)
-        by_way _ (no_state what at r untouched) is p c accepted over =
-            absurd (never (Objected (State what at)) is (none_other 10 (λ e. omega (arith, e)) (λ e. omega (arith, e)) (λ e. omega (arith, e)) (λ e. omega (arith, e))) over)
-        by_way _ (no_memory untouched) is p c accepted over =
-            absurd (never Memory is (none_other 8 (λ e. omega (arith, e)) (λ e. omega (arith, e)) (λ e. omega (arith, e)) (λ e. omega (arith, e))) over)
-        by_way _ (went_on end loop on) is p c accepted over = (
+        by_way : (end : End) → Went end → ResumesSettled text bytes v left0 old new end
+        by_way _ (no_file untouched) p c accepted over = absurd over
+        by_way _ (no_text why r untouched) p c accepted over = absurd over
+        by_way _ (no_state what at r untouched) p c accepted over = absurd over
+        by_way _ (no_memory untouched) p c accepted over = absurd over
+        by_way _ (went_on end loop on) p c accepted over = (
           on.1.state,
           typed_as p c accepted on.1,
-          λ all tells other. any_budget (meaning_since v budget c on.1.state) other all old new status
-              (run_settles (meaning_since v budget c on.1.state) old new left0 left1 all tells end (of_this p c accepted end on) status (over_by_end end status note0 note1 is over)),
+          λ all tells other. any_budget (meaning_since v budget c on.1.state) other all old new end
+              (run_settles (meaning_since v budget c on.1.state) old new left0 left1 all tells end (of_this p c accepted end on)),
         )
 
     module _ (file0 file1 note0 note1 : ℕ) (file_still : IsStill file0 file1) (note_still : IsStill note0 note1) (said : Result (Unit {0}) IoFault) (status : ℕ) (cause : HasCause said note0 note1) where

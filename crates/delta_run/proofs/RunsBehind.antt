@@ -1,5 +1,5 @@
 -- What the end of a command that leaves a state tells of the run behind it.
-use Rattle.std.proofs.Common.{◌≡◌, ◌⊎◌, inl, inr, ℕ, List, Option, Some, ◌∙◌, sym, subst, refl, arith}
+use Rattle.std.proofs.Common.{◌≡◌, ◌⊎◌, inl, inr, ℕ, List, Option, Some, ◌∙◌, sym, subst, refl}
 use Rattle.port.specs.declared.link.Move.{Move}
 use Rattle.port.specs.Files.{ChangesOnly}
 use Rattle.event_word.specs.StreamEvent.{StreamEvent}
@@ -8,8 +8,6 @@ use Rattle.delta_end.specs.declared.objection.StateName.TheVariants.{Form, Untyp
 use Rattle.delta_end.specs.declared.objection.Objection.TheVariants.{Derivation, Bound, Table, State}
 use Rattle.delta_end.specs.declared.end.End.{End}
 use Rattle.delta_end.specs.declared.end.End.TheVariants.{Done, Usage, Refused, Input, Budget, Deep, Open, FileFailed, ReadFailed, WriteFailed, Memory, Long, Objected}
-use Rattle.delta_end.specs.End.{status_of}
-use Rattle.delta_end.specs.Status.{IsStatus}
 use Rattle.delta_loop.specs.Meaning.{Meaning}
 use Rattle.delta_loop.specs.Loop.{Ran, IsWellEnded}
 use Rattle.delta_loop.specs.Answer.{Adds, IsGood, IsCheap, WroteAll}
@@ -17,7 +15,6 @@ use Rattle.delta_loop.proofs.Completeness.{wrote_all}
 use Rattle.commands.specs.Leaving.{IsBehind, ChangesState}
 use Rattle.delta_run.specs.Settled.{IsOverInput}
 use Rattle.delta_run.specs.Saved.{IsCompleteWithState}
-use Rattle.delta_run.proofs.Settling.{none_other, over_by_end}
 
 -- where the files are as they were, no other name changes
 pub same_files : (old new : Option (List ℕ → List ℕ)) (name : List ℕ) → new ≡ old → ChangesOnly old new name
@@ -94,14 +91,14 @@ behind WriteFailed ran same = own WriteFailed ran same
 behind Long ran same = own Long ran same
 
 -- a command that ended with 0, 4, 6 or 9 ended as the run did
-pub over_behind : (end ran : End) (status note0 note1 : ℕ) → IsBehind end ran → IsStatus end status note0 note1 → IsOverInput status → IsStatus ran status note0 note1
-over_behind end ran status note0 note1 is_behind is over = by_run end ran (behind end ran is_behind) is (subst IsOverInput (over_by_end end status note0 note1 is over) over)
+pub over_behind : (end ran : End) → IsBehind end ran → IsOverInput end → ran ≡ end
+over_behind end ran is_behind over = by_run end ran (behind end ran is_behind) over
   where
-    by_run : (end ran : End) → Behind end ran → IsStatus end status note0 note1 → IsOverInput (status_of end) → IsStatus ran status note0 note1
-    by_run _ _ (its_own end) is over = is
-    by_run _ _ (too_large at ran well) is over = absurd (none_other 10 (λ e. omega (arith, e)) (λ e. omega (arith, e)) (λ e. omega (arith, e)) (λ e. omega (arith, e)) over)
-    by_run _ _ (unwritten ran well) is over = absurd (none_other 7 (λ e. omega (arith, e)) (λ e. omega (arith, e)) (λ e. omega (arith, e)) (λ e. omega (arith, e)) over)
-    by_run _ _ (wanting ran well) is over = absurd (none_other 8 (λ e. omega (arith, e)) (λ e. omega (arith, e)) (λ e. omega (arith, e)) (λ e. omega (arith, e)) over)
+    by_run : (end ran : End) → Behind end ran → IsOverInput end → ran ≡ end
+    by_run _ _ (its_own end) over = refl
+    by_run _ _ (too_large at ran well) over = absurd over
+    by_run _ _ (unwritten ran well) over = absurd over
+    by_run _ _ (wanting ran well) over = absurd over
 
 -- a run over a good input that ended well wrote all
 wrote_well : (P : Meaning) (old new : Option (List Move)) (left0 left1 : Option (List ℕ)) (w : Version) (all : List ℕ) (word : List StreamEvent) → left0 ≡ Some all → IsGood P w all word

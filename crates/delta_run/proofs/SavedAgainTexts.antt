@@ -15,7 +15,7 @@ use Rattle.delta_end.specs.declared.objection.Objection.TheVariants.{Derivation,
 use Rattle.delta_end.specs.declared.end.End.{End}
 use Rattle.delta_end.specs.declared.end.End.TheVariants.{Done, Usage, Refused, Input, Budget, Deep, Open, FileFailed, ReadFailed, WriteFailed, Memory, Long, Objected}
 use Rattle.delta_end.specs.End.{FileCause, ReadCause, WriteCause}
-use Rattle.delta_end.specs.Status.{AnswerOf, IsStatus, IsStill}
+use Rattle.delta_end.specs.Status.{AnswerOf, IsStill}
 use Rattle.delta_end.proofs.Statuses.{not_rose, answered, answered_eight}
 use Rattle.checked_program.specs.Acceptance.{IsWritable}
 use Rattle.checked_program.proofs.OneAnswer.{writing_is_judged}
@@ -28,12 +28,13 @@ use Rattle.commands.specs.Leaving.{IsKeptAgain, IsSaved, LeavesState}
 use Rattle.commands.specs.Resuming.{IsTypedAs}
 use Rattle.commands.specs.Texts.{ResumesIts}
 use Rattle.commands.specs.Saving.{SavesTextFrom, LeavesAgain, way_since}
+use Rattle.delta_run.specs.Text.{Takes}
 use Rattle.delta_run.specs.Evaluated.{RefusesUnwritable}
 use Rattle.delta_run.specs.Saved.{IsCompleteWithState}
 use Rattle.delta_run.specs.Resumed.{ResumedText, IsMeantSince, ResumesPromptly, ResumesWell, RefusesState, ResumesSettled}
 use Rattle.delta_run.specs.SavedAgain.{SavedAgainText, SavesAgainMoves, IsStateAgain, IsLeftAgain, LeavesStateAgain, SavesAgainWell}
 use Rattle.delta_run.proofs.RunsBehind.{same_files, WellEnded, is_done, is_open, Behind, its_own, too_large, unwritten, wanting, behind, over_behind, large_complete, wider}
-use Rattle.delta_run.proofs.ResumedTexts.{resumed_text, WentOn, well_went, resumed_prompt, resumed_return, typed_as, of_this, resumed_settled, resumed_untyped, resumed_complete, resumed_refused}
+use Rattle.delta_run.proofs.ResumedTexts.{resumed_text, WentOn, well_went, resumed_prompt, resumed_takes, resumed_return, typed_as, of_this, resumed_settled, resumed_untyped, resumed_complete, resumed_refused}
 
 module _ (text : List ℕ) (budget : ℕ) (v : Version) (from name : List ℕ) (old new : Option (List Move)) (left0 left1 : Option (List ℕ)) (files0 files1 : Option (List ℕ → List ℕ)) where
   abbrev Saved : End → Type 0
@@ -69,6 +70,10 @@ module _ (text : List ℕ) (budget : ℕ) (v : Version) (from name : List ℕ) (
     -- it is prompt, as the run behind it is
     pub saved_again_prompt : (end : End) → Saved end → Adds old new (ResumesPromptly text bytes budget v)
     saved_again_prompt end saved = resumed_prompt text budget v files0 from old new left0 left1 told files_are saved.behind saved.ended
+
+    -- it takes what that run takes
+    pub saved_again_takes : (end : End) → Saved end → Adds old new (Takes left0 left1)
+    saved_again_takes end saved = resumed_takes text budget v files0 from old new left0 left1 told files_are saved.behind saved.ended
 
     -- it ended as that run does
     pub saved_again_return : (end : End) → Saved end → Adds old new (SavesAgainMoves text bytes budget v end)
@@ -181,10 +186,10 @@ module _ (text : List ℕ) (budget : ℕ) (v : Version) (from name : List ℕ) (
         by_run _ _ (wanting end well) ran leaves = says_nothing Memory end ran refl
 
     -- one that ended with 0, 4, 6 or 9 is settled by its whole input
-    pub saved_again_settled : (status note0 note1 : ℕ) (end : End) → Saved end → IsStatus end status note0 note1 → ResumesSettled text bytes v left0 old new status
-    saved_again_settled status note0 note1 end saved is p c accepted over =
-        resumed_settled text budget v files0 from old new left0 left1 told files_are status note0 note1 saved.behind saved.ended
-        (over_behind end saved.behind status note0 note1 saved.is_behind is over) p c accepted over
+    pub saved_again_settled : (end : End) → Saved end → ResumesSettled text bytes v left0 old new end
+    saved_again_settled end saved p c accepted over =
+        let same = over_behind end saved.behind saved.is_behind over in
+        resumed_settled text budget v files0 from old new left0 left1 told files_are end (subst Resumed same saved.ended) p c accepted over
 
     module _ (file0 file1 note0 note1 : ℕ) (file_still : IsStill file0 file1) (note_still : IsStill note0 note1) (said : Result (Unit {0}) IoFault) (status : ℕ) (cause : HasCause said note0 note1) where
       -- what is no typed state is refused

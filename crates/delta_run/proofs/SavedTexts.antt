@@ -15,7 +15,7 @@ use Rattle.delta_end.specs.declared.objection.Objection.TheVariants.{Derivation,
 use Rattle.delta_end.specs.declared.end.End.{End}
 use Rattle.delta_end.specs.declared.end.End.TheVariants.{Done, Usage, Refused, Input, Budget, Deep, Open, FileFailed, ReadFailed, WriteFailed, Memory, Long, Objected}
 use Rattle.delta_end.specs.End.{FileCause, ReadCause, WriteCause}
-use Rattle.delta_end.specs.Status.{AnswerOf, IsStatus, IsStill}
+use Rattle.delta_end.specs.Status.{AnswerOf, IsStill}
 use Rattle.delta_end.proofs.Statuses.{not_rose, answered, answered_eight}
 use Rattle.checked_program.specs.Acceptance.{IsWritable}
 use Rattle.checked_program.proofs.OneAnswer.{accepted_is_one, writing_is_judged}
@@ -29,13 +29,13 @@ use Rattle.commands.specs.Running.{RanIts}
 use Rattle.commands.specs.Leaving.{IsKeptOf, IsSaved, LeavesState as LeavesOfWay}
 use Rattle.commands.specs.Saving.{SavesText, way_of_tree}
 use Rattle.commands.proofs.Behind.{reads_behind, usage_behind}
-use Rattle.delta_run.specs.Text.{RanText, RunsPromptly}
+use Rattle.delta_run.specs.Text.{Takes, RanText, RunsPromptly}
 use Rattle.delta_run.specs.Settled.{SettlesWell}
 use Rattle.delta_run.specs.Evaluated.{RefusesUnwritable}
 use Rattle.delta_run.specs.Saved.{SavedText, SavesMoves, IsStateAfter, IsLeft, LeavesState, SavesWell}
 use Rattle.delta_run.proofs.RunsBehind.{same_files, WellEnded, is_done, is_open, Behind, its_own, too_large, unwritten, wanting, behind, over_behind, large_complete, wider}
 use Rattle.delta_run.proofs.SettledTexts.{text_settled}
-use Rattle.delta_run.proofs.TextRuns.{ran_text, runs_usage, text_prompt, text_reads, text_return, text_refused, text_complete}
+use Rattle.delta_run.proofs.TextRuns.{ran_text, runs_usage, text_prompt, text_reads, text_takes, text_return, text_refused, text_complete}
 
 module _ (text : List ℕ) (budget : ℕ) (v : Version) (name : List ℕ) (old new : Option (List Move)) (left0 left1 : Option (List ℕ)) (files0 files1 : Option (List ℕ → List ℕ)) where
   abbrev Saved : End → Type 0
@@ -66,6 +66,10 @@ module _ (text : List ℕ) (budget : ℕ) (v : Version) (name : List ℕ) (old n
   -- it reads what that run reads
   pub saved_reads : (end : End) → Saved end → Adds old new (ReadsWell end)
   saved_reads end saved = reads_behind end saved.behind old new saved.is_behind (text_reads text budget v old new left0 left1 saved.behind saved.ended)
+
+  -- it takes what that run takes
+  pub saved_takes : (end : End) → Saved end → Adds old new (Takes left0 left1)
+  saved_takes end saved = text_takes text budget v old new left0 left1 saved.behind saved.ended
 
   -- it ended as that run does
   pub saved_return : (end : End) → Saved end → Adds old new (SavesMoves text budget v end)
@@ -168,10 +172,10 @@ module _ (text : List ℕ) (budget : ℕ) (v : Version) (name : List ℕ) (old n
       by_run _ _ (wanting end well) ran leaves = says_nothing Memory end ran refl
 
   -- a run that ended with 0, 4, 6 or 9 is settled by its whole input
-  pub saved_settled : (status note0 note1 : ℕ) (end : End) → Saved end → IsStatus end status note0 note1 → SettlesWell text v left0 old new status
-  saved_settled status note0 note1 end saved is p c accepted all tells other over =
-      text_settled text budget v old new left0 left1 status note0 note1 saved.behind saved.ended (over_behind end saved.behind status note0 note1 saved.is_behind is over)
-      p c accepted all tells other over
+  pub saved_settled : (end : End) → Saved end → SettlesWell text v left0 old new end
+  saved_settled end saved p c accepted all tells other over =
+      let same = over_behind end saved.behind saved.is_behind over in
+      text_settled text budget v old new left0 left1 end (subst (RanText text budget v old new left0 left1) same saved.ended) p c accepted all tells other over
 
   module _ (file0 file1 note0 note1 : ℕ) (file_still : IsStill file0 file1) (note_still : IsStill note0 note1) (said : Result (Unit {0}) IoFault) (status : ℕ) (cause : HasCause said note0 note1) where
     -- a refused text gives 3

@@ -1,4 +1,4 @@
--- The status and the bytes of a run that ended with 0, 4, 6 or 9 are those of its whole input.
+-- The end and the bytes of a run that ended with 0, 4, 6 or 9 are those of its whole input.
 use Rattle.std.proofs.Common.{◌≡◌, ◌⊎◌, inl, inr, ℕ, ◌+◌, ◌-◌, ◌<◌, ◌≤◌, ◌^◌, List, [], ◌∷◌, ◌++◌, Bool, true, false, Option, Some, None, length, take, ◌∙◌, ap, ap₂, sym, refl, subst, arith, length-append}
 use Rattle.std.specs.Prelude.{nat_le}
 use Rattle.std.proofs.Math.Seq.{take-append-add}
@@ -19,9 +19,6 @@ use Rattle.delta_end.specs.declared.end.InputFault.{InputFault}
 use Rattle.delta_end.specs.declared.end.InputFault.TheVariants.{Event}
 use Rattle.delta_end.specs.declared.end.End.{End}
 use Rattle.delta_end.specs.declared.end.End.TheVariants.{Done, Usage, Refused, Input, Budget, Deep, Open, FileFailed, ReadFailed, WriteFailed, Memory, Long, Objected}
-use Rattle.delta_end.specs.End.{objection_status, status_of, status_without_note}
-use Rattle.delta_end.specs.Status.{IsStatus}
-use Rattle.delta_end.proofs.Statuses.{objected_late}
 use Rattle.delta_loop.specs.Meaning.{Meaning}
 use Rattle.delta_loop.specs.Finding.{version_of, place_in, fault_or, event_finding, byte_finding, finding}
 use Rattle.delta_loop.specs.Output.{up_to_fault, accepted, accepted_after, answers_after, opening, output, due}
@@ -29,7 +26,7 @@ use Rattle.delta_loop.specs.Loop.{Ran}
 use Rattle.delta_loop.specs.Answer.{Adds}
 use Rattle.delta_loop.proofs.Findings.{finding_all}
 use Rattle.delta_loop.proofs.Limits.{few_read}
-use Rattle.delta_run.specs.Settled.{IsOverInput, counted, ends_there, status_by, status_after, status_over, IsSettled}
+use Rattle.delta_run.specs.Settled.{counted, ends_there, end_by, end_after, end_over, IsSettled}
 
 -- fewer than four bytes hold no event
 short_unread : (bytes : List ℕ) → length bytes < 4 → whole bytes ≡ []
@@ -103,15 +100,8 @@ found_early P input rest ended fault found =
     )
     by_found (inr there) = by_end (ending input) refl there.0 there.1
 
--- no status but 0, 4, 6 and 9 is one of these
-pub none_other : (n : ℕ) → (n ≡ 0 → ⊥) → (n ≡ 4 → ⊥) → (n ≡ 6 → ⊥) → (n ≡ 9 → ⊥) → IsOverInput n → ⊥
-none_other n not_done not_refused not_open not_long (inl e) = not_done e
-none_other n not_done not_refused not_open not_long (inr (inl e)) = not_refused e
-none_other n not_done not_refused not_open not_long (inr (inr (inl e))) = not_open e
-none_other n not_done not_refused not_open not_long (inr (inr (inr e))) = not_long e
-
 -- of an input that isn't too long all bytes count
-all_count : (all : List ℕ) → length all ≤ 2 ^ 40 → (counted all ≡ all) × (ends_there all ≡ true)
+pub all_count : (all : List ℕ) → length all ≤ 2 ^ 40 → (counted all ≡ all) × (ends_there all ≡ true)
 all_count all few = (take_all (2 ^ 40) all few, le-leb (length all) (2 ^ 40) few)
 
 -- a front that isn't too long counts whole
@@ -130,8 +120,8 @@ more_counts input rest more = (take-append-le (2 ^ 40) input rest (omega (arith,
     by_test (inr is) = is.0
 
 module _ (P : Meaning) (old new : Option (List Move)) (left0 left1 : Option (List ℕ)) (all : List ℕ) (tells : left0 ≡ Some all) where
-  abbrev Settles : ℕ → Type 0
-  Settles status = (status ≡ status_over P all) × Adds old new (λ moves. bytes_written moves ≡ due P (counted all))
+  abbrev Settles : End → Type 0
+  Settles end = (end ≡ end_over P all) × Adds old new (λ moves. bytes_written moves ≡ due P (counted all))
 
   -- what was written is due for the bytes that count
   wrote : (end : End) (ran : Ran P old new left0 left1 end) → ran.at.written ≡ due P (counted all) → Adds old new (λ moves. bytes_written moves ≡ due P (counted all))
@@ -139,88 +129,61 @@ module _ (P : Meaning) (old new : Option (List Move)) (left0 left1 : Option (Lis
 
   -- a run that read its input to the end
   over_all : (end : End) (ran : Ran P old new left0 left1 end) → (end ≡ Long → ⊥) → (o : Option InputFault) (b : Bool) → ran.ended ≡ true → finding P ran.input true ≡ o
-      → P.finishes (accepted P (whole ran.input)) ≡ b → ran.at.written ≡ due P ran.input → Settles (status_by o true b)
+      → P.finishes (accepted P (whole ran.input)) ≡ b → ran.at.written ≡ due P ran.input → Settles (end_by o true b)
   over_all end ran short o b ended found finishes written =
       let same : ran.input ≡ all = sym (ran.used_up ended all tells) in
       let few = few_read end (length ran.input) ran.limit short in
       let count = all_count all (subst (λ (bs : List ℕ). length bs ≤ 2 ^ 40) same few) in (
-        sym (ap (λ (f : Option InputFault). status_by f true b) found) ∙ sym (ap (status_by (finding P ran.input true) true) finishes) ∙ ap (λ (bs : List ℕ). status_after P bs true) same
-            ∙ sym (ap₂ (status_after P) count.0 count.1),
+        sym (ap (λ (f : Option InputFault). end_by f true b) found) ∙ sym (ap (end_by (finding P ran.input true) true) finishes) ∙ ap (λ (bs : List ℕ). end_after P bs true) same
+            ∙ sym (ap₂ (end_after P) count.0 count.1),
         wrote end ran (written ∙ ap (due P) (same ∙ sym count.0)),
       )
 
   -- a run that was refused in its input
-  over_front : (fault : InputFault) (ran : Ran P old new left0 left1 (Input fault)) → finding P ran.input false ≡ Some fault → ran.at.written ≡ due P ran.input → Settles 4
+  over_front : (fault : InputFault) (ran : Ran P old new left0 left1 (Input fault)) → finding P ran.input false ≡ Some fault → ran.at.written ≡ due P ran.input → Settles (Input fault)
   over_front fault ran found written =
       let rest = (ran.taken all tells).0 in
       let few = few_read (Input fault) (length ran.input) ran.limit (λ is. cc) in
       let split : counted all ≡ ran.input ++ take (2 ^ 40 - length ran.input) rest = ap counted (ran.taken all tells).2 ∙ front_counts ran.input rest few in
       let early = found_early P ran.input (take (2 ^ 40 - length ran.input) rest) (ends_there all) fault found in (
-        sym (ap (λ (f : Option InputFault). status_by f (ends_there all) (P.finishes (accepted P (whole (counted all))))) (ap (λ (bs : List ℕ). finding P bs (ends_there all)) split ∙ early.0)),
+        sym (ap (λ (f : Option InputFault). end_by f (ends_there all) (P.finishes (accepted P (whole (counted all))))) (ap (λ (bs : List ℕ). finding P bs (ends_there all)) split ∙ early.0)),
         wrote (Input fault) ran (written ∙ sym early.1 ∙ sym (ap (due P) split)),
       )
 
-  input_settles : (fault : InputFault) (ran : Ran P old new left0 left1 (Input fault)) (ended : Bool) → ran.ended ≡ ended → finding P ran.input ended ≡ Some fault → ran.at.written ≡ due P ran.input → Settles 4
+  input_settles : (fault : InputFault) (ran : Ran P old new left0 left1 (Input fault)) (ended : Bool) → ran.ended ≡ ended → finding P ran.input ended ≡ Some fault → ran.at.written ≡ due P ran.input → Settles (Input fault)
   input_settles fault ran true is found written = over_all (Input fault) ran (λ same. cc) (Some fault) (P.finishes (accepted P (whole ran.input))) is found refl written
   input_settles fault ran false is found written = over_front fault ran found written
 
   -- a run that read a byte too many
-  over_more : (ran : Ran P old new left0 left1 Long) → Settles 9
+  over_more : (ran : Ran P old new left0 left1 Long) → Settles Long
   over_more ran =
       let rest = (ran.taken all tells).0 in
       let split : all ≡ ran.input ++ rest = (ran.taken all tells).2 in
       let count = more_counts ran.input rest ran.at.may.0 in
       let front : counted all ≡ counted ran.input = ap counted split ∙ count.0 in (
-        sym (ap₂ (status_after P) front (ap ends_there split ∙ count.1) ∙ ap (λ (f : Option InputFault). status_by f false (P.finishes (accepted P (whole (counted ran.input))))) ran.at.may.1),
+        sym (ap₂ (end_after P) front (ap ends_there split ∙ count.1) ∙ ap (λ (f : Option InputFault). end_by f false (P.finishes (accepted P (whole (counted ran.input))))) ran.at.may.1),
         wrote Long ran (ran.at.may.2 ∙ sym (ap (due P) front)),
       )
 
   -- a run settles by the table of ends
-  ran_settled : (end : End) (ran : Ran P old new left0 left1 end) → IsOverInput (status_of end) → Settles (status_of end)
-  ran_settled Done ran over =
+  pub run_settles : (end : End) → Ran P old new left0 left1 end → IsSettled P all old new end
+  run_settles Done ran over =
       let may = ran.at.may in
       over_all Done ran (λ is. cc) None true may.0 (subst (λ (b : Bool). finding P ran.input b ≡ None) may.0 may.1) may.2 may.3
-  ran_settled Open ran over =
+  run_settles Open ran over =
       let may = ran.at.may in
       over_all Open ran (λ is. cc) None false may.0 (subst (λ (b : Bool). finding P ran.input b ≡ None) may.0 may.1) may.2 may.3
-  ran_settled (Input fault) ran over = input_settles fault ran ran.ended refl ran.at.may.0 ran.at.may.1
-  ran_settled Usage ran over = absurd (none_other 2 (λ e. omega (arith, e)) (λ e. omega (arith, e)) (λ e. omega (arith, e)) (λ e. omega (arith, e)) over)
-  ran_settled (Objected what) ran over =
-      absurd (none_other (objection_status what) (λ e. omega (arith, e, objected_late what)) (λ e. omega (arith, e, objected_late what)) (λ e. omega (arith, e, objected_late what)) (λ e. omega (arith, e, objected_late what)) over)
-  ran_settled (Refused why) ran over = absurd (none_other 3 (λ e. omega (arith, e)) (λ e. omega (arith, e)) (λ e. omega (arith, e)) (λ e. omega (arith, e)) over)
-  ran_settled (Budget at) ran over = absurd (none_other 5 (λ e. omega (arith, e)) (λ e. omega (arith, e)) (λ e. omega (arith, e)) (λ e. omega (arith, e)) over)
-  ran_settled (Deep at) ran over = absurd (none_other 5 (λ e. omega (arith, e)) (λ e. omega (arith, e)) (λ e. omega (arith, e)) (λ e. omega (arith, e)) over)
-  ran_settled FileFailed ran over = absurd (none_other 7 (λ e. omega (arith, e)) (λ e. omega (arith, e)) (λ e. omega (arith, e)) (λ e. omega (arith, e)) over)
-  ran_settled ReadFailed ran over = absurd (none_other 7 (λ e. omega (arith, e)) (λ e. omega (arith, e)) (λ e. omega (arith, e)) (λ e. omega (arith, e)) over)
-  ran_settled WriteFailed ran over = absurd (none_other 7 (λ e. omega (arith, e)) (λ e. omega (arith, e)) (λ e. omega (arith, e)) (λ e. omega (arith, e)) over)
-  ran_settled Memory ran over = absurd (none_other 8 (λ e. omega (arith, e)) (λ e. omega (arith, e)) (λ e. omega (arith, e)) (λ e. omega (arith, e)) over)
-  ran_settled Long ran over = over_more ran
-
-  -- so does one whose status is such
-  pub run_settles : (end : End) → Ran P old new left0 left1 end → (status : ℕ) → status ≡ status_of end → IsSettled P all old new status
-  run_settles end ran status is over = let settled = ran_settled end ran (subst IsOverInput is over) in (is ∙ settled.0, settled.1)
-
--- the status of a command that ended with 0, 4, 6 or 9 is that of its end
-pub over_by_end : (end : End) (status note0 note1 : ℕ) → IsStatus end status note0 note1 → IsOverInput status → status ≡ status_of end
-over_by_end end status note0 note1 (inl is) over = is.1
-over_by_end end status note0 note1 (inr (inl sink)) over = by_end end sink.1
-  where
-    by_end : (end : End) → status ≡ status_without_note end → status ≡ status_of end
-    by_end Open is = absurd (none_other 7 (λ e. omega (arith, e)) (λ e. omega (arith, e)) (λ e. omega (arith, e)) (λ e. omega (arith, e)) (subst IsOverInput is over))
-    by_end Done is = is
-    by_end Usage is = is
-    by_end (Objected what) is = is
-    by_end (Refused why) is = is
-    by_end (Input fault) is = is
-    by_end (Budget at) is = is
-    by_end (Deep at) is = is
-    by_end FileFailed is = is
-    by_end ReadFailed is = is
-    by_end WriteFailed is = is
-    by_end Memory is = is
-    by_end Long is = is
-over_by_end end status note0 note1 (inr (inr eight)) over =
-    absurd (none_other 8 (λ e. omega (arith, e)) (λ e. omega (arith, e)) (λ e. omega (arith, e)) (λ e. omega (arith, e)) (subst IsOverInput eight.1 over))
+  run_settles (Input fault) ran over = input_settles fault ran ran.ended refl ran.at.may.0 ran.at.may.1
+  run_settles Long ran over = over_more ran
+  run_settles Usage ran over = absurd over
+  run_settles (Objected what) ran over = absurd over
+  run_settles (Refused why) ran over = absurd over
+  run_settles (Budget at) ran over = absurd over
+  run_settles (Deep at) ran over = absurd over
+  run_settles FileFailed ran over = absurd over
+  run_settles ReadFailed ran over = absurd over
+  run_settles WriteFailed ran over = absurd over
+  run_settles Memory ran over = absurd over
 
 -- neither what is found in an input nor what is accepted, answered or due hangs on the budget
 module _ (P : Meaning) (c : ℕ) where
@@ -243,17 +206,17 @@ module _ (P : Meaning) (c : ℕ) where
   same_due all =
       ap (λ (bytes : List ℕ). (opening P.version ++ P.first) ++ bytes) (same_answers [] (accepted P (whole all))) ∙ ap (output with_budget) (same_accepted [] (whole all))
 
-  same_status : (all : List ℕ) → status_over P all ≡ status_over with_budget all
-  same_status all =
+  same_end : (all : List ℕ) → end_over P all ≡ end_over with_budget all
+  same_end all =
       let bytes = counted all in
       let ends = ends_there all in
-      ap (λ (o : Option InputFault). status_by o ends (P.finishes (accepted P (whole bytes)))) (same_found bytes [] (whole bytes) (byte_finding (ending bytes) ends (length bytes)))
-      ∙ ap (λ (w : List StreamEvent). status_by (finding with_budget bytes ends) ends (P.finishes w)) (same_accepted [] (whole bytes))
+      ap (λ (o : Option InputFault). end_by o ends (P.finishes (accepted P (whole bytes)))) (same_found bytes [] (whole bytes) (byte_finding (ending bytes) ends (length bytes)))
+      ∙ ap (λ (w : List StreamEvent). end_by (finding with_budget bytes ends) ends (P.finishes w)) (same_accepted [] (whole bytes))
 
   -- so a run settles with any budget
-  pub any_budget : (all : List ℕ) (old new : Option (List Move)) (status : ℕ) → IsSettled P all old new status → IsSettled with_budget all old new status
-  any_budget all old new status settles over =
+  pub any_budget : (all : List ℕ) (old new : Option (List Move)) (end : End) → IsSettled P all old new end → IsSettled with_budget all old new end
+  any_budget all old new end settles over =
       let settled = settles over in (
-        settled.0 ∙ same_status all,
+        settled.0 ∙ same_end all,
         λ told is. let adds = settled.1 told is in (adds.0, adds.1, adds.2 ∙ same_due (counted all)),
       )

@@ -21,8 +21,9 @@ use Rattle.delta_loop.proofs.Completeness.{good_end, good_status}
 use Rattle.delta_output.specs.LoopMeaning.{meaning_of}
 use Rattle.output_laws.specs.TreeOneShot.{one_shot_of}
 use Rattle.commands.specs.Running.{RanIts, RunsText}
-use Rattle.delta_run.specs.Text.{RanText, RunsPromptly, RunsIts, RunsMoves, RunsWell}
+use Rattle.delta_run.specs.Text.{Takes, RanText, RunsPromptly, RunsIts, RunsMoves, RunsWell}
 use Rattle.delta_run.specs.Evaluated.{RefusesUnwritable}
+use Rattle.delta_run.proofs.Takings.{takes_none, ran_takes}
 
 module _ (text : List ℕ) (budget : ℕ) (v : Version) (old new : Option (List Move)) (left0 left1 : Option (List ℕ)) where
   prompt_of : (end : End) → RanIts text budget v old new left0 left1 end → Adds old new (RunsPromptly text budget v)
@@ -69,6 +70,27 @@ module _ (text : List ℕ) (budget : ℕ) (v : Version) (old new : Option (List 
   text_reads ReadFailed ran = reads_of ReadFailed ran
   text_reads WriteFailed ran = reads_of WriteFailed ran
   text_reads Long ran = reads_of Long ran
+
+  takes_of : (end : End) → RanIts text budget v old new left0 left1 end → Adds old new (Takes left0 left1)
+  takes_of end ran = ran_takes old new left0 left1 ran.0 end ran.2
+
+  -- it takes what it reads of what is left
+  pub text_takes : (end : End) → RanText text budget v old new left0 left1 end → Adds old new (Takes left0 left1)
+  text_takes Usage ran = takes_of Usage ran
+  text_takes (Objected what) ran = takes_of (Objected what) ran
+  text_takes FileFailed ran = takes_none old new left0 left1 ran
+  text_takes (Refused None) ran = absurd ran
+  text_takes (Refused (Some why)) ran = takes_none old new left0 left1 ran.1
+  text_takes Memory (inl same) = takes_none old new left0 left1 same
+  text_takes Memory (inr ran) = takes_of Memory ran
+  text_takes Done ran = takes_of Done ran
+  text_takes (Input fault) ran = takes_of (Input fault) ran
+  text_takes (Budget at) ran = takes_of (Budget at) ran
+  text_takes (Deep at) ran = takes_of (Deep at) ran
+  text_takes Open ran = takes_of Open ran
+  text_takes ReadFailed ran = takes_of ReadFailed ran
+  text_takes WriteFailed ran = takes_of WriteFailed ran
+  text_takes Long ran = takes_of Long ran
 
   runs_of : (end : End) → IsOfLoop end → RanIts text budget v old new left0 left1 end → Adds old new (RunsIts text budget v end)
   runs_of end loop ran told is =

@@ -32,3 +32,4 @@ pub mod SavesAgain
 pub mod Lines
 pub mod Owes
 pub mod Laws
+pub mod Agreeing

@@ -83,7 +83,7 @@ RefusesState text bytes v status =
     (p : ProgramTree) (c : CoreProgram) → IsWritable text v p c → ((k : KeptTree) → IsTypedAs c bytes k → ⊥) → (status ≡ 8) ⊎ (status ≡ 10)
 
 -- where it ended with 0, 4, 6 or 9 it is settled by its whole input, whatever the pieces and the budget
-abbrev pub ResumesSettled : List ℕ → List ℕ → Version → Option (List ℕ) → Option (List Move) → Option (List Move) → ℕ → Type 0
-ResumesSettled text bytes v left old new status =
-    (p : ProgramTree) (c : CoreProgram) → IsWritable text v p c → IsOverInput status
-    → (k : KeptTree) × IsTypedAs c bytes k × ((all : List ℕ) → left ≡ Some all → (budget : ℕ) → IsSettled (meaning_since v budget c k) all old new status)
+abbrev pub ResumesSettled : List ℕ → List ℕ → Version → Option (List ℕ) → Option (List Move) → Option (List Move) → End → Type 0
+ResumesSettled text bytes v left old new end =
+    (p : ProgramTree) (c : CoreProgram) → IsWritable text v p c → IsOverInput end
+    → (k : KeptTree) × IsTypedAs c bytes k × ((all : List ℕ) → left ≡ Some all → (budget : ℕ) → IsSettled (meaning_since v budget c k) all old new end)

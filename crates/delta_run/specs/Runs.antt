@@ -5,7 +5,7 @@ use Rattle.delta_end.specs.declared.end.End.{End}
 use Rattle.delta_end.specs.Status.{IsStill}
 use Rattle.delta_loop.specs.Answer.{Adds, ReadsWell}
 use Rattle.delta_run.specs.Outside.{Outside}
-use Rattle.delta_run.specs.Text.{OfFile, RunsPromptly, RunsMoves, RunsWell}
+use Rattle.delta_run.specs.Text.{OfFile, Takes, RunsPromptly, RunsMoves, RunsWell}
 use Rattle.delta_run.specs.Settled.{SettlesWell}
 use Rattle.delta_run.specs.Evaluated.{RefusesUnwritable}
 
@@ -15,6 +15,8 @@ pub record Runs (file : List ℕ) (budget : ℕ) (v : Version) (before after : O
   pub prompt : OfFile before.files file (λ text. Adds before.log after.log (RunsPromptly text budget v))
   -- nothing is read after the end of the input; at most 2^40 bytes are read, and one more only where there are too many
   pub reads : Adds before.log after.log (ReadsWell end)
+  -- at every end, what was left to read are the bytes that were read, and then what is left now
+  pub taken : OfFile before.files file (λ text. Adds before.log after.log (Takes before.left after.left))
   -- the end is shown by the bytes that were read and written
   pub ends : OfFile before.files file (λ text. Adds before.log after.log (RunsMoves text budget v end))
   -- an accepted text over an input that is good in whole, with no event that makes too many calls or one at too great
@@ -25,6 +27,6 @@ pub record Runs (file : List ℕ) (budget : ℕ) (v : Version) (before after : O
   -- a text that is refused, with no fault counted: status 3, or want of memory
   pub refused : OfFile before.files file
       (λ text. IsStill before.file_faults after.file_faults → IsStill before.note_faults after.note_faults → RefusesUnwritable text v status)
-  -- an accepted text whose run ended with 0, 4, 6 or 9: the status is that of the whole input, and what is due for its
-  -- first 2^40 bytes was written, whatever the pieces that it came in and the budget
-  pub settled : OfFile before.files file (λ text. SettlesWell text v before.left before.log after.log status)
+  -- an accepted text whose run ended with 0, 4, 6 or 9: the end is that of the whole input, with the first fault where one is
+  -- found, and what is due for its first 2^40 bytes was written, whatever the pieces that it came in and the budget
+  pub settled : OfFile before.files file (λ text. SettlesWell text v before.left before.log after.log end)

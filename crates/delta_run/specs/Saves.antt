@@ -6,7 +6,7 @@ use Rattle.delta_end.specs.Status.{IsStill}
 use Rattle.delta_loop.specs.Answer.{Adds, ReadsWell}
 use Rattle.commands.specs.Leaving.{ChangesState}
 use Rattle.delta_run.specs.Outside.{Outside}
-use Rattle.delta_run.specs.Text.{OfFile, RunsPromptly}
+use Rattle.delta_run.specs.Text.{OfFile, Takes, RunsPromptly}
 use Rattle.delta_run.specs.Settled.{SettlesWell}
 use Rattle.delta_run.specs.Evaluated.{RefusesUnwritable}
 use Rattle.delta_run.specs.Saved.{SavesMoves, LeavesState, SavesWell}
@@ -17,6 +17,8 @@ pub record Saves (file state : List ℕ) (budget : ℕ) (v : Version) (before af
   pub prompt : OfFile before.files file (λ text. Adds before.log after.log (RunsPromptly text budget v))
   -- nothing is read after the end of the input; at most 2^40 bytes are read, and one more only where there are too many
   pub reads : Adds before.log after.log (ReadsWell end)
+  -- at every end, what was left to read are the bytes that were read, and then what is left now
+  pub taken : OfFile before.files file (λ text. Adds before.log after.log (Takes before.left after.left))
   -- the end is shown by the bytes that were read and written: it is that of a run, or one that ended well stands behind it
   pub ends : OfFile before.files file (λ text. Adds before.log after.log (SavesMoves text budget v end))
   -- where it ended well, the state after all that was read is left; where it is told that it is too large, it is
@@ -31,6 +33,6 @@ pub record Saves (file state : List ℕ) (budget : ℕ) (v : Version) (before af
   -- a text that is refused, with no fault counted: status 3, or want of memory
   pub refused : OfFile before.files file
       (λ text. IsStill before.file_faults after.file_faults → IsStill before.note_faults after.note_faults → RefusesUnwritable text v status)
-  -- an accepted text whose run ended with 0, 4, 6 or 9: the status is that of the whole input, and what is due for its
-  -- first 2^40 bytes was written, whatever the pieces that it came in and the budget
-  pub settled : OfFile before.files file (λ text. SettlesWell text v before.left before.log after.log status)
+  -- an accepted text whose run ended with 0, 4, 6 or 9: the end is that of the whole input, with the first fault where one is
+  -- found, and what is due for its first 2^40 bytes was written, whatever the pieces that it came in and the budget
+  pub settled : OfFile before.files file (λ text. SettlesWell text v before.left before.log after.log end)

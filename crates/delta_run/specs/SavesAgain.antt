@@ -6,7 +6,7 @@ use Rattle.delta_end.specs.Status.{IsStill}
 use Rattle.delta_loop.specs.Answer.{Adds, ReadsWell}
 use Rattle.commands.specs.Leaving.{ChangesState}
 use Rattle.delta_run.specs.Outside.{Outside}
-use Rattle.delta_run.specs.Text.{OfFile}
+use Rattle.delta_run.specs.Text.{OfFile, Takes}
 use Rattle.delta_run.specs.Evaluated.{RefusesUnwritable}
 use Rattle.delta_run.specs.Resumed.{ResumesPromptly, RefusesState, ResumesSettled}
 use Rattle.delta_run.specs.SavedAgain.{SavesAgainMoves, LeavesStateAgain, SavesAgainWell}
@@ -17,6 +17,8 @@ pub record SavesAgain (file state old : List ℕ) (budget : ℕ) (v : Version) (
   pub prompt : OfFile before.files file (λ text. OfFile before.files old (λ bytes. Adds before.log after.log (ResumesPromptly text bytes budget v)))
   -- nothing is read after the end of the input; at most 2^40 bytes are read, and one more only where there are too many
   pub reads : Adds before.log after.log (ReadsWell end)
+  -- at every end, what was left to read are the bytes that were read, and then what is left now
+  pub taken : OfFile before.files file (λ text. OfFile before.files old (λ bytes. Adds before.log after.log (Takes before.left after.left)))
   -- the end is shown by the bytes that were read and written: it is that of a run which goes on from the old state, or
   -- one that ended well stands behind it; where the text or the old state is refused for what is wrong first, there are none
   pub ends : OfFile before.files file (λ text. OfFile before.files old (λ bytes. Adds before.log after.log (SavesAgainMoves text bytes budget v end)))
@@ -39,7 +41,7 @@ pub record SavesAgain (file state old : List ℕ) (budget : ℕ) (v : Version) (
   -- a text that is refused, whatever the third file is, with no fault counted: status 3, or want of memory
   pub refused : OfFile before.files file
       (λ text. IsStill before.file_faults after.file_faults → IsStill before.note_faults after.note_faults → RefusesUnwritable text v status)
-  -- an accepted text whose run ended with 0, 4, 6 or 9: the status is that of the whole input, and what is due for its
-  -- first 2^40 bytes was written, whatever the pieces that it came in and the budget
+  -- an accepted text whose run ended with 0, 4, 6 or 9: the end is that of the whole input, with the first fault where one is
+  -- found, and what is due for its first 2^40 bytes was written, whatever the pieces that it came in and the budget
   pub settled : OfFile before.files file
-      (λ text. OfFile before.files old (λ bytes. ResumesSettled text bytes v before.left before.log after.log status))
+      (λ text. OfFile before.files old (λ bytes. ResumesSettled text bytes v before.left before.log after.log end))

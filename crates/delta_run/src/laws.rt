@@ -1,7 +1,8 @@
-//! The laws of runs that are saved, saved again and resumed, each the contract of a function with nothing in it. What they say stands
-//! in `specs/Laws.antt`.
+//! The laws of runs that are saved, saved again and resumed, and of runs of one text, each the contract of a function with nothing in
+//! it. What they say stands in `specs/Laws.antt` and `specs/Agreeing.antt`.
 
 ghost use Rattle.delta_run.specs.Laws.{StateIsOne, LeftIsTyped, LeftAgainIsTyped, FramesJoin, DueJoins, KeptFurther, RunsJoin, AllRunsJoin};
+ghost use Rattle.delta_run.specs.Agreeing.{RunIsMeant, RunsAgree, RunsGrow};
 
 /// Bytes are those of one typed state at most whose numbers have their sizes.
 pub fn state_is_one()
@@ -43,4 +44,20 @@ pub fn runs_join()
 /// resumes from what was left last.
 pub fn all_runs_join()
     ensures { AllRunsJoin }
+{}
+
+/// A run wrote what the program gives, in one look, on what it took of its input.
+pub fn run_is_meant()
+    ensures { RunIsMeant }
+{}
+
+/// Two runs of one text that took one prefix of the input's type wrote one prefix of the output's type, whatever the pieces,
+/// the order of events that come side by side, the versions and the budgets.
+pub fn runs_agree()
+    ensures { RunsAgree }
+{}
+
+/// And where the one took a part of what the other took, it wrote a part of what that wrote.
+pub fn runs_grow()
+    ensures { RunsGrow }
 {}
