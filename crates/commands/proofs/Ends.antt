@@ -15,6 +15,8 @@ use Rattle.delta_loop.proofs.Returning.{adds_none, ran_reads, unread}
 use Rattle.delta_runner.specs.KeptOneShot.{meaning_since}
 use Rattle.commands.specs.Resuming.{end_of, IsSmallFault, GoesOn, Resumes, OfState, ResumesFile}
 use Rattle.commands.specs.Texts.{ResumesIts, ResumesText}
+use Rattle.commands.specs.Running.{Takes}
+use Rattle.commands.proofs.Takings.{takes_none, ran_takes}
 use Rattle.commands.proofs.Places.{form_within}
 
 -- a fault that is told of bytes has a small place
@@ -71,6 +73,29 @@ module _ (c : CoreProgram) (budget : ℕ) (v : Version) (bytes : List ℕ) (old 
   resumes_reads ReadFailed on = reads_of ReadFailed on
   resumes_reads WriteFailed on = reads_of WriteFailed on
   resumes_reads Long on = reads_of Long on
+
+  takes_of : (end : End) → GoesOn c budget v bytes old new left0 left1 end → Adds old new (Takes left0 left1)
+  takes_of end on = ran_takes old new left0 left1 (meaning_since v budget c on.kept) end on.ran
+
+  -- it takes what it reads of what is left
+  pub resumes_takes : (end : End) → Resumes c budget v bytes old new left0 left1 end → Adds old new (Takes left0 left1)
+  resumes_takes (Objected (State name at)) told = takes_none old new left0 left1 told.1
+  resumes_takes Memory (inl untouched) = takes_none old new left0 left1 untouched
+  resumes_takes Memory (inr on) = takes_of Memory on
+  resumes_takes Done on = takes_of Done on
+  resumes_takes Usage on = takes_of Usage on
+  resumes_takes (Refused why) on = takes_of (Refused why) on
+  resumes_takes (Input fault) on = takes_of (Input fault) on
+  resumes_takes (Budget at) on = takes_of (Budget at) on
+  resumes_takes (Deep at) on = takes_of (Deep at) on
+  resumes_takes Open on = takes_of Open on
+  resumes_takes FileFailed on = takes_of FileFailed on
+  resumes_takes ReadFailed on = takes_of ReadFailed on
+  resumes_takes WriteFailed on = takes_of WriteFailed on
+  resumes_takes Long on = takes_of Long on
+  resumes_takes (Objected (Derivation name at)) on = takes_of (Objected (Derivation name at)) on
+  resumes_takes (Objected (Bound name at)) on = takes_of (Objected (Bound name at)) on
+  resumes_takes (Objected (Table name file row)) on = takes_of (Objected (Table name file row)) on
 
   -- it isn't usage
   pub resumes_usage : (end : End) → Resumes c budget v bytes old new left0 left1 end → end ≡ Usage → ⊥

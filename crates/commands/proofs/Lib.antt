@@ -2,6 +2,7 @@
 mod Gathered
 mod Evaluated
 pub mod Ran
+pub mod Takings
 pub mod Behind
 pub mod Leaving
 pub mod SaveTexts

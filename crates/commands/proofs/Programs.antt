@@ -14,7 +14,6 @@ use Rattle.delta_elab.specs.Accepted.{IsAccepted}
 use Rattle.table_feed.specs.declared.fault.FeedFault.{FeedFault}
 use Rattle.table_feed.specs.declared.fault.FeedFault.TheVariants as fault
 use Rattle.delta_end.specs.declared.end.End.{End}
-use Rattle.delta_end.specs.declared.end.End.TheVariants.{Memory, Long}
 use Rattle.checked_program.specs.Acceptance.{IsAcceptedAs}
 use Rattle.commands.specs.Tables.{Takes, IsWrong, told_as, given_text, tables_word, IsCostlyAt, IsDeepAt, OfTables}
 use Rattle.commands.specs.Feeding.{input_of, IsFed, Spends, Sinks, Tells, TellsFront}

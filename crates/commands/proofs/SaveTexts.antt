@@ -24,6 +24,8 @@ use Rattle.output_laws.proofs.Meant.{same_one_shot}
 use Rattle.commands.specs.Leaving.{from_start, Way, Ended, LeavesState, Saves}
 use Rattle.commands.specs.Resuming.{IsTypedAs, end_of}
 use Rattle.commands.specs.Saving.{way_of_tree, way_since, SavesText, LeavesAgain, SavesBytes, SavesFrom, SavesTextFrom}
+use Rattle.commands.specs.Running.{Takes}
+use Rattle.commands.proofs.Takings.{ran_takes}
 use Rattle.commands.proofs.Behind.{reads_behind, usage_behind}
 use Rattle.commands.proofs.Ends.{refuses, goes_on, of_file, resumes_text}
 use Rattle.commands.proofs.Leaving.{changes_nothing}
@@ -32,6 +34,10 @@ use Rattle.commands.proofs.Ran.{ran_its, runs_text}
 -- a run that leaves its state doesn't read after the end of the input, nor more than it may
 pub saves_reads : (w : Way) (name : List ℕ) (files0 files1 : Option (List ℕ → List ℕ)) (end : End) → Saves w name files0 files1 end → Adds w.old w.new (ReadsWell end)
 saves_reads w name files0 files1 end saves = reads_behind end saves.behind w.old w.new saves.is_behind (ran_reads w.meaning w.old w.new w.left0 w.left1 saves.behind saves.ended)
+
+-- it takes what it reads of what is left
+pub saves_takes : (w : Way) (name : List ℕ) (files0 files1 : Option (List ℕ → List ℕ)) (end : End) → Saves w name files0 files1 end → Adds w.old w.new (Takes w.left0 w.left1)
+saves_takes w name files0 files1 end saves = ran_takes w.old w.new w.left0 w.left1 w.meaning saves.behind saves.ended
 
 -- and it isn't usage
 pub saves_usage : (w : Way) (name : List ℕ) (files0 files1 : Option (List ℕ → List ℕ)) (end : End) → Saves w name files0 files1 end → end ≡ Usage → ⊥

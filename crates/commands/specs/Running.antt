@@ -1,11 +1,13 @@
 -- What a run of a text does to a link, by how it ended.
-use Rattle.std.specs.Prelude.{◌≡◌, ◌⊎◌, ℕ, List, Option, Some, None}
+use Rattle.std.specs.Prelude.{◌≡◌, ◌⊎◌, ⊤, ℕ, List, Option, Some, None}
 use Rattle.port.specs.declared.link.Move.{Move}
+use Rattle.port.specs.Moves.{bytes_read}
+use Rattle.port.specs.Told.{Loses}
 use Rattle.event_frame.specs.declared.version.Version.{Version}
 use Rattle.delta_tree.specs.SyntaxTree.{ProgramTree}
 use Rattle.core_term.specs.CoreTerm.{CoreProgram}
 use Rattle.delta_end.specs.declared.end.End.{End}
-use Rattle.delta_end.specs.declared.end.End.TheVariants.{Refused, Memory}
+use Rattle.delta_end.specs.declared.end.End.TheVariants.{Refused, FileFailed, Memory}
 use Rattle.checked_program.specs.Acceptance.{IsWritable, IsRefusedToWrite}
 use Rattle.delta_loop.specs.Meaning.{Meaning}
 use Rattle.delta_loop.specs.History.{IsUntouched}
@@ -20,6 +22,16 @@ pub record IsMeant (text : List ℕ) (budget : ℕ) (v : Version) (P : Meaning) 
   pub core : CoreProgram
   pub accepted : IsWritable text v program core
   pub means : P ≡ meaning_of v budget (one_shot_of program)
+
+-- what was left to read before these moves are the bytes that they read, and then what is left now
+abbrev pub Takes : Option (List ℕ) → Option (List ℕ) → List Move → Type 0
+Takes before now moves = Loses before now (bytes_read moves)
+
+-- no program was run: the text was refused, or a file wasn't read
+abbrev pub IsUnrun : End → Type 0
+IsUnrun (Refused why) = ⊤
+IsUnrun FileFailed = ⊤
+IsUnrun end = ⊥
 
 -- the program of a text ran, and ended so
 abbrev pub RanIts : List ℕ → ℕ → Version → Option (List Move) → Option (List Move) → Option (List ℕ) → Option (List ℕ) → End → Type 0

@@ -11,6 +11,7 @@ ghost use Rattle.checked_program.specs.Acceptance.{IsAcceptedAs};
 ghost use Rattle.delta_bound.specs.Refusals.{Refuses};
 ghost use Rattle.delta_loop.specs.History.{Writes};
 ghost use Rattle.commands.specs.Bounding.{bound_line, Tells, TellsAll};
+ghost use Rattle.commands.specs.Running.{IsUnrun};
 
 use checked_program::{accept, dismiss};
 use core_term::Checked;
@@ -78,10 +79,11 @@ fn line_of_text(alloc: Global, text: &[u8]) -> Result<String, End>
 
 /// Writes the bound of the program that a text is to the link, which isn't read: how many events the program
 /// can ever hold back. `Tells` of `specs/Bounding.antt` says what was written at each end, and for what a text
-/// is refused, or a bound.
+/// is refused, or a bound. Where it is refused the link isn't touched.
 pub fn bound_source<L: Link>(alloc: Global, text: &[u8], link: &mut L) -> End
     ensures told { (sent : List ℕ) × Writes (L.log link.old) (L.log link.new) sent × Tells text.now sent result }
     ensures unread { L.left link.new ≡ L.left link.old }
+    ensures unrun { IsUnrun result → L.log link.new ≡ L.log link.old }
     ensures read { L.read_faults link.new ≡ L.read_faults link.old }
     ensures write { WriteCause result (L.write_faults link.old) (L.write_faults link.new) }
 {
@@ -96,6 +98,7 @@ pub fn bound_source<L: Link>(alloc: Global, text: &[u8], link: &mut L) -> End
 fn send_line<L: Link>(link: &mut L, line: &[u8]) -> End
     ensures told { (text : List ℕ) → TellsAll text line.now → (sent : List ℕ) × Writes (L.log link.old) (L.log link.new) sent × Tells text sent result }
     ensures unread { L.left link.new ≡ L.left link.old }
+    ensures told_of { IsUnrun result → ⊥ }
     ensures read { L.read_faults link.new ≡ L.read_faults link.old }
     ensures write { WriteCause result (L.write_faults link.old) (L.write_faults link.new) }
 {

@@ -6,6 +6,7 @@ ghost use Rattle.delta_loop.specs.History.{Writes};
 ghost use Rattle.commands.specs.Tables.{OfTables};
 ghost use Rattle.commands.specs.Feeding.{Tells, IsFed, IsOfFeed};
 ghost use Rattle.commands.specs.Given.{AreHeld, IsUnwritten};
+ghost use Rattle.commands.specs.Running.{IsUnrun};
 
 use crate::tables_run::text_given;
 use checked_program::{accept, dismiss};
@@ -53,7 +54,7 @@ fn text_fed<M: Machine, S: Shelf>(
 /// Feeds the tables in files to the program of a text, their events in the order of the schedule and with so many
 /// calls at the start and at each event, and writes the table that it gives to the link, which isn't read. `Tells` of
 /// `specs/Feeding.antt` says what was written at each end, and what stands behind it. Nothing is written before the
-/// program took the last event.
+/// program took the last event; where the text is refused, or a file isn't read, the link isn't touched, whatever the shelf tells.
 pub fn feed_source<M: Machine, S: Shelf, L: Link>(
     alloc: Global,
     text: &[u8],
@@ -68,6 +69,7 @@ pub fn feed_source<M: Machine, S: Shelf, L: Link>(
         × OfTables (S.holds shelf.old) (map string_bytes names.now) (λ tables. Tells text.now schedule.now tables budget sent result) }
     ensures ends { IsOfFeed result }
     ensures unread { L.left link.new ≡ L.left link.old }
+    ensures unrun { IsUnrun result → L.log link.new ≡ L.log link.old }
     ensures held { S.holds shelf.new ≡ S.holds shelf.old }
     ensures file { FileCause result (S.faults shelf.old) (S.faults shelf.new) }
     ensures read { L.read_faults link.new ≡ L.read_faults link.old }

@@ -12,6 +12,7 @@ ghost use Rattle.delta_keep.specs.KeptView.{kept_of, places_kept};
 ghost use Rattle.delta_end.specs.declared.end.End.{End};
 ghost use Rattle.delta_end.specs.End.{IsOfLoop, FileCause, ReadCause, WriteCause};
 ghost use Rattle.delta_loop.specs.Answer.{Adds, ReadsWell};
+ghost use Rattle.commands.specs.Running.{Takes};
 ghost use Rattle.delta_loop.specs.Loop.{IsWellEnded, RanTo};
 ghost use Rattle.delta_loop.specs.Meaning.{Meaning};
 ghost use Rattle.delta_runner.specs.Standing.{StandsFor};
@@ -104,6 +105,7 @@ fn save_again<M: Keeping, L: Link, S: Shelf>(
     requires short { reach_of (core_of c.now).main.result ≤ longest version }
     ensures saved { Saves (way_since (L.log link.old) (L.log link.new) (L.left link.old) (L.left link.new) (core_of c.now) (kept_of k.now) budget version) name.now (S.holds shelf.old) (S.holds shelf.new) result }
     ensures reads { Adds (L.log link.old) (L.log link.new) (ReadsWell result) }
+    ensures taken { Adds (L.log link.old) (L.log link.new) (Takes (L.left link.old) (L.left link.new)) }
     ensures saves { result ≢ End.Usage }
     ensures file { FileCause result (S.faults shelf.old) (S.faults shelf.new) }
     ensures read { ReadCause result (L.read_faults link.old) (L.read_faults link.new) }
@@ -137,6 +139,7 @@ fn save_bytes<M: Keeping, L: Link, S: Shelf>(
     requires short { reach_of (core_of c.now).main.result ≤ longest version }
     ensures saved { SavesBytes (L.log link.old) (L.log link.new) (L.left link.old) (L.left link.new) (core_of c.now) budget version bytes.now name.now (S.holds shelf.old) (S.holds shelf.new) result }
     ensures reads { Adds (L.log link.old) (L.log link.new) (ReadsWell result) }
+    ensures taken { Adds (L.log link.old) (L.log link.new) (Takes (L.left link.old) (L.left link.new)) }
     ensures saves { result ≢ End.Usage }
     ensures file { FileCause result (S.faults shelf.old) (S.faults shelf.new) }
     ensures read { ReadCause result (L.read_faults link.old) (L.read_faults link.new) }
@@ -169,6 +172,7 @@ pub fn save_checked_from<M: Keeping, L: Link, S: Shelf>(
     requires short { reach_of (core_of c.now).main.result ≤ longest version }
     ensures saved { SavesFrom (L.log link.old) (L.log link.new) (L.left link.old) (L.left link.new) (core_of c.now) budget version from.now name.now (S.holds shelf.old) (S.holds shelf.new) result }
     ensures reads { Adds (L.log link.old) (L.log link.new) (ReadsWell result) }
+    ensures taken { Adds (L.log link.old) (L.log link.new) (Takes (L.left link.old) (L.left link.new)) }
     ensures saves { result ≢ End.Usage }
     ensures file { FileCause result (S.faults shelf.old) (S.faults shelf.new) }
     ensures read { ReadCause result (L.read_faults link.old) (L.read_faults link.new) }

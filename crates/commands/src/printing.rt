@@ -4,6 +4,7 @@ ghost use Rattle.std.specs.Prelude.{◌≡◌, List, ℕ, [], string_bytes, IfOk
 ghost use Rattle.delta_end.specs.End.{WriteCause};
 ghost use Rattle.delta_loop.specs.History.{Writes};
 ghost use Rattle.commands.specs.Printing.{Prints, PrintsAll};
+ghost use Rattle.commands.specs.Running.{IsUnrun};
 
 use delta_end::End;
 use delta_loop::send;
@@ -33,10 +34,11 @@ fn canonical_text_of(alloc: Global, text: &[u8]) -> Result<String, End>
 }
 
 /// Writes the canonical text of the program that a text is to the link, which isn't read. `Prints` of
-/// `specs/Printing.antt` says what was written at each end, and for what a text is refused.
+/// `specs/Printing.antt` says what was written at each end, and for what a text is refused. Where it is, the link isn't touched.
 pub fn print_source<L: Link>(alloc: Global, text: &[u8], link: &mut L) -> End
     ensures printed { (sent : List ℕ) × Writes (L.log link.old) (L.log link.new) sent × Prints text.now sent result }
     ensures unread { L.left link.new ≡ L.left link.old }
+    ensures unrun { IsUnrun result → L.log link.new ≡ L.log link.old }
     ensures read { L.read_faults link.new ≡ L.read_faults link.old }
     ensures write { WriteCause result (L.write_faults link.old) (L.write_faults link.new) }
 {

@@ -7,6 +7,7 @@ ghost use Rattle.core_term.specs.CoreTerm.{core_of, fits_of};
 ghost use Rattle.delta_end.specs.declared.end.End.{End};
 ghost use Rattle.delta_end.specs.End.{FileCause, ReadCause, WriteCause};
 ghost use Rattle.delta_loop.specs.Answer.{Adds, ReadsWell};
+ghost use Rattle.commands.specs.Running.{Takes};
 ghost use Rattle.commands.specs.Resuming.{Resumes, ResumesFile};
 
 use crate::refusing::fault_end;
@@ -34,6 +35,7 @@ fn resume_bytes<M: Keeping, L: Link>(
     requires short { reach_of (core_of c.now).main.result ≤ longest version }
     ensures resumed { Resumes (core_of c.now) budget version bytes.now (L.log link.old) (L.log link.new) (L.left link.old) (L.left link.new) result }
     ensures reads { Adds (L.log link.old) (L.log link.new) (ReadsWell result) }
+    ensures taken { Adds (L.log link.old) (L.log link.new) (Takes (L.left link.old) (L.left link.new)) }
     ensures resumes { result ≢ End.Usage }
     ensures file { (count : ℕ) → FileCause result count count }
     ensures read { ReadCause result (L.read_faults link.old) (L.read_faults link.new) }
@@ -65,6 +67,7 @@ pub fn resume_checked<M: Keeping, L: Link, S: Shelf>(
     requires short { reach_of (core_of c.now).main.result ≤ longest version }
     ensures resumed { ResumesFile (core_of c.now) budget version (S.holds shelf.old) name.now (L.log link.old) (L.log link.new) (L.left link.old) (L.left link.new) result }
     ensures reads { Adds (L.log link.old) (L.log link.new) (ReadsWell result) }
+    ensures taken { Adds (L.log link.old) (L.log link.new) (Takes (L.left link.old) (L.left link.new)) }
     ensures resumes { result ≢ End.Usage }
     ensures held { S.holds shelf.new ≡ S.holds shelf.old }
     ensures file { FileCause result (S.faults shelf.old) (S.faults shelf.new) }

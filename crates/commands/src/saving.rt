@@ -4,6 +4,7 @@ ghost use Rattle.std.specs.Prelude.{◌≢◌, ◌≤◌};
 ghost use Rattle.delta_end.specs.declared.end.End.{End};
 ghost use Rattle.delta_end.specs.End.{FileCause, ReadCause, WriteCause};
 ghost use Rattle.delta_loop.specs.Answer.{Adds, ReadsWell};
+ghost use Rattle.commands.specs.Running.{Takes};
 ghost use Rattle.commands.specs.Saving.{SavesText, SavesTextFrom};
 
 use crate::keeping::save_checked;
@@ -72,6 +73,7 @@ pub fn save_source_from<M: Keeping, L: Link, S: Shelf>(
     requires { budget ≤ 1000000 }
     ensures saved { SavesTextFrom (L.log link.old) (L.log link.new) (L.left link.old) (L.left link.new) text.now budget version from.now name.now (S.holds shelf.old) (S.holds shelf.new) result }
     ensures reads { Adds (L.log link.old) (L.log link.new) (ReadsWell result) }
+    ensures taken { Adds (L.log link.old) (L.log link.new) (Takes (L.left link.old) (L.left link.new)) }
     ensures saves { result ≢ End.Usage }
     ensures file { FileCause result (S.faults shelf.old) (S.faults shelf.new) }
     ensures read { ReadCause result (L.read_faults link.old) (L.read_faults link.new) }

@@ -4,6 +4,7 @@ ghost use Rattle.std.specs.Prelude.{◌≡◌, ◌≢◌, ◌≤◌};
 ghost use Rattle.delta_end.specs.declared.end.End.{End};
 ghost use Rattle.delta_end.specs.End.{FileCause, ReadCause, WriteCause};
 ghost use Rattle.delta_loop.specs.Answer.{Adds, ReadsWell};
+ghost use Rattle.commands.specs.Running.{Takes};
 ghost use Rattle.commands.specs.Texts.{ResumesText};
 
 use crate::resuming::resume_checked;
@@ -33,6 +34,7 @@ pub fn resume_source<M: Keeping, L: Link, S: Shelf>(
     requires { budget ≤ 1000000 }
     ensures resumed { ResumesText text.now budget version (S.holds shelf.old) name.now (L.log link.old) (L.log link.new) (L.left link.old) (L.left link.new) result }
     ensures reads { Adds (L.log link.old) (L.log link.new) (ReadsWell result) }
+    ensures taken { Adds (L.log link.old) (L.log link.new) (Takes (L.left link.old) (L.left link.new)) }
     ensures resumes { result ≢ End.Usage }
     ensures held { S.holds shelf.new ≡ S.holds shelf.old }
     ensures file { FileCause result (S.faults shelf.old) (S.faults shelf.new) }

@@ -17,14 +17,15 @@ use Rattle.delta_end.proofs.Statuses.{not_rose, answered, answered_eight, with_s
 use Rattle.checked_program.specs.Acceptance.{IsWritable}
 use Rattle.checked_program.proofs.OneAnswer.{accepted_is_one, writing_is_judged}
 use Rattle.delta_loop.specs.Answer.{Adds, IsGood, ReadsWell}
+use Rattle.delta_loop.specs.History.{IsUntouched}
 use Rattle.delta_loop.specs.Finding.{finding}
 use Rattle.delta_loop.specs.Prompt.{has_ended}
 use Rattle.delta_loop.proofs.Completeness.{whole_good, part_good}
 use Rattle.delta_loop.proofs.Returning.{adds_none, reads_well, unread}
 use Rattle.commands.specs.Gathering.{gathering}
 use Rattle.commands.specs.Evaluating.{input_of, calls_on, evaluation, MayEnd, Evaluates, EvaluatesIts, EvaluatesText}
-use Rattle.delta_run.specs.Text.{Takes}
-use Rattle.delta_run.proofs.Takings.{takes_none, takes_read}
+use Rattle.commands.specs.Running.{Takes, IsUnrun}
+use Rattle.commands.proofs.Takings.{takes_none, takes_read}
 use Rattle.delta_run.specs.Evaluated.{EvaluatedText, EvaluatesMoves, EvalsText, RefusesUnwritable}
 
 module _ (text : List ℕ) (budget : ℕ) (v : Version) (old new : Option (List Move)) (left0 left1 : Option (List ℕ)) where
@@ -106,6 +107,23 @@ module _ (text : List ℕ) (budget : ℕ) (v : Version) (old new : Option (List 
   evals_takes ReadFailed ran = takes_of ReadFailed ran
   evals_takes WriteFailed ran = takes_of WriteFailed ran
   evals_takes Long ran = takes_of Long ran
+
+  -- where no program was evaluated nothing is read or written
+  pub evals_unrun : (end : End) → EvaluatedText text budget v old new left0 left1 end → IsUnrun end → IsUntouched old new left0 left1
+  evals_unrun FileFailed ran is = ran
+  evals_unrun (Refused None) ran is = absurd ran
+  evals_unrun (Refused (Some why)) ran is = ran.1
+  evals_unrun Done ran is = absurd is
+  evals_unrun (Input fault) ran is = absurd is
+  evals_unrun (Budget at) ran is = absurd is
+  evals_unrun (Deep at) ran is = absurd is
+  evals_unrun Open ran is = absurd is
+  evals_unrun ReadFailed ran is = absurd is
+  evals_unrun WriteFailed ran is = absurd is
+  evals_unrun Long ran is = absurd is
+  evals_unrun Usage ran is = absurd is
+  evals_unrun (Objected what) ran is = absurd is
+  evals_unrun Memory ran is = absurd is
 
   -- it isn't usage
   pub evals_usage : (end : End) → EvaluatedText text budget v old new left0 left1 end → end ≡ Usage → ⊥

@@ -1,6 +1,5 @@
 -- Lemmas, each file named for what it is about.
 pub mod CommandLines
-pub mod Takings
 pub mod TextRuns
 pub mod Settling
 pub mod SettledTexts

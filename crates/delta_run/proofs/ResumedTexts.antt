@@ -28,8 +28,7 @@ use Rattle.commands.specs.Resuming.{GoesOn, IsTypedAs, IsWrong, OfState}
 use Rattle.commands.specs.Texts.{ResumesIts, ResumesText}
 use Rattle.delta_run.specs.Evaluated.{RefusesUnwritable}
 use Rattle.delta_run.specs.Resumed.{ResumedText, IsMeantSince, IsNoState, ResumesPromptly, GoesOnSo, ResumesMoves, ResumesWell, RefusesState, ResumesSettled}
-use Rattle.delta_run.specs.Text.{Takes}
-use Rattle.delta_run.proofs.Takings.{takes_none, ran_takes}
+use Rattle.commands.specs.Running.{IsUnrun}
 use Rattle.delta_run.proofs.RunsBehind.{WellEnded, is_done, is_open}
 use Rattle.delta_run.proofs.Settling.{run_settles, any_budget}
 
@@ -49,6 +48,23 @@ module _ (text : List ℕ) (budget : ℕ) (v : Version) (files : Option (List �
   resumed_text WriteFailed resumes = resumes
   resumed_text Memory resumes = resumes
   resumed_text Long resumes = resumes
+
+  -- where no program went on nothing is read or written, whatever the shelf tells
+  pub resumed_unrun : (end : End) → ResumedText text budget v files name old new left0 left1 end → IsUnrun end → IsUntouched old new left0 left1
+  resumed_unrun FileFailed ran is = ran
+  resumed_unrun (Refused None) ran is = absurd ran
+  resumed_unrun (Refused (Some why)) ran is = ran.1
+  resumed_unrun Done ran is = absurd is
+  resumed_unrun (Input fault) ran is = absurd is
+  resumed_unrun (Budget at) ran is = absurd is
+  resumed_unrun (Deep at) ran is = absurd is
+  resumed_unrun Open ran is = absurd is
+  resumed_unrun ReadFailed ran is = absurd is
+  resumed_unrun WriteFailed ran is = absurd is
+  resumed_unrun Long ran is = absurd is
+  resumed_unrun Usage ran is = absurd is
+  resumed_unrun (Objected what) ran is = absurd is
+  resumed_unrun Memory ran is = absurd is
 
   module _ (told : List ℕ → List ℕ) (files_are : files ≡ Some told) where
     abbrev pub bytes : List ℕ
@@ -118,17 +134,6 @@ module _ (text : List ℕ) (budget : ℕ) (v : Version) (files : Option (List �
         by_way _ (no_state what at r untouched) = adds_none old new (ResumesPromptly text bytes budget v) untouched.0 (inl refl)
         by_way _ (no_memory untouched) = adds_none old new (ResumesPromptly text bytes budget v) untouched.0 (inl refl)
         by_way _ (went_on end loop on) = λ log is. let adds = ran_prompt on.0 old new left0 left1 end on.2 log is in (adds.0, adds.1, inr (on.0, on.1, adds.2))
-
-    -- it takes what it reads of what is left
-    pub resumed_takes : (end : End) → ResumedText text budget v files name old new left0 left1 end → Adds old new (Takes left0 left1)
-    resumed_takes end resumes = by_way end (went end resumes)
-      where
-        by_way : (end : End) → Went end → Adds old new (Takes left0 left1)
-        by_way _ (no_file untouched) = takes_none old new left0 left1 untouched
-        by_way _ (no_text why r untouched) = takes_none old new left0 left1 untouched
-        by_way _ (no_state what at r untouched) = takes_none old new left0 left1 untouched
-        by_way _ (no_memory untouched) = takes_none old new left0 left1 untouched
-        by_way _ (went_on end loop on) = ran_takes old new left0 left1 on.0 end on.2
 
     goes_so : (end : End) → IsOfLoop end → WentOn end → Adds old new (GoesOnSo text bytes budget v end)
     goes_so end loop on log is = (on.2.at.history.moves, on.2.at.history.logged log is, (on.0, on.1, on.2.at.history.prompt, returned on.0 old new left0 left1 end loop on.2))

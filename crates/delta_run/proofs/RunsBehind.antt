@@ -12,7 +12,9 @@ use Rattle.delta_loop.specs.Meaning.{Meaning}
 use Rattle.delta_loop.specs.Loop.{Ran, IsWellEnded}
 use Rattle.delta_loop.specs.Answer.{Adds, IsGood, IsCheap, WroteAll}
 use Rattle.delta_loop.proofs.Completeness.{wrote_all}
+use Rattle.commands.specs.Running.{IsUnrun}
 use Rattle.commands.specs.Leaving.{IsBehind, ChangesState}
+use Rattle.delta_run.specs.Text.{IsRefusal}
 use Rattle.delta_run.specs.Settled.{IsOverInput}
 use Rattle.delta_run.specs.Saved.{IsCompleteWithState}
 
@@ -99,6 +101,38 @@ over_behind end ran is_behind over = by_run end ran (behind end ran is_behind) o
     by_run _ _ (too_large at ran well) over = absurd over
     by_run _ _ (unwritten ran well) over = absurd over
     by_run _ _ (wanting ran well) over = absurd over
+
+-- so did one whose text was refused,
+pub refusal_behind : (end ran : End) → IsBehind end ran → IsRefusal end → ran ≡ end
+refusal_behind (Refused why) ran same refused = same
+refusal_behind Done ran same refused = absurd refused
+refusal_behind (Input fault) ran same refused = absurd refused
+refusal_behind (Budget at) ran same refused = absurd refused
+refusal_behind (Deep at) ran same refused = absurd refused
+refusal_behind Open ran same refused = absurd refused
+refusal_behind ReadFailed ran same refused = absurd refused
+refusal_behind WriteFailed ran same refused = absurd refused
+refusal_behind Long ran same refused = absurd refused
+refusal_behind Usage ran same refused = absurd refused
+refusal_behind (Objected what) ran same refused = absurd refused
+refusal_behind Memory ran same refused = absurd refused
+refusal_behind FileFailed ran same refused = absurd refused
+
+-- for which no program was run
+pub unrun_refused : (end : End) → IsRefusal end → IsUnrun end
+unrun_refused (Refused why) refused = tt
+unrun_refused Done refused = absurd refused
+unrun_refused (Input fault) refused = absurd refused
+unrun_refused (Budget at) refused = absurd refused
+unrun_refused (Deep at) refused = absurd refused
+unrun_refused Open refused = absurd refused
+unrun_refused ReadFailed refused = absurd refused
+unrun_refused WriteFailed refused = absurd refused
+unrun_refused Long refused = absurd refused
+unrun_refused Usage refused = absurd refused
+unrun_refused (Objected what) refused = absurd refused
+unrun_refused Memory refused = absurd refused
+unrun_refused FileFailed refused = absurd refused
 
 -- a run over a good input that ended well wrote all
 wrote_well : (P : Meaning) (old new : Option (List Move)) (left0 left1 : Option (List ℕ)) (w : Version) (all : List ℕ) (word : List StreamEvent) → left0 ≡ Some all → IsGood P w all word

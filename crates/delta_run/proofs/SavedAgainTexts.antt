@@ -28,13 +28,13 @@ use Rattle.commands.specs.Leaving.{IsKeptAgain, IsSaved, LeavesState}
 use Rattle.commands.specs.Resuming.{IsTypedAs}
 use Rattle.commands.specs.Texts.{ResumesIts}
 use Rattle.commands.specs.Saving.{SavesTextFrom, LeavesAgain, way_since}
-use Rattle.delta_run.specs.Text.{Takes}
+use Rattle.delta_run.specs.Text.{IsRefusal}
 use Rattle.delta_run.specs.Evaluated.{RefusesUnwritable}
 use Rattle.delta_run.specs.Saved.{IsCompleteWithState}
 use Rattle.delta_run.specs.Resumed.{ResumedText, IsMeantSince, ResumesPromptly, ResumesWell, RefusesState, ResumesSettled}
 use Rattle.delta_run.specs.SavedAgain.{SavedAgainText, SavesAgainMoves, IsStateAgain, IsLeftAgain, LeavesStateAgain, SavesAgainWell}
-use Rattle.delta_run.proofs.RunsBehind.{same_files, WellEnded, is_done, is_open, Behind, its_own, too_large, unwritten, wanting, behind, over_behind, large_complete, wider}
-use Rattle.delta_run.proofs.ResumedTexts.{resumed_text, WentOn, well_went, resumed_prompt, resumed_takes, resumed_return, typed_as, of_this, resumed_settled, resumed_untyped, resumed_complete, resumed_refused}
+use Rattle.delta_run.proofs.RunsBehind.{same_files, WellEnded, is_done, is_open, Behind, its_own, too_large, unwritten, wanting, behind, over_behind, refusal_behind, unrun_refused, large_complete, wider}
+use Rattle.delta_run.proofs.ResumedTexts.{resumed_text, resumed_unrun, WentOn, well_went, resumed_prompt, resumed_return, typed_as, of_this, resumed_settled, resumed_untyped, resumed_complete, resumed_refused}
 
 module _ (text : List ℕ) (budget : ℕ) (v : Version) (from name : List ℕ) (old new : Option (List Move)) (left0 left1 : Option (List ℕ)) (files0 files1 : Option (List ℕ → List ℕ)) where
   abbrev Saved : End → Type 0
@@ -63,6 +63,10 @@ module _ (text : List ℕ) (budget : ℕ) (v : Version) (from name : List ℕ) (
   saved_again_unread none same =
       record { behind = FileFailed; is_behind = inl refl; ended = none; leaves = λ p c accepted told is k typed. tt; changes = same_files files0 files1 name same; still = λ ill. same }
 
+  -- where the text is refused nothing is read or written, whatever the shelf tells
+  pub saved_again_unrun : (end : End) → Saved end → IsRefusal end → IsUntouched old new left0 left1
+  saved_again_unrun end saved refused = resumed_unrun text budget v files0 from old new left0 left1 end (subst Resumed (refusal_behind end saved.behind saved.is_behind refused) saved.ended) (unrun_refused end refused)
+
   module _ (told : List ℕ → List ℕ) (files_are : files0 ≡ Some told) where
     abbrev bytes : List ℕ
     bytes = take 1048577 (told from)
@@ -70,10 +74,6 @@ module _ (text : List ℕ) (budget : ℕ) (v : Version) (from name : List ℕ) (
     -- it is prompt, as the run behind it is
     pub saved_again_prompt : (end : End) → Saved end → Adds old new (ResumesPromptly text bytes budget v)
     saved_again_prompt end saved = resumed_prompt text budget v files0 from old new left0 left1 told files_are saved.behind saved.ended
-
-    -- it takes what that run takes
-    pub saved_again_takes : (end : End) → Saved end → Adds old new (Takes left0 left1)
-    saved_again_takes end saved = resumed_takes text budget v files0 from old new left0 left1 told files_are saved.behind saved.ended
 
     -- it ended as that run does
     pub saved_again_return : (end : End) → Saved end → Adds old new (SavesAgainMoves text bytes budget v end)

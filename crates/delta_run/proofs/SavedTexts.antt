@@ -25,17 +25,17 @@ use Rattle.delta_loop.specs.Loop.{Ran}
 use Rattle.delta_loop.specs.Answer.{Adds, ReadsWell}
 use Rattle.delta_output.specs.LoopMeaning.{meaning_of}
 use Rattle.output_laws.specs.TreeOneShot.{one_shot_of}
-use Rattle.commands.specs.Running.{RanIts}
+use Rattle.commands.specs.Running.{Takes, RanIts}
 use Rattle.commands.specs.Leaving.{IsKeptOf, IsSaved, LeavesState as LeavesOfWay}
 use Rattle.commands.specs.Saving.{SavesText, way_of_tree}
 use Rattle.commands.proofs.Behind.{reads_behind, usage_behind}
-use Rattle.delta_run.specs.Text.{Takes, RanText, RunsPromptly}
+use Rattle.delta_run.specs.Text.{IsRefusal, RanText, RunsPromptly}
 use Rattle.delta_run.specs.Settled.{SettlesWell}
 use Rattle.delta_run.specs.Evaluated.{RefusesUnwritable}
 use Rattle.delta_run.specs.Saved.{SavedText, SavesMoves, IsStateAfter, IsLeft, LeavesState, SavesWell}
-use Rattle.delta_run.proofs.RunsBehind.{same_files, WellEnded, is_done, is_open, Behind, its_own, too_large, unwritten, wanting, behind, over_behind, large_complete, wider}
+use Rattle.delta_run.proofs.RunsBehind.{same_files, WellEnded, is_done, is_open, Behind, its_own, too_large, unwritten, wanting, behind, over_behind, refusal_behind, unrun_refused, large_complete, wider}
 use Rattle.delta_run.proofs.SettledTexts.{text_settled}
-use Rattle.delta_run.proofs.TextRuns.{ran_text, runs_usage, text_prompt, text_reads, text_takes, text_return, text_refused, text_complete}
+use Rattle.delta_run.proofs.TextRuns.{ran_text, runs_usage, text_prompt, text_reads, text_takes, text_unrun, text_return, text_refused, text_complete}
 
 module _ (text : List ℕ) (budget : ℕ) (v : Version) (name : List ℕ) (old new : Option (List Move)) (left0 left1 : Option (List ℕ)) (files0 files1 : Option (List ℕ → List ℕ)) where
   abbrev Saved : End → Type 0
@@ -70,6 +70,10 @@ module _ (text : List ℕ) (budget : ℕ) (v : Version) (name : List ℕ) (old n
   -- it takes what that run takes
   pub saved_takes : (end : End) → Saved end → Adds old new (Takes left0 left1)
   saved_takes end saved = text_takes text budget v old new left0 left1 saved.behind saved.ended
+
+  -- where the text is refused nothing is read or written
+  pub saved_unrun : (end : End) → Saved end → IsRefusal end → IsUntouched old new left0 left1
+  saved_unrun end saved refused = text_unrun text budget v old new left0 left1 end (subst (RanText text budget v old new left0 left1) (refusal_behind end saved.behind saved.is_behind refused) saved.ended) (unrun_refused end refused)
 
   -- it ended as that run does
   pub saved_return : (end : End) → Saved end → Adds old new (SavesMoves text budget v end)

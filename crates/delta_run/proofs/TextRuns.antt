@@ -14,16 +14,17 @@ use Rattle.delta_end.proofs.Statuses.{not_rose, answered, answered_eight, usage_
 use Rattle.checked_program.specs.Acceptance.{IsWritable}
 use Rattle.checked_program.proofs.OneAnswer.{accepted_is_one, writing_is_judged}
 use Rattle.delta_loop.specs.Meaning.{Meaning}
+use Rattle.delta_loop.specs.History.{IsUntouched}
 use Rattle.delta_loop.specs.Loop.{Ran}
 use Rattle.delta_loop.specs.Answer.{Adds, ReadsWell}
 use Rattle.delta_loop.proofs.Returning.{adds_none, ran_prompt, ran_reads, returned, unread}
 use Rattle.delta_loop.proofs.Completeness.{good_end, good_status}
 use Rattle.delta_output.specs.LoopMeaning.{meaning_of}
 use Rattle.output_laws.specs.TreeOneShot.{one_shot_of}
-use Rattle.commands.specs.Running.{RanIts, RunsText}
-use Rattle.delta_run.specs.Text.{Takes, RanText, RunsPromptly, RunsIts, RunsMoves, RunsWell}
+use Rattle.commands.specs.Running.{Takes, IsUnrun, RanIts, RunsText}
+use Rattle.delta_run.specs.Text.{RanText, RunsPromptly, RunsIts, RunsMoves, RunsWell}
 use Rattle.delta_run.specs.Evaluated.{RefusesUnwritable}
-use Rattle.delta_run.proofs.Takings.{takes_none, ran_takes}
+use Rattle.commands.proofs.Takings.{takes_none, ran_takes}
 
 module _ (text : List ℕ) (budget : ℕ) (v : Version) (old new : Option (List Move)) (left0 left1 : Option (List ℕ)) where
   prompt_of : (end : End) → RanIts text budget v old new left0 left1 end → Adds old new (RunsPromptly text budget v)
@@ -91,6 +92,23 @@ module _ (text : List ℕ) (budget : ℕ) (v : Version) (old new : Option (List 
   text_takes ReadFailed ran = takes_of ReadFailed ran
   text_takes WriteFailed ran = takes_of WriteFailed ran
   text_takes Long ran = takes_of Long ran
+
+  -- where no program was run nothing is read or written
+  pub text_unrun : (end : End) → RanText text budget v old new left0 left1 end → IsUnrun end → IsUntouched old new left0 left1
+  text_unrun FileFailed ran is = ran
+  text_unrun (Refused None) ran is = absurd ran
+  text_unrun (Refused (Some why)) ran is = ran.1
+  text_unrun Done ran is = absurd is
+  text_unrun (Input fault) ran is = absurd is
+  text_unrun (Budget at) ran is = absurd is
+  text_unrun (Deep at) ran is = absurd is
+  text_unrun Open ran is = absurd is
+  text_unrun ReadFailed ran is = absurd is
+  text_unrun WriteFailed ran is = absurd is
+  text_unrun Long ran is = absurd is
+  text_unrun Usage ran is = absurd is
+  text_unrun (Objected what) ran is = absurd is
+  text_unrun Memory ran is = absurd is
 
   runs_of : (end : End) → IsOfLoop end → RanIts text budget v old new left0 left1 end → Adds old new (RunsIts text budget v end)
   runs_of end loop ran told is =

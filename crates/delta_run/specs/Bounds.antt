@@ -2,7 +2,9 @@
 use Rattle.std.specs.Prelude.{◌≡◌, ℕ, List}
 use Rattle.delta_end.specs.declared.end.End.{End}
 use Rattle.delta_end.specs.Status.{IsStill}
+use Rattle.delta_loop.specs.History.{IsUntouched}
 use Rattle.delta_loop.specs.Answer.{Adds}
+use Rattle.commands.specs.Running.{IsUnrun}
 use Rattle.delta_run.specs.Outside.{Outside}
 use Rattle.delta_run.specs.Text.{OfFile}
 use Rattle.delta_run.specs.Checked.{RefusesUnaccepted}
@@ -11,6 +13,8 @@ use Rattle.delta_run.specs.Bounded.{TellsBound, BoundsWell, ObjectsWell, JudgesA
 pub record Bounds (file : List ℕ) (before after : Outside) (end : End) (status : ℕ) : Type 0 where
   -- the link's input stays as it is
   pub unread : after.left ≡ before.left
+  -- where the text was refused, or a file couldn't be read, nothing was read or written, whatever the shelf tells
+  pub unrun : IsUnrun end → IsUntouched before.log after.log before.left after.left
   -- the end is shown by the bytes that were written: the line of the bound where it is done, a front of it where memory
   -- ran out or a write failed, and else nothing
   pub ends : OfFile before.files file (λ text. Adds before.log after.log (TellsBound text end))

@@ -3,9 +3,11 @@ use Rattle.std.specs.Prelude.{ℕ, List}
 use Rattle.event_frame.specs.declared.version.Version.{Version}
 use Rattle.delta_end.specs.declared.end.End.{End}
 use Rattle.delta_end.specs.Status.{IsStill}
+use Rattle.delta_loop.specs.History.{IsUntouched}
 use Rattle.delta_loop.specs.Answer.{Adds, ReadsWell}
+use Rattle.commands.specs.Running.{Takes, IsUnrun}
 use Rattle.delta_run.specs.Outside.{Outside}
-use Rattle.delta_run.specs.Text.{OfFile, Takes, RunsPromptly, RunsMoves, RunsWell}
+use Rattle.delta_run.specs.Text.{OfFile, RunsPromptly, RunsMoves, RunsWell}
 use Rattle.delta_run.specs.Settled.{SettlesWell}
 use Rattle.delta_run.specs.Evaluated.{RefusesUnwritable}
 
@@ -16,7 +18,9 @@ pub record Runs (file : List ℕ) (budget : ℕ) (v : Version) (before after : O
   -- nothing is read after the end of the input; at most 2^40 bytes are read, and one more only where there are too many
   pub reads : Adds before.log after.log (ReadsWell end)
   -- at every end, what was left to read are the bytes that were read, and then what is left now
-  pub taken : OfFile before.files file (λ text. Adds before.log after.log (Takes before.left after.left))
+  pub taken : Adds before.log after.log (Takes before.left after.left)
+  -- where the text was refused, or a file couldn't be read, nothing was read or written, whatever the shelf tells
+  pub unrun : IsUnrun end → IsUntouched before.log after.log before.left after.left
   -- the end is shown by the bytes that were read and written
   pub ends : OfFile before.files file (λ text. Adds before.log after.log (RunsMoves text budget v end))
   -- an accepted text over an input that is good in whole, with no event that makes too many calls or one at too great

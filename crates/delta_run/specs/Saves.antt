@@ -3,10 +3,12 @@ use Rattle.std.specs.Prelude.{ℕ, List}
 use Rattle.event_frame.specs.declared.version.Version.{Version}
 use Rattle.delta_end.specs.declared.end.End.{End}
 use Rattle.delta_end.specs.Status.{IsStill}
+use Rattle.delta_loop.specs.History.{IsUntouched}
 use Rattle.delta_loop.specs.Answer.{Adds, ReadsWell}
+use Rattle.commands.specs.Running.{Takes}
 use Rattle.commands.specs.Leaving.{ChangesState}
 use Rattle.delta_run.specs.Outside.{Outside}
-use Rattle.delta_run.specs.Text.{OfFile, Takes, RunsPromptly}
+use Rattle.delta_run.specs.Text.{OfFile, IsRefusal, RunsPromptly}
 use Rattle.delta_run.specs.Settled.{SettlesWell}
 use Rattle.delta_run.specs.Evaluated.{RefusesUnwritable}
 use Rattle.delta_run.specs.Saved.{SavesMoves, LeavesState, SavesWell}
@@ -18,7 +20,9 @@ pub record Saves (file state : List ℕ) (budget : ℕ) (v : Version) (before af
   -- nothing is read after the end of the input; at most 2^40 bytes are read, and one more only where there are too many
   pub reads : Adds before.log after.log (ReadsWell end)
   -- at every end, what was left to read are the bytes that were read, and then what is left now
-  pub taken : OfFile before.files file (λ text. Adds before.log after.log (Takes before.left after.left))
+  pub taken : Adds before.log after.log (Takes before.left after.left)
+  -- where the text was refused nothing was read or written, whatever the shelf tells
+  pub unrun : IsRefusal end → IsUntouched before.log after.log before.left after.left
   -- the end is shown by the bytes that were read and written: it is that of a run, or one that ended well stands behind it
   pub ends : OfFile before.files file (λ text. Adds before.log after.log (SavesMoves text budget v end))
   -- where it ended well, the state after all that was read is left; where it is told that it is too large, it is

@@ -1,8 +1,6 @@
 -- What a run of a file's program did, by how it ended.
-use Rattle.std.specs.Prelude.{◌≡◌, ◌⊎◌, ℕ, List, [], Option, Some, None, take}
+use Rattle.std.specs.Prelude.{◌≡◌, ◌⊎◌, ⊤, ℕ, List, [], Option, Some, None, take}
 use Rattle.port.specs.declared.link.Move.{Move}
-use Rattle.port.specs.Moves.{bytes_read}
-use Rattle.port.specs.Told.{Loses}
 use Rattle.event_frame.specs.declared.version.Version.{Version}
 use Rattle.delta_tree.specs.SyntaxTree.{ProgramTree}
 use Rattle.core_term.specs.CoreTerm.{CoreProgram}
@@ -22,9 +20,10 @@ use Rattle.commands.specs.Running.{IsMeant, RunsText}
 abbrev pub OfFile : Option (List ℕ → List ℕ) → List ℕ → (List ℕ → Type 0) → Type 0
 OfFile holds name Q = (files : List ℕ → List ℕ) → holds ≡ Some files → Q (take 1048577 (files name))
 
--- what was left to read before these moves are the bytes that they read, and then what is left now
-abbrev pub Takes : Option (List ℕ) → Option (List ℕ) → List Move → Type 0
-Takes before now moves = Loses before now (bytes_read moves)
+-- the text was refused
+abbrev pub IsRefusal : End → Type 0
+IsRefusal (Refused why) = ⊤
+IsRefusal end = ⊥
 
 -- to the log, where the file has this text
 abbrev pub RanText : List ℕ → ℕ → Version → Option (List Move) → Option (List Move) → Option (List ℕ) → Option (List ℕ) → End → Type 0

@@ -14,6 +14,7 @@ ghost use Rattle.delta_run.specs.CommandLine.{Asks, AskNothing, AskForNoState, f
 ghost use Rattle.delta_end.specs.End.{FileCause, ReadCause, WriteCause};
 ghost use Rattle.delta_loop.specs.Answer.{Adds, ReadsWell};
 ghost use Rattle.delta_loop.specs.History.{IsUntouched};
+ghost use Rattle.commands.specs.Running.{Takes, IsUnrun};
 ghost use Rattle.delta_run.specs.Text.{OfFile, RanText};
 
 use crate::kept::{resume_file, save_file, save_file_from};
@@ -43,6 +44,8 @@ fn run_file<B: Begins, S: Shelf, L: Link>(
     requires { budget ≤ 1000000 }
     ensures ran { OfFile (S.holds shelf.old) file.now (λ text. RanText text budget version (L.log link.old) (L.log link.new) (L.left link.old) (L.left link.new) result) }
     ensures reads { Adds (L.log link.old) (L.log link.new) (ReadsWell result) }
+    ensures taken { Adds (L.log link.old) (L.log link.new) (Takes (L.left link.old) (L.left link.new)) }
+    ensures unrun { IsUnrun result → IsUntouched (L.log link.old) (L.log link.new) (L.left link.old) (L.left link.new) }
     ensures runs { result ≢ End.Usage }
     ensures held { S.holds shelf.new ≡ S.holds shelf.old }
     ensures file { FileCause result (S.faults shelf.old) (S.faults shelf.new) }
@@ -62,6 +65,7 @@ fn print_file<S: Shelf, L: Link>(alloc: Global, file: &str, shelf: &mut S, link:
     ensures reads { Adds (L.log link.old) (L.log link.new) (ReadsWell result) }
     ensures prints { result ≢ End.Usage }
     ensures unread { L.left link.new ≡ L.left link.old }
+    ensures unrun { IsUnrun result → L.log link.new ≡ L.log link.old }
     ensures held { S.holds shelf.new ≡ S.holds shelf.old }
     ensures file { FileCause result (S.faults shelf.old) (S.faults shelf.new) }
     ensures read { ReadCause result (L.read_faults link.old) (L.read_faults link.new) }
@@ -96,6 +100,7 @@ fn bound_file<S: Shelf, L: Link>(alloc: Global, file: &str, shelf: &mut S, link:
     ensures reads { Adds (L.log link.old) (L.log link.new) (ReadsWell result) }
     ensures bounds { result ≢ End.Usage }
     ensures unread { L.left link.new ≡ L.left link.old }
+    ensures unrun { IsUnrun result → L.log link.new ≡ L.log link.old }
     ensures held { S.holds shelf.new ≡ S.holds shelf.old }
     ensures file { FileCause result (S.faults shelf.old) (S.faults shelf.new) }
     ensures read { ReadCause result (L.read_faults link.old) (L.read_faults link.new) }
@@ -139,6 +144,7 @@ fn feed_file<M: Machine, S: Shelf, L: Link>(
     ensures reads { Adds (L.log link.old) (L.log link.new) (ReadsWell result) }
     ensures feeds { result ≢ End.Usage }
     ensures unread { L.left link.new ≡ L.left link.old }
+    ensures unrun { IsUnrun result → L.log link.new ≡ L.log link.old }
     ensures held { S.holds shelf.new ≡ S.holds shelf.old }
     ensures file { FileCause result (S.faults shelf.old) (S.faults shelf.new) }
     ensures read { ReadCause result (L.read_faults link.old) (L.read_faults link.new) }
@@ -163,6 +169,8 @@ fn eval_file<S: Shelf, L: Link>(
     requires { budget < 2 ^ 62 }
     ensures evaluated { OfFile (S.holds shelf.old) file.now (λ text. EvaluatedText text budget version (L.log link.old) (L.log link.new) (L.left link.old) (L.left link.new) result) }
     ensures reads { Adds (L.log link.old) (L.log link.new) (ReadsWell result) }
+    ensures taken { Adds (L.log link.old) (L.log link.new) (Takes (L.left link.old) (L.left link.new)) }
+    ensures unrun { IsUnrun result → IsUntouched (L.log link.old) (L.log link.new) (L.left link.old) (L.left link.new) }
     ensures evaluates { result ≢ End.Usage }
     ensures held { S.holds shelf.new ≡ S.holds shelf.old }
     ensures file { FileCause result (S.faults shelf.old) (S.faults shelf.new) }

@@ -4,7 +4,9 @@ ghost use Rattle.std.specs.Prelude.{◌≡◌, ◌≢◌, ◌≤◌};
 ghost use Rattle.delta_end.specs.declared.end.End.{End};
 ghost use Rattle.delta_end.specs.End.{FileCause, ReadCause, WriteCause};
 ghost use Rattle.delta_loop.specs.Answer.{Adds, ReadsWell};
-ghost use Rattle.delta_run.specs.Text.{OfFile};
+ghost use Rattle.delta_loop.specs.History.{IsUntouched};
+ghost use Rattle.commands.specs.Running.{Takes, IsUnrun};
+ghost use Rattle.delta_run.specs.Text.{OfFile, IsRefusal};
 ghost use Rattle.commands.specs.Leaving.{ChangesState};
 ghost use Rattle.delta_run.specs.Saved.{SavedText};
 ghost use Rattle.delta_run.specs.SavedAgain.{SavedAgainText};
@@ -31,6 +33,8 @@ pub fn save_file<K: Keeping, S: Shelf, L: Link>(
     ensures saved { OfFile (S.holds shelf.old) file.now
         (λ text. SavedText text budget version state.now (L.log link.old) (L.log link.new) (L.left link.old) (L.left link.new) (S.holds shelf.old) (S.holds shelf.new) result) }
     ensures reads { Adds (L.log link.old) (L.log link.new) (ReadsWell result) }
+    ensures taken { Adds (L.log link.old) (L.log link.new) (Takes (L.left link.old) (L.left link.new)) }
+    ensures unrun { IsRefusal result → IsUntouched (L.log link.old) (L.log link.new) (L.left link.old) (L.left link.new) }
     ensures saves { result ≢ End.Usage }
     ensures changes { ChangesState result (S.holds shelf.old) (S.holds shelf.new) state.now }
     ensures file { FileCause result (S.faults shelf.old) (S.faults shelf.new) }
@@ -60,6 +64,8 @@ pub fn save_file_from<K: Keeping, S: Shelf, L: Link>(
     ensures saved { OfFile (S.holds shelf.old) file.now
         (λ text. SavedAgainText text budget version from.now state.now (L.log link.old) (L.log link.new) (L.left link.old) (L.left link.new) (S.holds shelf.old) (S.holds shelf.new) result) }
     ensures reads { Adds (L.log link.old) (L.log link.new) (ReadsWell result) }
+    ensures taken { Adds (L.log link.old) (L.log link.new) (Takes (L.left link.old) (L.left link.new)) }
+    ensures unrun { IsRefusal result → IsUntouched (L.log link.old) (L.log link.new) (L.left link.old) (L.left link.new) }
     ensures saves { result ≢ End.Usage }
     ensures changes { ChangesState result (S.holds shelf.old) (S.holds shelf.new) state.now }
     ensures file { FileCause result (S.faults shelf.old) (S.faults shelf.new) }
@@ -89,6 +95,8 @@ pub fn resume_file<K: Keeping, S: Shelf, L: Link>(
     ensures resumed { OfFile (S.holds shelf.old) file.now
         (λ text. ResumedText text budget version (S.holds shelf.old) state.now (L.log link.old) (L.log link.new) (L.left link.old) (L.left link.new) result) }
     ensures reads { Adds (L.log link.old) (L.log link.new) (ReadsWell result) }
+    ensures taken { Adds (L.log link.old) (L.log link.new) (Takes (L.left link.old) (L.left link.new)) }
+    ensures unrun { IsUnrun result → IsUntouched (L.log link.old) (L.log link.new) (L.left link.old) (L.left link.new) }
     ensures resumes { result ≢ End.Usage }
     ensures held { S.holds shelf.new ≡ S.holds shelf.old }
     ensures file { FileCause result (S.faults shelf.old) (S.faults shelf.new) }

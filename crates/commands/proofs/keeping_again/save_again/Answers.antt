@@ -11,7 +11,8 @@ use Rattle.delta_runner.specs.KeptOneShot.{meaning_since}
 use Rattle.delta_runner.proofs.SinceCourses.{from_same}
 use Rattle.commands.specs.Saving.{way_since}
 use Rattle.commands.proofs.Leaving.{saves_nothing}
-use Rattle.commands.proofs.SaveTexts.{saves_reads, saves_usage}
+use Rattle.commands.proofs.SaveTexts.{saves_reads, saves_takes, saves_usage}
+use Rattle.commands.proofs.Takings.{takes_none}
 use Rattle.commands.proofs.keeping_again.save_again.Goals as goal
 
 pub leave_again-left-requires-clause-stands : goal.leave_again-left-requires-clause-stands
@@ -44,3 +45,10 @@ returns-in-Ok-clause-saves g c =
 
 pub returns-in-Err-clause-reads : goal.returns-in-Err-clause-reads
 returns-in-Err-clause-reads g c = adds_none _ _ (ReadsWell Memory) refl (unread Memory)
+
+pub returns-in-Ok-clause-taken : goal.returns-in-Ok-clause-taken
+returns-in-Ok-clause-taken g c =
+    saves_takes (way_since _ _ _ _ (core_of c.args.c.now) (kept_of c.args.k.now) c.args.budget c.args.version) _ _ _ c.leave_again-left.result (returns-in-Ok-clause-saved g c)
+
+pub returns-in-Err-clause-taken : goal.returns-in-Err-clause-taken
+returns-in-Err-clause-taken g c = takes_none _ _ _ _ (refl, refl)

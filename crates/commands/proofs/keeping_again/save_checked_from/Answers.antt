@@ -6,6 +6,7 @@ use Rattle.delta_loop.specs.Answer.{ReadsWell}
 use Rattle.delta_loop.proofs.Returning.{adds_none, unread}
 use Rattle.commands.specs.Saving.{SavesFrom}
 use Rattle.commands.proofs.SaveTexts.{saves_from_file, saves_unread, saves_short}
+use Rattle.commands.proofs.Takings.{takes_none}
 use Rattle.commands.proofs.keeping_again.save_checked_from.Goals as goal
 
 pub returns-in-Ok-clause-saved : goal.returns-in-Ok-clause-saved
@@ -28,3 +29,9 @@ returns-in-Err-Memory-clause-reads g c = adds_none _ _ (ReadsWell Memory) refl (
 
 pub returns-in-Err-Failed-clause-reads : goal.returns-in-Err-Failed-clause-reads
 returns-in-Err-Failed-clause-reads g c = adds_none _ _ (ReadsWell FileFailed) refl (unread FileFailed)
+
+pub returns-in-Err-Memory-clause-taken : goal.returns-in-Err-Memory-clause-taken
+returns-in-Err-Memory-clause-taken g c = takes_none _ _ _ _ (refl, refl)
+
+pub returns-in-Err-Failed-clause-taken : goal.returns-in-Err-Failed-clause-taken
+returns-in-Err-Failed-clause-taken g c = takes_none _ _ _ _ (refl, refl)

@@ -1,7 +1,7 @@
 -- The run is that of the state that was read, and what is told has a small place.
 use Rattle.core_term.specs.CoreTerm.{core_of}
 use Rattle.delta_keep.specs.KeptView.{kept_of, places_kept}
-use Rattle.commands.proofs.Ends.{is_small, goes_on, resumes_reads, resumes_usage}
+use Rattle.commands.proofs.Ends.{is_small, goes_on, resumes_reads, resumes_takes, resumes_usage}
 use Rattle.commands.proofs.resuming.resume_bytes.Goals as goal
 
 pub fault_end-requires : goal.fault_end-requires
@@ -24,3 +24,7 @@ returns-in-Ok-clause-reads g c =
 pub returns-in-Ok-clause-resumes : goal.returns-in-Ok-clause-resumes
 returns-in-Ok-clause-resumes g c =
     resumes_usage (core_of c.args.c.now) c.args.budget c.args.version c.args.bytes.now _ _ _ _ c.run_kept-end.result (returns-in-Ok-clause-resumed g c)
+
+pub returns-in-Ok-clause-taken : goal.returns-in-Ok-clause-taken
+returns-in-Ok-clause-taken g c =
+    resumes_takes (core_of c.args.c.now) c.args.budget c.args.version c.args.bytes.now _ _ _ _ c.run_kept-end.result (returns-in-Ok-clause-resumed g c)

@@ -5,6 +5,7 @@ use Rattle.delta_loop.specs.Answer.{ReadsWell}
 use Rattle.delta_loop.proofs.Returning.{adds_none, unread}
 use Rattle.core_term.specs.CoreTerm.{core_of}
 use Rattle.commands.proofs.Ends.{of_file}
+use Rattle.commands.proofs.Takings.{takes_none}
 use Rattle.commands.proofs.resuming.resume_checked.Goals as goal
 
 pub returns-in-Ok-clause-resumed : goal.returns-in-Ok-clause-resumed
@@ -18,3 +19,9 @@ returns-in-Err-Memory-clause-reads g c = adds_none _ _ (ReadsWell Memory) refl (
 
 pub returns-in-Err-Failed-clause-reads : goal.returns-in-Err-Failed-clause-reads
 returns-in-Err-Failed-clause-reads g c = adds_none _ _ (ReadsWell FileFailed) refl (unread FileFailed)
+
+pub returns-in-Err-Memory-clause-taken : goal.returns-in-Err-Memory-clause-taken
+returns-in-Err-Memory-clause-taken g c = takes_none _ _ _ _ (refl, refl)
+
+pub returns-in-Err-Failed-clause-taken : goal.returns-in-Err-Failed-clause-taken
+returns-in-Err-Failed-clause-taken g c = takes_none _ _ _ _ (refl, refl)

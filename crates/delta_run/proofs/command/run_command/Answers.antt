@@ -39,7 +39,7 @@ returns-in-Ok-Run-clause-does g c =
     let Ran : List ℕ → Version → Type 0 = λ file version. OfFile (g.S.Shelf.holds c.args.shelf.now) file (λ source. RanText source c.in-Ok-Run.budget version
     (g.L.Link.log c.args.link.now) (g.L.Link.log c.run_file.new.link) (g.L.Link.left c.args.link.now) (g.L.Link.left c.run_file.new.link) c.run_file.result) in
     for_each c.args.words.now _ _ (c.in-Ok-Run.ensures.ok ∙ ap (λ t. Some (asked t)) c.in-Ok-Run.field-0-is)
-    (subst (λ (file : List ℕ). Ran file (frames_of c.in-Ok-Run.version)) c.deref.ensures (subst (Ran c.deref.result.now) c.frame_version.ensures c.run_file.ensures.ran))
+    (subst (λ (file : List ℕ). Ran file (frames_of c.in-Ok-Run.version)) c.deref.ensures (subst (Ran c.deref.result.now) c.frame_version.ensures c.run_file.ensures.ran), (c.run_file.ensures.taken, c.run_file.ensures.unrun))
 
 pub returns-in-Ok-Frames-clause-command : goal.returns-in-Ok-Frames-clause-command
 returns-in-Ok-Frames-clause-command g c nothing = absurd (asks_something nothing (c.in-Ok-Frames.ensures.ok ∙ ap (λ t. Some (asked t)) c.in-Ok-Frames.field-0-is))
@@ -72,7 +72,7 @@ returns-in-Ok-Print-clause-reads g c = c.print_file.ensures.reads
 pub returns-in-Ok-Print-clause-does : goal.returns-in-Ok-Print-clause-does
 returns-in-Ok-Print-clause-does g c =
     for_each c.args.words.now _ _ (c.in-Ok-Print.ensures.ok ∙ ap (λ t. Some (asked t)) c.in-Ok-Print.field-0-is)
-    (subst (λ (file : List ℕ). OfFile (g.S.Shelf.holds c.args.shelf.now) file (λ source. PrintedText source (g.L.Link.log c.args.link.now) (g.L.Link.log c.print_file.new.link) c.print_file.result)) c.deref-in-Ok-Print.ensures c.print_file.ensures.printed, c.print_file.ensures.unread)
+    (subst (λ (file : List ℕ). OfFile (g.S.Shelf.holds c.args.shelf.now) file (λ source. PrintedText source (g.L.Link.log c.args.link.now) (g.L.Link.log c.print_file.new.link) c.print_file.result)) c.deref-in-Ok-Print.ensures c.print_file.ensures.printed, c.print_file.ensures.unread, c.print_file.ensures.unrun)
 
 pub returns-in-Ok-Check-clause-command : goal.returns-in-Ok-Check-clause-command
 returns-in-Ok-Check-clause-command g c nothing = absurd (asks_something nothing (c.in-Ok-Check.ensures.ok ∙ ap (λ t. Some (asked t)) c.in-Ok-Check.field-0-is))
@@ -99,7 +99,7 @@ returns-in-Ok-Eval-clause-does g c =
     let Evaluated : List ℕ → Version → Type 0 = λ file version. OfFile (g.S.Shelf.holds c.args.shelf.now) file (λ source. EvaluatedText source c.in-Ok-Eval.budget version
     (g.L.Link.log c.args.link.now) (g.L.Link.log c.eval_file.new.link) (g.L.Link.left c.args.link.now) (g.L.Link.left c.eval_file.new.link) c.eval_file.result) in
     for_each c.args.words.now _ _ (c.in-Ok-Eval.ensures.ok ∙ ap (λ t. Some (asked t)) c.in-Ok-Eval.field-0-is)
-    (subst (λ (file : List ℕ). Evaluated file (frames_of c.in-Ok-Eval.version)) c.deref-in-Ok-Eval.ensures (subst (Evaluated c.deref-in-Ok-Eval.result.now) c.frame_version-in-Ok-Eval.ensures c.eval_file.ensures.evaluated))
+    (subst (λ (file : List ℕ). Evaluated file (frames_of c.in-Ok-Eval.version)) c.deref-in-Ok-Eval.ensures (subst (Evaluated c.deref-in-Ok-Eval.result.now) c.frame_version-in-Ok-Eval.ensures c.eval_file.ensures.evaluated), (c.eval_file.ensures.taken, c.eval_file.ensures.unrun))
 
 pub returns-in-Ok-Bound-clause-command : goal.returns-in-Ok-Bound-clause-command
 returns-in-Ok-Bound-clause-command g c nothing = absurd (asks_something nothing (c.in-Ok-Bound.ensures.ok ∙ ap (λ t. Some (asked t)) c.in-Ok-Bound.field-0-is))
@@ -110,7 +110,7 @@ returns-in-Ok-Bound-clause-reads g c = c.bound_file.ensures.reads
 pub returns-in-Ok-Bound-clause-does : goal.returns-in-Ok-Bound-clause-does
 returns-in-Ok-Bound-clause-does g c =
     for_each c.args.words.now _ _ (c.in-Ok-Bound.ensures.ok ∙ ap (λ t. Some (asked t)) c.in-Ok-Bound.field-0-is)
-    (subst (λ (file : List ℕ). OfFile (g.S.Shelf.holds c.args.shelf.now) file (λ source. BoundedText source (g.L.Link.log c.args.link.now) (g.L.Link.log c.bound_file.new.link) c.bound_file.result)) c.deref-in-Ok-Bound.ensures c.bound_file.ensures.bounded, c.bound_file.ensures.unread)
+    (subst (λ (file : List ℕ). OfFile (g.S.Shelf.holds c.args.shelf.now) file (λ source. BoundedText source (g.L.Link.log c.args.link.now) (g.L.Link.log c.bound_file.new.link) c.bound_file.result)) c.deref-in-Ok-Bound.ensures c.bound_file.ensures.bounded, c.bound_file.ensures.unread, c.bound_file.ensures.unrun)
 
 pub returns-in-Ok-Derive-clause-command : goal.returns-in-Ok-Derive-clause-command
 returns-in-Ok-Derive-clause-command g c nothing = absurd (asks_something nothing (c.in-Ok-Derive.ensures.ok ∙ ap (λ t. Some (asked t)) c.in-Ok-Derive.field-0-is))
@@ -141,7 +141,7 @@ returns-in-Ok-Feed-clause-does g c =
     let with_names = subst (Fed c.deref-in-Ok-Feed.result.now c.deref-in-Ok-Feed-2.result.now) (ap (map string_bytes) c.deref-in-Ok-Feed-3.ensures.value) c.feed_file.ensures.fed in
     let with_schedule = subst (λ (schedule : List ℕ). Fed c.deref-in-Ok-Feed.result.now schedule names) c.deref-in-Ok-Feed-2.ensures.value with_names in
     for_each c.args.words.now _ _ (c.in-Ok-Feed.ensures.ok ∙ ap (λ t. Some (asked t)) c.in-Ok-Feed.field-0-is)
-    (subst (λ (file : List ℕ). Fed file c.in-Ok-Feed.schedule.items names) c.deref-in-Ok-Feed.ensures with_schedule, c.feed_file.ensures.unread)
+    (subst (λ (file : List ℕ). Fed file c.in-Ok-Feed.schedule.items names) c.deref-in-Ok-Feed.ensures with_schedule, c.feed_file.ensures.unread, c.feed_file.ensures.unrun)
 
 pub returns-in-Ok-Gen-clause-command : goal.returns-in-Ok-Gen-clause-command
 returns-in-Ok-Gen-clause-command g c nothing = absurd (asks_something nothing (c.in-Ok-Gen.ensures.ok ∙ ap (λ t. Some (asked t)) c.in-Ok-Gen.field-0-is))
@@ -178,6 +178,7 @@ returns-in-Ok-Save-clause-does g c =
     for_each c.args.words.now _ _ (c.in-Ok-Save.ensures.ok ∙ ap (λ t. Some (asked t)) c.in-Ok-Save.field-0-is) (
       subst (λ (file : List ℕ). Saved file (string_bytes c.in-Ok-Save.state) (frames_of c.in-Ok-Save.version)) c.deref-in-Ok-Save.ensures of_state,
       subst (λ (state : List ℕ). ChangesState c.save_file.result (g.S.Shelf.holds c.args.shelf.now) (g.S.Shelf.holds c.save_file.new.shelf) state) c.deref-in-Ok-Save-2.ensures c.save_file.ensures.changes,
+      (c.save_file.ensures.taken, c.save_file.ensures.unrun),
     )
 
 pub returns-in-Ok-Save-clause-held : goal.returns-in-Ok-Save-clause-held
@@ -203,6 +204,7 @@ returns-in-Ok-SaveAgain-clause-does g c =
     for_each c.args.words.now _ _ (c.in-Ok-SaveAgain.ensures.ok ∙ ap (λ t. Some (asked t)) c.in-Ok-SaveAgain.field-0-is) (
       subst (λ (file : List ℕ). Saved file (string_bytes c.in-Ok-SaveAgain.state) (string_bytes c.in-Ok-SaveAgain.old) (frames_of c.in-Ok-SaveAgain.version)) c.deref-in-Ok-SaveAgain.ensures of_state,
       subst (λ (state : List ℕ). ChangesState c.save_file_from.result (g.S.Shelf.holds c.args.shelf.now) (g.S.Shelf.holds c.save_file_from.new.shelf) state) c.deref-in-Ok-SaveAgain-2.ensures c.save_file_from.ensures.changes,
+      (c.save_file_from.ensures.taken, c.save_file_from.ensures.unrun),
     )
 
 pub returns-in-Ok-SaveAgain-clause-held : goal.returns-in-Ok-SaveAgain-clause-held
@@ -223,7 +225,7 @@ returns-in-Ok-Resume-clause-does g c =
     (λ source. ResumedText source c.in-Ok-Resume.budget version (g.S.Shelf.holds c.args.shelf.now) state (g.L.Link.log c.args.link.now) (g.L.Link.log c.resume_file.new.link) (g.L.Link.left c.args.link.now) (g.L.Link.left c.resume_file.new.link) c.resume_file.result) in
     let in_version = subst (Resumed c.deref-in-Ok-Resume.result.now c.deref-in-Ok-Resume-2.result.now) c.frame_version-version-in-Ok-Resume.ensures c.resume_file.ensures.resumed in
     let of_state = subst (λ (state : List ℕ). Resumed c.deref-in-Ok-Resume.result.now state (frames_of c.in-Ok-Resume.version)) c.deref-in-Ok-Resume-2.ensures in_version in
-    for_each c.args.words.now _ _ (c.in-Ok-Resume.ensures.ok ∙ ap (λ t. Some (asked t)) c.in-Ok-Resume.field-0-is) (subst (λ (file : List ℕ). Resumed file (string_bytes c.in-Ok-Resume.state) (frames_of c.in-Ok-Resume.version)) c.deref-in-Ok-Resume.ensures of_state)
+    for_each c.args.words.now _ _ (c.in-Ok-Resume.ensures.ok ∙ ap (λ t. Some (asked t)) c.in-Ok-Resume.field-0-is) (subst (λ (file : List ℕ). Resumed file (string_bytes c.in-Ok-Resume.state) (frames_of c.in-Ok-Resume.version)) c.deref-in-Ok-Resume.ensures of_state, (c.resume_file.ensures.taken, c.resume_file.ensures.unrun))
 
 -- nothing
 

@@ -4,7 +4,8 @@ use Rattle.delta_end.specs.declared.end.End.TheVariants.{Memory, FileFailed}
 use Rattle.delta_loop.specs.Answer.{ReadsWell}
 use Rattle.delta_loop.proofs.Returning.{adds_none, unread}
 use Rattle.delta_run.specs.Resumed.{ResumedText}
-use Rattle.delta_run.proofs.ResumedTexts.{resumed_text}
+use Rattle.delta_run.proofs.ResumedTexts.{resumed_text, resumed_unrun}
+use Rattle.commands.proofs.Takings.{takes_none}
 use Rattle.delta_run.proofs.kept.resume_file.Goals as goal
 
 pub returns-in-Ok-clause-resumed : goal.returns-in-Ok-clause-resumed
@@ -22,3 +23,14 @@ returns-in-Err-Memory-clause-reads g c = adds_none _ _ (ReadsWell Memory) refl (
 
 pub returns-in-Err-Failed-clause-reads : goal.returns-in-Err-Failed-clause-reads
 returns-in-Err-Failed-clause-reads g c = adds_none _ _ (ReadsWell FileFailed) refl (unread FileFailed)
+
+pub returns-in-Ok-clause-unrun : goal.returns-in-Ok-clause-unrun
+returns-in-Ok-clause-unrun g c =
+    resumed_unrun c.deref.result.now c.args.budget c.args.version _ c.args.state.now _ _ _ _ c.resume_source.result
+    (resumed_text c.deref.result.now c.args.budget c.args.version _ c.args.state.now _ _ _ _ c.resume_source.result c.resume_source.ensures.resumed)
+
+pub returns-in-Err-Memory-clause-taken : goal.returns-in-Err-Memory-clause-taken
+returns-in-Err-Memory-clause-taken g c = takes_none _ _ _ _ (refl, refl)
+
+pub returns-in-Err-Failed-clause-taken : goal.returns-in-Err-Failed-clause-taken
+returns-in-Err-Failed-clause-taken g c = takes_none _ _ _ _ (refl, refl)

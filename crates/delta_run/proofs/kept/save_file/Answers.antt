@@ -6,7 +6,8 @@ use Rattle.delta_loop.proofs.Returning.{adds_none, unread}
 use Rattle.commands.specs.Leaving.{ChangesState}
 use Rattle.delta_run.specs.Saved.{SavedText}
 use Rattle.delta_run.proofs.RunsBehind.{same_files}
-use Rattle.delta_run.proofs.SavedTexts.{saved_text, saved_nothing, saved_unread, saved_reads, saves_usage}
+use Rattle.delta_run.proofs.SavedTexts.{saved_text, saved_nothing, saved_unread, saved_reads, saved_takes, saved_unrun, saves_usage}
+use Rattle.commands.proofs.Takings.{takes_none}
 use Rattle.delta_run.proofs.kept.save_file.Goals as goal
 
 pub returns-in-Ok-clause-saved : goal.returns-in-Ok-clause-saved
@@ -51,3 +52,19 @@ returns-in-Err-Memory-clause-saved g c files tells = saved_nothing (take 1048577
 
 pub returns-in-Err-Failed-clause-saved : goal.returns-in-Err-Failed-clause-saved
 returns-in-Err-Failed-clause-saved g c files tells = saved_unread (take 1048577 (files c.args.file.now)) c.args.budget c.args.version c.args.state.now _ _ _ _ _ _ (refl, refl) c.read.ensures.same
+
+pub returns-in-Ok-clause-taken : goal.returns-in-Ok-clause-taken
+returns-in-Ok-clause-taken g c =
+    saved_takes c.deref.result.now c.args.budget c.args.version c.args.state.now _ _ _ _ _ _ c.save_source.result
+    (saved_text c.deref.result.now c.args.budget c.args.version c.args.state.now _ _ _ _ _ _ c.save_source.result c.save_source.ensures.saved)
+
+pub returns-in-Ok-clause-unrun : goal.returns-in-Ok-clause-unrun
+returns-in-Ok-clause-unrun g c =
+    saved_unrun c.deref.result.now c.args.budget c.args.version c.args.state.now _ _ _ _ _ _ c.save_source.result
+    (saved_text c.deref.result.now c.args.budget c.args.version c.args.state.now _ _ _ _ _ _ c.save_source.result c.save_source.ensures.saved)
+
+pub returns-in-Err-Memory-clause-taken : goal.returns-in-Err-Memory-clause-taken
+returns-in-Err-Memory-clause-taken g c = takes_none _ _ _ _ (refl, refl)
+
+pub returns-in-Err-Failed-clause-taken : goal.returns-in-Err-Failed-clause-taken
+returns-in-Err-Failed-clause-taken g c = takes_none _ _ _ _ (refl, refl)

@@ -7,7 +7,8 @@ use Rattle.delta_loop.proofs.Returning.{adds_none, unread}
 use Rattle.commands.specs.Leaving.{ChangesState}
 use Rattle.delta_run.specs.SavedAgain.{SavedAgainText}
 use Rattle.delta_run.proofs.RunsBehind.{same_files}
-use Rattle.delta_run.proofs.SavedAgainTexts.{saved_again_text, saved_again_nothing, saved_again_unread}
+use Rattle.delta_run.proofs.SavedAgainTexts.{saved_again_text, saved_again_nothing, saved_again_unread, saved_again_unrun}
+use Rattle.commands.proofs.Takings.{takes_none}
 use Rattle.delta_run.proofs.kept.save_file_from.Goals as goal
 
 pub returns-in-Ok-clause-saved : goal.returns-in-Ok-clause-saved
@@ -42,3 +43,14 @@ returns-in-Err-Memory-clause-saved g c files tells = saved_again_nothing (take 1
 
 pub returns-in-Err-Failed-clause-saved : goal.returns-in-Err-Failed-clause-saved
 returns-in-Err-Failed-clause-saved g c files tells = saved_again_unread (take 1048577 (files c.args.file.now)) c.args.budget c.args.version c.args.from.now c.args.state.now _ _ _ _ _ _ (refl, refl) c.read.ensures.same
+
+pub returns-in-Ok-clause-unrun : goal.returns-in-Ok-clause-unrun
+returns-in-Ok-clause-unrun g c =
+    saved_again_unrun c.deref.result.now c.args.budget c.args.version c.args.from.now c.args.state.now _ _ _ _ _ _ c.save_source_from.result
+    (saved_again_text c.deref.result.now c.args.budget c.args.version c.args.from.now c.args.state.now _ _ _ _ _ _ c.save_source_from.result c.save_source_from.ensures.saved)
+
+pub returns-in-Err-Memory-clause-taken : goal.returns-in-Err-Memory-clause-taken
+returns-in-Err-Memory-clause-taken g c = takes_none _ _ _ _ (refl, refl)
+
+pub returns-in-Err-Failed-clause-taken : goal.returns-in-Err-Failed-clause-taken
+returns-in-Err-Failed-clause-taken g c = takes_none _ _ _ _ (refl, refl)

@@ -8,7 +8,7 @@ use Rattle.delta_loop.specs.History.{History, IsUntouched}
 use Rattle.delta_loop.specs.Loop.{Ran}
 use Rattle.delta_loop.specs.Answer.{Adds}
 use Rattle.delta_loop.proofs.Returning.{adds_none}
-use Rattle.delta_run.specs.Text.{Takes}
+use Rattle.commands.specs.Running.{Takes}
 
 module _ (old new : Option (List Move)) (left0 left1 : Option (List ℕ)) where
   -- none where the link is untouched
