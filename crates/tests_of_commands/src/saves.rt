@@ -42,7 +42,7 @@ const FRESH: &[u8] = b"DST\x01\0\0\0\0\0\0\0\0\0\0\0\x01\x02\0\0\0\0\x02\x01\0\0
 const FOUR: &[u8] = b"DEV1\0\x11\0\0\0\0\0\0\0\x04";
 
 // A shelf that holds these texts as the files `program` and `state`, and a third file.
-fn shelf_of(alloc: Global, text: &[u8], state: &[u8]) -> Result<MemShelf, Fail> {
+fn shelf_of<'x>(alloc: Global, text: &'x [u8], state: &'x [u8]) -> Result<MemShelf, Fail> {
     outside::shelf_of(
         alloc,
         &[("program", text), ("state", state), ("other", b"other")],
