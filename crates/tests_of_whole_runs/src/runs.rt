@@ -91,7 +91,8 @@ const DEEP_ARGUMENTS: &str = "fun same(x : Int) : Int = x
 fun nest{n : Int}(x : Int) : Int = if n < 1 then x else same(nest{n - 1}(x))
 main(x : Int) : Int = nest{1000}(x)";
 
-// A nest of calls, each behind a let and four destructurings, which all wait for y. Its state nests too deep to be saved.
+// A nest of calls, each behind a let and four destructurings, which all wait for y. Its state nests too deep to be
+// saved.
 const HELD_NEST: &str = "type Five = (((Int || Int) || Int) || Int) || Int
 fun five(y : Int) : Five = wait y in {((((y, y), y), y), y)}
 fun nest{n : Int}(y : Int) : Int =
@@ -137,8 +138,8 @@ fn due(alloc: Global, row: &Row) -> Result<Vec<u8>, Fail> {
     }
 }
 
-// Whether a row's run writes and answers what it must: whole on the compiled machine alone, or in pieces of several sizes
-// on the plain one too. That one goes deeper at each call.
+// Whether a row's run writes and answers what it must: whole on the compiled machine alone, or in pieces of several
+// sizes on the plain one too. That one goes deeper at each call.
 fn holds(alloc: Global, row: &Row, has_many_calls: bool) -> Result<bool, Fail> {
     let frames = frames_of(alloc, row.input)?;
     let output = due(alloc, row)?;
