@@ -132,12 +132,6 @@ const FED: &[Row] = &[
     },
 ];
 
-#[test]
-fn tables_are_fed_in_any_order(rt: HostRuntime) -> Result<(), Fail> {
-    assert_eq!(rt; first_wrong(rt.alloc(), FED)?, None);
-    Ok(())
-}
-
 const EXAMPLES: &[Row] = &[
     Row {
         text: BILL,
@@ -154,12 +148,6 @@ const EXAMPLES: &[Row] = &[
         ..ADDED
     },
 ];
-
-#[test]
-fn examples_are_answered(rt: HostRuntime) -> Result<(), Fail> {
-    assert_eq!(rt; first_wrong(rt.alloc(), EXAMPLES)?, None);
-    Ok(())
-}
 
 const REFUSED: Row = Row {
     output: "",
@@ -250,12 +238,6 @@ const UNTAKEN: &[Row] = &[
     },
 ];
 
-#[test]
-fn tables_are_refused(rt: HostRuntime) -> Result<(), Fail> {
-    assert_eq!(rt; first_wrong(rt.alloc(), UNTAKEN)?, None);
-    Ok(())
-}
-
 // The words of lines, each of which is no command line.
 const NO_LINES: &str = "feed
 feed program
@@ -328,12 +310,6 @@ const BY_EVENT: &[Row] = &[
 ];
 
 #[test]
-fn programs_are_stopped_at_an_event(rt: HostRuntime) -> Result<(), Fail> {
-    assert_eq!(rt; first_wrong(rt.alloc(), BY_EVENT)?, None);
-    Ok(())
-}
-
-#[test]
 fn deep_calls_are_stopped(rt: HostRuntime) -> Result<(), Fail> {
     let row = Row {
         words: "feed program 0 a",
@@ -373,5 +349,21 @@ fn long_table_is_refused(rt: HostRuntime) -> Result<(), Fail> {
 fn failed_write_leaves_a_front(rt: HostRuntime) -> Result<(), Fail> {
     assert!(rt; leaves_front(rt.alloc(), &ADDED, 0, "")?);
     assert!(rt; leaves_front(rt.alloc(), &ADDED, 1, "11\n2")?);
+    Ok(())
+}
+
+// What the rows of each table show.
+const TABLES: &[(&str, &[Row])] = &[
+    ("tables are fed in any order", FED),
+    ("examples are answered", EXAMPLES),
+    ("tables are refused", UNTAKEN),
+    ("programs are stopped at an event", BY_EVENT),
+];
+
+#[test]
+fn rows_are_answered(rt: HostRuntime) -> Result<(), Fail> {
+    for (name, rows) in TABLES {
+        assert_eq!(rt; first_wrong(rt.alloc(), rows)?, None, "{name}");
+    }
     Ok(())
 }

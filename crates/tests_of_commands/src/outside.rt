@@ -1,5 +1,5 @@
-//! What a command is given, and what it must write and answer. No command here has a program run by a runner, so that of
-//! the plain machine stands for any.
+//! What a command is given, and what it must write and answer. No command here has a program run by a runner, so that
+//! of the plain machine stands for any.
 
 use delta_code::Coded;
 use delta_run::delta;

@@ -42,7 +42,7 @@ const FRESH: &[u8] = b"DST\x01\0\0\0\0\0\0\0\0\0\0\0\x01\x02\0\0\0\0\x02\x01\0\0
 const FOUR: &[u8] = b"DEV1\0\x11\0\0\0\0\0\0\0\x04";
 
 // A shelf that holds these texts as the files `program` and `state`, and a third file.
-fn shelf_of(alloc: Global, text: &[u8], state: &[u8]) -> Result<MemShelf, Fail> {
+fn shelf_of<'x>(alloc: Global, text: &'x [u8], state: &'x [u8]) -> Result<MemShelf, Fail> {
     outside::shelf_of(
         alloc,
         &[("program", text), ("state", state), ("other", b"other")],
@@ -169,8 +169,8 @@ fn a_feed_is_cut_anywhere(rt: HostRuntime) -> Result<(), Fail> {
 // What is kept of the program of one number once it came: nothing is left of the input or of the output.
 const FINISHED: &[u8] = b"DST\x01\0\0\0\0\0\0\0\x01\0\0\0\x01\0\0\0\0\0\0\0\0";
 
-// Whether a line over a program, a state and an input is answered so, and leaves this state and all else as it was. Adds what
-// it writes.
+// Whether a line over a program, a state and an input is answered so, and leaves this state and all else as it was.
+// Adds what it writes.
 fn leaves(
     alloc: Global,
     line: &str,
@@ -186,7 +186,8 @@ fn leaves(
     Ok(went? && kept)
 }
 
-// Whether a run of the program of one number, from its start and from the file of the state, ends so and leaves these bytes.
+// Whether a run of the program of one number, from its start and from the file of the state, ends so and leaves these
+// bytes.
 fn leaves_either_way(
     alloc: Global,
     input: &[u8],

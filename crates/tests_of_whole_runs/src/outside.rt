@@ -82,8 +82,8 @@ pub fn are_written(link: &MemLink, output: &[u8]) -> bool {
     all && at == output.len()
 }
 
-// Whether a line over a shelf and a link, with programs begun by a runner and evaluated on a machine, is answered by this
-// note and this status, where these writes of notes fail.
+// Whether a line over a shelf and a link, with programs begun by a runner and evaluated on a machine, is answered by
+// this note and this status, where these writes of notes fail.
 fn tells_on<B: Begins, M: Machine>(
     alloc: Global,
     line: &str,

@@ -91,7 +91,8 @@ const DEEP_ARGUMENTS: &str = "fun same(x : Int) : Int = x
 fun nest{n : Int}(x : Int) : Int = if n < 1 then x else same(nest{n - 1}(x))
 main(x : Int) : Int = nest{1000}(x)";
 
-// A nest of calls, each behind a let and four destructurings, which all wait for y. Its state nests too deep to be saved.
+// A nest of calls, each behind a let and four destructurings, which all wait for y. Its state nests too deep to be
+// saved.
 const HELD_NEST: &str = "type Five = (((Int || Int) || Int) || Int) || Int
 fun five(y : Int) : Five = wait y in {((((y, y), y), y), y)}
 fun nest{n : Int}(y : Int) : Int =
@@ -137,8 +138,8 @@ fn due(alloc: Global, row: &Row) -> Result<Vec<u8>, Fail> {
     }
 }
 
-// Whether a row's run writes and answers what it must: whole on the compiled machine alone, or in pieces of several sizes
-// on the plain one too. That one goes deeper at each call.
+// Whether a row's run writes and answers what it must: whole on the compiled machine alone, or in pieces of several
+// sizes on the plain one too. That one goes deeper at each call.
 fn holds(alloc: Global, row: &Row, has_many_calls: bool) -> Result<bool, Fail> {
     let frames = frames_of(alloc, row.input)?;
     let output = due(alloc, row)?;
@@ -252,12 +253,6 @@ const EVENT_BY_EVENT: &[Row] = &[
     },
 ];
 
-#[test]
-fn programs_answer_events(rt: HostRuntime) -> Result<(), Fail> {
-    assert_eq!(rt; first_wrong(rt.alloc(), EVENT_BY_EVENT, false)?, None);
-    Ok(())
-}
-
 const FEEDS: &[Row] = &[
     Row {
         text: DOUBLE,
@@ -319,12 +314,6 @@ const FEEDS: &[Row] = &[
     },
 ];
 
-#[test]
-fn programs_run_over_feeds(rt: HostRuntime) -> Result<(), Fail> {
-    assert_eq!(rt; first_wrong(rt.alloc(), FEEDS, false)?, None);
-    Ok(())
-}
-
 const STOPPED: Row = Row {
     output: Some(""),
     status: 5,
@@ -379,12 +368,6 @@ const BUDGETS: &[Row] = &[
     },
 ];
 
-#[test]
-fn budgets_are_renewed(rt: HostRuntime) -> Result<(), Fail> {
-    assert_eq!(rt; first_wrong(rt.alloc(), BUDGETS, false)?, None);
-    Ok(())
-}
-
 const MANY_CALLS: &[Row] = &[
     Row {
         text: DOWN,
@@ -405,12 +388,6 @@ const MANY_CALLS: &[Row] = &[
         ..STOPPED
     },
 ];
-
-#[test]
-fn many_calls_at_one_level_are_one_event(rt: HostRuntime) -> Result<(), Fail> {
-    assert_eq!(rt; first_wrong(rt.alloc(), MANY_CALLS, true)?, None);
-    Ok(())
-}
 
 const NESTS: &[Row] = &[
     Row {
@@ -450,12 +427,6 @@ const NESTS: &[Row] = &[
         ..STOPPED
     },
 ];
-
-#[test]
-fn a_nest_has_a_thousand_levels(rt: HostRuntime) -> Result<(), Fail> {
-    assert_eq!(rt; first_wrong(rt.alloc(), NESTS, true)?, None);
-    Ok(())
-}
 
 const OPEN: Row = Row {
     note: "delta: input open\n",
@@ -506,12 +477,6 @@ const ENDS: &[Row] = &[
     },
 ];
 
-#[test]
-fn inputs_end_early_or_wrongly(rt: HostRuntime) -> Result<(), Fail> {
-    assert_eq!(rt; first_wrong(rt.alloc(), ENDS, false)?, None);
-    Ok(())
-}
-
 const REFUSED: Row = Row {
     output: None,
     status: 3,
@@ -545,12 +510,6 @@ const REFUSALS: &[Row] = &[
         ..REFUSED
     },
 ];
-
-#[test]
-fn texts_are_refused(rt: HostRuntime) -> Result<(), Fail> {
-    assert_eq!(rt; first_wrong(rt.alloc(), REFUSALS, false)?, None);
-    Ok(())
-}
 
 // The lines that are put out before the read with this number.
 fn lines_before(alloc: Global, turns: &[(&str, &str)], reads: usize) -> Result<String, Fail> {
@@ -801,6 +760,37 @@ const STOPPED_FIRST: &[(&str, &str, &str)] = &[
 fn a_stop_before_any_event_reads_nothing(rt: HostRuntime) -> Result<(), Fail> {
     for (line, text, note) in STOPPED_FIRST {
         assert!(rt; reads_nothing(rt.alloc(), line, text, note)?, "{text}");
+    }
+    Ok(())
+}
+
+// What the rows of each table show, on both machines.
+const TABLES: &[(&str, &[Row])] = &[
+    ("programs answer events", EVENT_BY_EVENT),
+    ("programs run over feeds", FEEDS),
+    ("budgets are renewed", BUDGETS),
+    ("inputs end early or wrongly", ENDS),
+    ("texts are refused", REFUSALS),
+];
+
+#[test]
+fn rows_hold(rt: HostRuntime) -> Result<(), Fail> {
+    for (name, rows) in TABLES {
+        assert_eq!(rt; first_wrong(rt.alloc(), rows, false)?, None, "{name}");
+    }
+    Ok(())
+}
+
+// The same of programs that make many calls.
+const DEEP_TABLES: &[(&str, &[Row])] = &[
+    ("many calls at one level are one event", MANY_CALLS),
+    ("a nest has a thousand levels", NESTS),
+];
+
+#[test]
+fn rows_with_many_calls_hold(rt: HostRuntime) -> Result<(), Fail> {
+    for (name, rows) in DEEP_TABLES {
+        assert_eq!(rt; first_wrong(rt.alloc(), rows, true)?, None, "{name}");
     }
     Ok(())
 }

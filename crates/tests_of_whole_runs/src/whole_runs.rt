@@ -113,12 +113,6 @@ const RUNS: &[Row] = &[
     },
 ];
 
-#[test]
-fn programs_run(rt: HostRuntime) -> Result<(), Fail> {
-    assert_eq!(rt; first_wrong(rt.alloc(), RUNS)?, None);
-    Ok(())
-}
-
 const REFUSED: Row = Row { status: 4, ..ROW };
 
 const REFUSALS: &[Row] = &[
@@ -165,12 +159,6 @@ const REFUSALS: &[Row] = &[
     },
 ];
 
-#[test]
-fn inputs_are_refused(rt: HostRuntime) -> Result<(), Fail> {
-    assert_eq!(rt; first_wrong(rt.alloc(), REFUSALS)?, None);
-    Ok(())
-}
-
 const NONE: Row = Row { output: b"", ..ROW };
 
 const USAGE: Row = Row {
@@ -210,12 +198,6 @@ const FAULTS: &[Row] = &[
         ..NONE
     },
 ];
-
-#[test]
-fn faults_are_told(rt: HostRuntime) -> Result<(), Fail> {
-    assert_eq!(rt; first_wrong(rt.alloc(), FAULTS)?, None);
-    Ok(())
-}
 
 // A run with calls that fail, by their numbers from 0, and the note and the status of that.
 #[derive(Clone, Copy)]
@@ -403,12 +385,6 @@ const LONG_FRAMES: &[Row] = &[
     },
 ];
 
-#[test]
-fn version_two_is_written(rt: HostRuntime) -> Result<(), Fail> {
-    assert_eq!(rt; first_wrong(rt.alloc(), LONG_FRAMES)?, None);
-    Ok(())
-}
-
 const LINES: &[Row] = &[
     Row {
         words: "text --frames",
@@ -439,12 +415,6 @@ const LINES: &[Row] = &[
     },
 ];
 
-#[test]
-fn lines_become_frames(rt: HostRuntime) -> Result<(), Fail> {
-    assert_eq!(rt; first_wrong(rt.alloc(), LINES)?, None);
-    Ok(())
-}
-
 const TWO_LINES: Row = Row {
     words: "text",
     input: b"DEV1\0\x15\x01\x03\x11\0\0\0\0\0\0\0\x03",
@@ -463,12 +433,6 @@ const FRAMES: &[Row] = &[
         ..ROW
     },
 ];
-
-#[test]
-fn frames_become_lines(rt: HostRuntime) -> Result<(), Fail> {
-    assert_eq!(rt; first_wrong(rt.alloc(), FRAMES)?, None);
-    Ok(())
-}
 
 const FINE: Row = Row {
     words: "check program",
@@ -521,18 +485,6 @@ const PRINTS: &[Row] = &[
     },
 ];
 
-#[test]
-fn texts_are_printed(rt: HostRuntime) -> Result<(), Fail> {
-    assert_eq!(rt; first_wrong(rt.alloc(), PRINTS)?, None);
-    Ok(())
-}
-
-#[test]
-fn texts_are_checked(rt: HostRuntime) -> Result<(), Fail> {
-    assert_eq!(rt; first_wrong(rt.alloc(), CHECKS)?, None);
-    Ok(())
-}
-
 const DOUBLED: Row = Row {
     words: "eval program",
     text: DOUBLE,
@@ -569,12 +521,6 @@ const MEANINGS: &[Row] = &[
         ..DOUBLED
     },
 ];
-
-#[test]
-fn meanings_are_written(rt: HostRuntime) -> Result<(), Fail> {
-    assert_eq!(rt; first_wrong(rt.alloc(), MEANINGS)?, None);
-    Ok(())
-}
 
 const WIDE: Row = Row {
     words: "eval program --v2",
@@ -621,8 +567,24 @@ const WIDE_OUTPUTS: &[Row] = &[
     },
 ];
 
+// What the rows of each table show.
+const TABLES: &[(&str, &[Row])] = &[
+    ("programs run", RUNS),
+    ("inputs are refused", REFUSALS),
+    ("faults are told", FAULTS),
+    ("version two is written", LONG_FRAMES),
+    ("lines become frames", LINES),
+    ("frames become lines", FRAMES),
+    ("texts are checked", CHECKS),
+    ("texts are printed", PRINTS),
+    ("meanings are written", MEANINGS),
+    ("wide outputs want long frames", WIDE_OUTPUTS),
+];
+
 #[test]
-fn wide_outputs_want_long_frames(rt: HostRuntime) -> Result<(), Fail> {
-    assert_eq!(rt; first_wrong(rt.alloc(), WIDE_OUTPUTS)?, None);
+fn rows_are_answered(rt: HostRuntime) -> Result<(), Fail> {
+    for (name, rows) in TABLES {
+        assert_eq!(rt; first_wrong(rt.alloc(), rows)?, None, "{name}");
+    }
     Ok(())
 }
