@@ -162,11 +162,11 @@ fn large_program(alloc: Global, functions: u32) -> Result<String, Fail> {
 }
 
 // Whether such a program is answered so.
-fn is_large<'x>(
+fn is_large(
     alloc: Global,
     functions: u32,
-    output: &'x str,
-    note: &'x str,
+    output: &'static str,
+    note: &'static str,
     status: u8,
 ) -> Result<bool, Fail> {
     let text = large_program(alloc, functions)?;
