@@ -161,41 +161,32 @@ fn large_program(alloc: Global, functions: u32) -> Result<String, Fail> {
     Ok(text)
 }
 
-// Whether such a program is answered so.
-fn is_large<'x>(
-    alloc: Global,
-    functions: u32,
-    output: &'x str,
-    note: &'x str,
-    status: u8,
-) -> Result<bool, Fail> {
+// Whether a program of so many functions is answered so.
+fn is_large(alloc: Global, functions: u32, row: &Row) -> Result<bool, Fail> {
     let text = large_program(alloc, functions)?;
-    let row = Row {
+    let large = Row {
         text: text.as_str(),
-        output,
-        note,
-        status,
-        ..BOUNDED
+        ..*row
     };
-    let answered = answers(alloc, &row);
+    let answered = answers(alloc, &large);
     drop(text);
     answered
 }
 
-// How many functions a program has, and what is told of it.
-const LARGE: &[(u32, &str, &str, u8)] = &[
-    (18, "bound 100000000000000000\n", "", 0),
-    (19, "", "delta: no bound: Large at 0\n", 12),
-];
+const BELOW: Row = Row {
+    output: "bound 100000000000000000\n",
+    ..BOUNDED
+};
+
+const ABOVE: Row = Row {
+    note: "delta: no bound: Large at 0\n",
+    ..UNBOUNDED
+};
 
 #[test]
 fn bound_stays_below_its_limit(rt: HostRuntime) -> Result<(), Fail> {
-    for (functions, output, note, status) in LARGE {
-        assert!(rt;
-            is_large(rt.alloc(), *functions, output, note, *status)?,
-            "{functions}"
-        );
-    }
+    assert!(rt; is_large(rt.alloc(), 18, &BELOW)?);
+    assert!(rt; is_large(rt.alloc(), 19, &ABOVE)?);
     Ok(())
 }
 
