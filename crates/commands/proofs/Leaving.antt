@@ -42,8 +42,8 @@ pub kept_as : {M : Type 0} (seen : M → MachineView) (stands : M → List Strea
     (runner : Runner M) (machine : M) → Runs runner.session machine → (k : KeptTree) (places : List ℕ)
     → ((word : List StreamEvent) → stands machine word → (seen machine).events ≤ 2 ^ 41 → IsKept (seen machine).program (input_of (seen machine).program word) k)
     → ((word : List StreamEvent) → stands machine word → k.out ≡ output_left (seen machine).program (input_of (seen machine).program word))
-    → (holds : KeptTree → List ℕ → Type 0) → holds k (kept_bytes k places) → OfEachProgram seen stands runner (λ origin word. KeptAs origin word holds)
-kept_as {M} seen stands after runner machine runs k places kept output holds it P c word s of few =
+    → k.events ≡ (seen machine).events → (holds : KeptTree → List ℕ → Type 0) → holds k (kept_bytes k places) → OfEachProgram seen stands runner (λ origin word. KeptAs origin word holds)
+kept_as {M} seen stands after runner machine runs k places kept output events holds it P c word s of few =
     let same : (seen machine).program ≡ c = of machine runs in
     let both : Opened machine ≡ Opened s.standing.machine = sym runs ∙ s.standing.is_open in
     let one : machine ≡ s.standing.machine = cc in
@@ -54,6 +54,7 @@ kept_as {M} seen stands after runner machine runs k places kept output holds it 
       record {
         kept = subst (λ (d : CoreProgram). IsKept d (input_of d word) k) same (kept word state (omega (arith, count, few)));
         output = subst (λ (d : CoreProgram). k.out ≡ output_left d (input_of d word)) same (output word state);
+        count = events ∙ count;
       },
       it,
     )
@@ -85,6 +86,7 @@ module _ {M : Type 0} (seen : M → MachineView) (since : M → KeptTree → Lis
         record {
           kept = subst (λ (d : CoreProgram). IsKeptSince d k (input_since d k word) l) same (kept k word state (omega (arith, events, few)));
           output = subst (λ (d : CoreProgram). l.out ≡ output_since d k (input_since d k word)) same (output k word state);
+          count = events ∙ (stands woken.machine k word state).is_count;
         },
         it,
       )

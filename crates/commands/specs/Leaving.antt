@@ -44,15 +44,17 @@ pub data Origin : Type 0 where
   from_kept : CoreProgram → KeptTree → Origin
 
 -- what is to be kept of a program after a word: a typed state that goes on just as the program, whose output's type is
--- what is left of the program's
+-- what is left of the program's, and whose number of events is that of the word
 pub record IsKeptOf (c : CoreProgram) (word : List StreamEvent) (k : KeptTree) : Type 0 where
   pub kept : IsKept c (input_of c word) k
   pub output : k.out ≡ output_left c (input_of c word)
+  pub count : k.events ≡ length word
 
--- and of a kept state after the word of what came since
+-- and of a kept state after the word of what came since, with the events that had come before it
 pub record IsKeptAgain (c : CoreProgram) (k : KeptTree) (word : List StreamEvent) (l : KeptTree) : Type 0 where
   pub kept : IsKeptSince c k (input_since c k word) l
   pub output : l.out ≡ output_since c k (input_since c k word)
+  pub count : l.events ≡ k.events + length word
 
 -- of either
 abbrev pub IsKeptFrom : Origin → List StreamEvent → KeptTree → Type 0

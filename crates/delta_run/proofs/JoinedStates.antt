@@ -1,5 +1,5 @@
 -- What is left of a program on an input, and what is due since, are on both inputs what the program leaves and what is due.
-use Rattle.std.proofs.Common.{◌≡◌, ◌∙◌, ◌≤◌, ℕ, List, [], ◌∷◌, ◌++◌, Option, Some, None, length, ap, ap₂, sym, refl, subst, arith, append_assoc, append-nil}
+use Rattle.std.proofs.Common.{◌≡◌, ◌∙◌, ◌≤◌, ℕ, List, [], ◌∷◌, ◌++◌, Option, Some, None, length, ap, ap₂, sym, refl, subst, arith, append_assoc, append-nil, length-append}
 use Rattle.stream_type.specs.StreamType.{StreamType}
 use Rattle.stream_prefix.specs.StreamPrefix.{StreamPrefix, join}
 use Rattle.stream_prefix.proofs.Derivations.{Derives, is_prefix}
@@ -269,6 +269,7 @@ module _ {text : List ℕ} {v : Version} {word : List StreamEvent} {bytes : List
       record {
         kept = subst (λ (p : StreamPrefix). IsKept its_core p l) (sym joined) through.0;
         output = subst (λ (p : StreamPrefix). l.out ≡ output_left its_core p) (sym joined) through.1;
+        count = omega (arith, again.count, on.left.kept.count, length-append word more);
       }
 
   -- so what is left again is left of the text after both

@@ -18,8 +18,9 @@ pub record Feeds (file schedule : List ℕ) (names : List (List ℕ)) (budget : 
   pub unread : after.left ≡ before.left
   -- where the text was refused, or a file couldn't be read, nothing was read or written, whatever the shelf tells
   pub unrun : IsUnrun end → IsUntouched before.log after.log before.left after.left
-  -- the end is shown by the bytes that were written: where it is done the text of what the program gives on the whole of
-  -- the tables, in which the schedule doesn't occur, a front of it where memory ran out or a write failed, and else nothing
+  -- the end is shown by the bytes that were written, by writes of one text alone: where it is done that of what the program
+  -- gives on the whole of the tables, in which the schedule doesn't occur, a front of it where memory ran out or a write
+  -- failed, and else nothing
   pub ends : OfFile before.files file (λ text. OfTables before.files names (λ tables. Adds before.log after.log (Told (Tells text schedule tables budget) end)))
   -- tables that the program takes, at none of whose events it is stopped, with no fault counted: done with that text
   -- written, or want of memory

@@ -38,7 +38,7 @@ abbrev pub SavesMoves : List ℕ → ℕ → Version → End → List Move → T
 SavesMoves text budget v end moves = (ran : End) × IsBehind end ran × RunsMoves text budget v ran moves
 
 -- the bytes are those of what is to be kept of the text's program after all events of this input: a state that is typed
--- for it, and goes on just as it does
+-- for it, goes on just as it does, and has the number of these events
 pub record IsStateAfter (text : List ℕ) (v : Version) (input bytes : List ℕ) : Type 0 where
   pub program : ProgramTree
   pub core : CoreProgram

@@ -42,7 +42,8 @@ abbrev pub SavesAgainMoves : List ℕ → List ℕ → ℕ → Version → End �
 SavesAgainMoves text old budget v end moves = (ran : End) × IsBehind end ran × ResumesMoves text old budget v ran moves
 
 -- the old bytes are those of a typed state of the text's program, and the bytes those of what is to be kept of that state
--- after all events of this input: a state that is typed for the program too, and goes on just as the old one does
+-- after all events of this input: a state that is typed for the program too, goes on just as the old one does, and has the
+-- number of the events that came before the old one and since
 pub record IsStateAgain (text old : List ℕ) (v : Version) (input bytes : List ℕ) : Type 0 where
   pub program : ProgramTree
   pub core : CoreProgram

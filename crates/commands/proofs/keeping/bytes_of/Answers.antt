@@ -9,10 +9,10 @@ pub returns-in-Ok-clause-bytes : goal.returns-in-Ok-clause-bytes
 returns-in-Ok-clause-bytes g c =
     IfOk-weaker c.spelled.result _ _
     (λ v is. kept_as g.M.Machine.seen g.M.Machine.stands g.met.M.Machine.stands_after c.args.runner.now c.in-Some.machine.now c.in-Some.ensures.opened (kept_of c.in-Ok.k)
-    (places_kept c.in-Ok.k) c.in-Ok.ensures.kept c.in-Ok.ensures.output (AreIts v.items) is)
+    (places_kept c.in-Ok.k) c.in-Ok.ensures.kept c.in-Ok.ensures.output c.in-Ok.ensures.events (AreIts v.items) is)
     c.spelled.ensures.its
 
 pub returns-in-Ok-clause-large : goal.returns-in-Ok-clause-large
 returns-in-Ok-clause-large g c is =
     kept_as g.M.Machine.seen g.M.Machine.stands g.met.M.Machine.stands_after c.args.runner.now c.in-Some.machine.now c.in-Some.ensures.opened (kept_of c.in-Ok.k)
-    (places_kept c.in-Ok.k) c.in-Ok.ensures.kept c.in-Ok.ensures.output AreTooMany (c.spelled.ensures.many is)
+    (places_kept c.in-Ok.k) c.in-Ok.ensures.kept c.in-Ok.ensures.output c.in-Ok.ensures.events AreTooMany (c.spelled.ensures.many is)
